@@ -1,0 +1,53 @@
+-- The table of examples holds of the rules, and the cycle that document 01 prints for P2 is one. Both by computation. Assumes nothing.
+use mathlib.Core.Path.{_≡_, refl}
+use mathlib.Core.Bool.{true, false}
+use mathlib.Core.List.{[], _∷_, map}
+use Prim.Native.Nat.{ℕ, zero, suc, _≤_, _<_}
+use native.Mathlib.Omega.{arith}
+use Rattle.rules.specs.Record.{isMalformed}
+use Rattle.rules.specs.Decision.{cyclic, reaches}
+use Rattle.rules.specs.Verdict.{refusal}
+use Rattle.rules.specs.HeldLocks.{releaseNewest}
+use Rattle.rules.specs.Graph.{EN, emptyGraph, lock, dependency}
+use Rattle.rules.specs.Cycle.{Cycle, entryAt}
+use Rattle.rules.specs.Run.{start, answers, run, graphAt}
+use Rattle.rules.specs.Examples.{E, r, R, heldLock, Drawing, drawing, drawings, Example, p2Cycle, table, example, p2, p6, clean, ends, fault-at, takes, releases, hardOn, hardOff, softOn, softOff, enterSoft, exitSoft, enterHard, exitHard, says}
+
+pub table-holds : map (λ (e : Example). answers 8 start (e .log)) table ≡ map (λ (e : Example). e .given) table
+unfolding table example p2 p6 clean ends fault-at takes releases hardOn hardOff softOn softOff enterSoft exitSoft enterHard exitHard says isMalformed refusal dependency cyclic
+table-holds = refl
+
+of-two : (P : ℕ → Type 0) → P 0 → P 1 → (i : ℕ) → i < 2 → P i
+of-two P a b zero l = a
+of-two P a b (suc zero) l = b
+of-two P a b (suc (suc i)) l = absurd (omega arith)
+
+pub p2-cycle : Cycle 8 (graphAt 8 emptyGraph p2 5) p2Cycle
+unfolding p2 takes releases says isMalformed refusal dependency cyclic
+p2-cycle =
+    record {
+      not-empty = omega arith;
+      at-most = omega arith;
+      in-range = of-two _ (omega arith) (omega arith);
+      drawn = of-two _ refl refl;
+      strong = of-two _ (record { strong = refl }) (record { strong = refl });
+      once = λ i j l m q.
+          let at-0 : i ≡ 0 = omega arith in
+          let at-1 : j ≡ 1 = omega arith in
+          let z : _≡_ {A = ℕ} 1 2 = rw (at-0, at-1) at q in
+          omega arith;
+      lowest-first = of-two _ (omega arith) (omega arith);
+    }
+
+-- Two rules that show in no answer from opening: no dependency crosses frames, and a release takes the newest.
+pub draws : map (λ (e : Drawing). run 8 start (e .log) .graph .locks (e .from) (e .to) EN) drawings ≡ map (λ (e : Drawing). e .drawn) drawings
+unfolding drawings drawing takes enterHard says isMalformed refusal dependency cyclic
+draws = refl
+
+pub newest-released : releaseNewest 0 (heldLock 0 r ∷ heldLock 1 E ∷ heldLock 0 R ∷ []) ≡ heldLock 0 r ∷ heldLock 1 E ∷ []
+newest-released = refl
+
+-- The question is not the fault test: after P6, which is clean, class 0 reaches itself.
+pub p6-asked : map (reaches 8 (graphAt 8 emptyGraph p6 1) 0) (0 ∷ 1 ∷ []) ≡ true ∷ false ∷ []
+unfolding p6 takes says isMalformed refusal dependency cyclic reaches
+p6-asked = refl

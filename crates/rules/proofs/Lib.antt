@@ -1,0 +1,9 @@
+pub mod Booleans
+pub mod Closure
+pub mod Decided
+pub mod Monotone
+pub mod Steps
+pub mod MoreEvidence
+pub mod Balanced
+pub mod Cycles
+pub mod Examples

@@ -1,0 +1,203 @@
+-- Demand 3: more evidence never clears a fault. While the second run is open, the named cores are equal in both runs and the first run's graph
+-- lies within the second's; once it is closed, "a fault at or before" is all that is claimed. Assumes nothing.
+use mathlib.Core.Path.{_≡_, refl, sym, _∙_, ap, subst}
+use mathlib.Core.Bool.{Bool, true, false, cond, false≢true}
+use mathlib.Core.List.{List, [], _∷_, List·Memᴰ, List·Memᴰ·head, List·Memᴰ·tail}
+use mathlib.Core.Option.{Option, none, some}
+use mathlib.Core.Logic.{_⊎_, inl, inr}
+use Prim.Native.Nat.{ℕ, zero, suc, _≤_, _<_, zero-le, suc-le-suc}
+use native.Mathlib.Nat.{le-of-suc-le-suc, not-suc-le-zero, le-refl}
+use native.Mathlib.Omega.{arith}
+use lib.Dec.{eqb}
+use lib.ListN.{length, getD}
+use borrow.Author.Tests.{ne-eqb}
+use Rattle.rules.specs.Record.{Bytes, coreOf, eventOf, isMalformed, Names}
+use Rattle.rules.specs.HeldLocks.{Core, afterEvent}
+use Rattle.rules.specs.Marks.{marksOf}
+use Rattle.rules.specs.Graph.{Graph, drawnBy}
+use Rattle.rules.specs.StrongPath.{ClosedStrongPath}
+use Rattle.rules.specs.Decision.{cyclic}
+use Rattle.rules.specs.Verdict.{Refusal, malformed, number, Situation, refusal}
+use Rattle.rules.specs.Run.{State, startingFrom, situation, acceptOn, accept, Outcome, judged, settled, step, answers, graphAt}
+use Rattle.rules.specs.TwoRuns.{NamedIn, Foreign, Interleaved, done, keep, insert, place, FaultBy, MoreEvidence}
+use Rattle.rules.proofs.Decided.{cyclic-sound}
+use Rattle.rules.proofs.Monotone.{Within, within-self, within-more, within-both, cyclic-mono}
+use Rattle.rules.proofs.Steps.{closed-answers, closed-no-fault, shut-after, fault-cycle}
+
+names-its-core : (r : Bytes) → isMalformed r ≡ false → Names r (coreOf r)
+names-its-core r h = record { named = rw h }
+
+module _ (K : ℕ) (whole : List Bytes) where
+  record Along (s₁ s₂ : State) : Type 0 where
+    open₁ : s₁ .is-closed ≡ false
+    open₂ : s₂ .is-closed ≡ false
+    agree : (i : ℕ) → NamedIn whole i → s₁ .cores i ≡ s₂ .cores i
+    within : Within (s₁ .graph) (s₂ .graph)
+
+  -- ---- A record of the first list, in both runs.
+
+  data Together (o₁ o₂ : Outcome) : Type 0 where
+    alike : number (o₂ .answer) ≡ number (o₁ .answer) → Along (o₁ .state) (o₂ .state) → Together o₁ o₂
+    faulted : number (o₂ .answer) ≡ 1 → o₂ .state .is-closed ≡ true → (number (o₁ .answer) ≡ 0) ⊎ (number (o₁ .answer) ≡ 1) → Together o₁ o₂
+
+  both-judged : {t₁ t₂ : State} → Along t₁ t₂ → (b₁ b₂ : Bool) → (b₁ ≡ true → b₂ ≡ true) → Together (judged b₁ t₁) (judged b₂ t₂)
+  both-judged a false false m = alike refl a
+  both-judged a false true m = faulted refl refl (inl refl)
+  both-judged a true true m = faulted refl refl (inr refl)
+  both-judged a true false m = absurd (false≢true (m refl))
+
+  both-accept : (core : Core) (r : Bytes) {s₁ s₂ : State} → Along s₁ s₂ → Along (acceptOn core s₁ r) (acceptOn core s₂ r)
+  both-accept core r a =
+      record {
+        open₁ = a .open₁;
+        open₂ = a .open₂;
+        agree = λ i n. ap (cond (eqb i (coreOf r)) (afterEvent (eventOf r) core)) (a .agree i n);
+        within = within-both _ _ (a .within);
+      }
+
+  both-settled : (r : Bytes) {s₁ s₂ : State} → Along s₁ s₂ → s₁ .cores (coreOf r) ≡ s₂ .cores (coreOf r) → (x : Option Refusal)
+      → Together (settled K s₁ r x) (settled K s₂ r x)
+  both-settled r a q (some x) = alike refl a
+  both-settled r {s₁} {s₂} a q none =
+      let t : Along (accept s₁ r) (accept s₂ r) =
+      subst (λ (c : Core). Along (accept s₁ r) (acceptOn c s₂ r)) q (both-accept (s₁ .cores (coreOf r)) r a) in
+      both-judged t (cyclic K (accept s₁ r .graph)) (cyclic K (accept s₂ r .graph)) (cyclic-mono (t .within) K)
+
+  -- A malformed record is refused with 3 whatever the cores are; any other names its core, which is the same in both runs.
+  malformed-refused : (s : State) (r : Bytes) → s .is-closed ≡ false → isMalformed r ≡ true → refusal (situation K s r) ≡ some malformed
+  unfolding refusal
+  malformed-refused s r o h = rw (o, h)
+
+  both-step : (r : Bytes) {s₁ s₂ : State} → Along s₁ s₂ → List·Memᴰ r whole → Together (step K s₁ r) (step K s₂ r)
+  both-step r {s₁} {s₂} a m = by (isMalformed r) refl
+    where
+      by : (b : Bool) → isMalformed r ≡ b → Together (step K s₁ r) (step K s₂ r)
+      by true h = rw (malformed-refused s₁ r (a .open₁) h, malformed-refused s₂ r (a .open₂) h) (alike refl a)
+      by false h =
+          let q = a .agree (coreOf r) (record { by = r; member = m; names = names-its-core r h }) in
+          let e : refusal (situation K s₂ r) ≡ refusal (situation K s₁ r) = rw (q, a .open₁, a .open₂) in
+          rw e (both-settled r a q (refusal (situation K s₁ r)))
+
+  -- ---- A foreign record, in the second run only.
+
+  data Aside (s₁ : State) (o₂ : Outcome) : Type 0 where
+    apart : Along s₁ (o₂ .state) → Aside s₁ o₂
+    faulted : number (o₂ .answer) ≡ 1 → o₂ .state .is-closed ≡ true → Aside s₁ o₂
+
+  aside-judged : {s₁ t₂ : State} → Along s₁ t₂ → (b₂ : Bool) → Aside s₁ (judged b₂ t₂)
+  aside-judged a false = apart a
+  aside-judged a true = faulted refl refl
+
+  aside-accept : (r : Bytes) {s₁ s₂ : State} → Along s₁ s₂ → (NamedIn whole (coreOf r) → ⊥) → Along s₁ (accept s₂ r)
+  aside-accept r {s₁} {s₂} a out =
+      record {
+        open₁ = a .open₁;
+        open₂ = a .open₂;
+        agree = λ i n. rw (ne-eqb i (coreOf r) (λ q. out (rw q at n))) (a .agree i n);
+        within = within-more _ _ (a .within);
+      }
+
+  aside-settled : (r : Bytes) {s₁ s₂ : State} → Along s₁ s₂ → (NamedIn whole (coreOf r) → ⊥) → (x : Option Refusal) → Aside s₁ (settled K s₂ r x)
+  aside-settled r a out (some x) = apart a
+  aside-settled r {s₂} a out none = aside-judged (aside-accept r a out) (cyclic K (accept s₂ r .graph))
+
+  aside-step : (r : Bytes) {s₁ s₂ : State} → Along s₁ s₂ → Foreign whole r → Aside s₁ (step K s₂ r)
+  aside-step r {s₁} {s₂} a f = by (isMalformed r) refl
+    where
+      by : (b : Bool) → isMalformed r ≡ b → Aside s₁ (step K s₂ r)
+      by true h = rw (malformed-refused s₂ r (a .open₂) h) (apart a)
+      by false h =
+          aside-settled r a (f .apart (coreOf r) (names-its-core r h)) (refusal (situation K s₂ r))
+
+  -- ---- The lists.
+
+  record Pair {xs ys : List Bytes} (e : Interleaved whole xs ys) (given₁ given₂ : List ℕ) : Type 0 where
+    same : (i : ℕ) → i < length xs → (getD given₂ (place e i) 0 ≡ getD given₁ i 0) ⊎ FaultBy given₂ (place e i)
+    old : (i : ℕ) → i < length xs → getD given₂ (place e i) 0 ≡ 1 → (getD given₁ i 0 ≡ 0) ⊎ (getD given₁ i 0 ≡ 1)
+
+  later : {A : Type 0} {given : List ℕ} {j : ℕ} (n : ℕ) → A ⊎ FaultBy given j → A ⊎ FaultBy (n ∷ given) (suc j)
+  later n (inl x) = inl x
+  later n (inr f) = inr (record { at = suc (f .at); by = suc-le-suc (f .by); is-fault = f .is-fault })
+
+  at-once : (n : ℕ) (given : List ℕ) (j : ℕ) → n ≡ 1 → FaultBy (n ∷ given) j
+  at-once n given j h = record { at = 0; by = zero-le; is-fault = h }
+
+  keep-pair : {xs ys : List Bytes} {e : Interleaved whole xs ys} (r : Bytes) {o₁ o₂ : Outcome} → Together o₁ o₂
+      → (Along (o₁ .state) (o₂ .state) → Pair e (answers K (o₁ .state) xs) (answers K (o₂ .state) ys))
+      → Pair (keep {r = r} e) (number (o₁ .answer) ∷ answers K (o₁ .state) xs) (number (o₂ .answer) ∷ answers K (o₂ .state) ys)
+  keep-pair r {o₁} {o₂} (alike q a) rest =
+      let p = rest a in
+      record {
+        same = λ i. elim i [ zero ↦ λ l. inl q | suc i ↦ λ l. later (number (o₂ .answer)) (p .same i (le-of-suc-le-suc l)) ];
+        old = λ i. elim i [ zero ↦ λ l h. inr (sym q ∙ h) | suc i ↦ λ l h. p .old i (le-of-suc-le-suc l) h ];
+      }
+  keep-pair {ys} {e} r {o₁} {o₂} (faulted h c z) rest =
+      record {
+        same = λ i l. inr (at-once (number (o₂ .answer)) (answers K (o₂ .state) ys) (place (keep {r = r} e) i) h);
+        old = λ i. elim i [ zero ↦ λ l k. z | suc i ↦ λ l k. absurd (closed-no-fault K (o₂ .state) ys (place e i) c k) ];
+      }
+
+  insert-pair : {xs ys : List Bytes} {e : Interleaved whole xs ys} {r : Bytes} (f : Foreign whole r) {s₁ : State} {o₂ : Outcome} → Aside s₁ o₂
+      → (Along s₁ (o₂ .state) → Pair e (answers K s₁ xs) (answers K (o₂ .state) ys))
+      → Pair (insert {r = r} f e) (answers K s₁ xs) (number (o₂ .answer) ∷ answers K (o₂ .state) ys)
+  insert-pair f {o₂} (apart a) rest =
+      let p = rest a in
+      record { same = λ i l. later (number (o₂ .answer)) (p .same i l); old = p .old }
+  insert-pair {ys} {e} f {o₂} (faulted h c) rest =
+      record {
+        same = λ i l. inr (at-once (number (o₂ .answer)) (answers K (o₂ .state) ys) (suc (place e i)) h);
+        old = λ i l k. absurd (closed-no-fault K (o₂ .state) ys (place e i) c k);
+      }
+
+  pairs : {xs ys : List Bytes} (e : Interleaved whole xs ys) → ((r : Bytes) → List·Memᴰ r xs → List·Memᴰ r whole) → (s₁ s₂ : State) → Along s₁ s₂
+      → Pair e (answers K s₁ xs) (answers K s₂ ys)
+  pairs done sub s₁ s₂ a = record { same = λ i l. absurd (not-suc-le-zero l); old = λ i l h. absurd (not-suc-le-zero l) }
+  pairs (keep {r} e) sub s₁ s₂ a =
+      keep-pair r (both-step r a (sub r (List·Memᴰ·head refl))) (pairs e (λ x m. sub x (List·Memᴰ·tail m)) (step K s₁ r .state) (step K s₂ r .state))
+  pairs (insert {r} f e) sub s₁ s₂ a = insert-pair f (aside-step r a f) (pairs e sub s₁ (step K s₂ r .state))
+
+fault-kept : {given : List ℕ} (n j : ℕ) → n ≡ 1 → (getD given j 0 ≡ n) ⊎ FaultBy given j → FaultBy given j
+fault-kept n j h (inl q) = record { at = j; by = le-refl j; is-fault = q ∙ h }
+fault-kept n j h (inr f) = f
+
+-- ---- What the statement's words come to.
+
+-- A malformed record names no core, so it may be put in anywhere.
+pub malformed-foreign : (rs : List Bytes) (r : Bytes) → isMalformed r ≡ true → Foreign rs r
+malformed-foreign rs r h =
+    record { apart = λ core n m. let q = n .named in let z : _≡_ {A = Option ℕ} none (some core) = rw h at q in let c : _≡_ {A = ℕ} 0 1 = cc in omega arith }
+
+-- `place` is where the first list's record stands: the same record, inside the second list, in the first list's order.
+pub place-same : {whole xs ys : List Bytes} (e : Interleaved whole xs ys) (i : ℕ) → i < length xs → getD ys (place e i) [] ≡ getD xs i []
+place-same done i l = refl
+place-same (keep e) zero l = refl
+place-same (keep e) (suc i) l = place-same e i (le-of-suc-le-suc l)
+place-same (insert f e) i l = place-same e i l
+
+pub place-inside : {whole xs ys : List Bytes} (e : Interleaved whole xs ys) (i : ℕ) → i < length xs → place e i < length ys
+place-inside done i l = l
+place-inside (keep e) zero l = suc-le-suc zero-le
+place-inside (keep e) (suc i) l = suc-le-suc (place-inside e i (le-of-suc-le-suc l))
+place-inside (insert f e) i l = suc-le-suc (place-inside e i l)
+
+pub place-order : {whole xs ys : List Bytes} (e : Interleaved whole xs ys) (i j : ℕ) → i < j → place e i < place e j
+place-order done i j l = l
+place-order (keep e) i zero l = absurd (not-suc-le-zero l)
+place-order (keep e) zero (suc j) l = suc-le-suc zero-le
+place-order (keep e) (suc i) (suc j) l = suc-le-suc (place-order e i j (le-of-suc-le-suc l))
+place-order (insert f e) i j l = suc-le-suc (place-order e i j l)
+
+-- Demand 3, from any starting graph.
+pub more-evidence : (K : ℕ) (g : Graph) {xs ys : List Bytes} (e : Interleaved xs xs ys)
+    → MoreEvidence K g e (answers K (startingFrom g) xs) (answers K (startingFrom g) ys)
+more-evidence K g {xs} {ys} e =
+    let s = startingFrom g in
+    let a : Along K xs s s = record { open₁ = refl; open₂ = refl; agree = λ i n. refl; within = within-self g } in
+    let p = pairs K xs e (λ r m. m) s s a in
+    record {
+      same = p .same;
+      true-fault = λ j h. cyclic-sound K (graphAt K g ys j) (fault-cycle K s ys j h);
+      old = p .old;
+      shut = shut-after K s ys;
+      sooner = λ i l h. fault-kept (getD (answers K s xs) i 0) (place e i) h (p .same i l);
+    }

@@ -1,0 +1,14 @@
+pub mod Limits
+pub mod Record
+pub mod Context
+pub mod HeldLocks
+pub mod Marks
+pub mod Graph
+pub mod StrongPath
+pub mod Decision
+pub mod Cycle
+pub mod Verdict
+pub mod Run
+pub mod TwoRuns
+pub mod Balance
+pub mod Examples

@@ -1,0 +1,22 @@
+-- The numbers of document 01 that are limits, each once.
+use Prim.Native.Nat.{ℕ}
+
+-- "There are 8 cores."
+abbrev pub coreCount : ℕ
+coreCount = 8
+
+-- "K is the number of classes, 1 to 64"
+abbrev pub maxClasses : ℕ
+maxClasses = 64
+
+-- Locks held at a time in one frame (002: "lock recursion must not be higher than 20").
+abbrev pub maxDepth : ℕ
+maxDepth = 20
+
+-- Record kinds are 0 to 9, of which 0 and 1 name a lock class and the others are interrupt events.
+abbrev pub kindCount : ℕ
+kindCount = 10
+
+-- Modes of an acquire are 0 to 2.
+abbrev pub modeCount : ℕ
+modeCount = 3

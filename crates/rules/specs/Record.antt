@@ -1,0 +1,64 @@
+-- Document 01, "A record": six bytes, the mark 4C 4B, core, kind, class, mode.
+use mathlib.Core.Path.{_≡_}
+use mathlib.Core.Bool.{Bool, true, false, not, _&&_, _||_}
+use mathlib.Core.List.{List}
+use mathlib.Core.Option.{Option, none, some}
+use Prim.Native.Nat.{ℕ, zero, suc}
+use lib.Dec.{leb, eqb}
+use lib.ListN.{length, getD}
+use Rattle.rules.specs.Limits.{coreCount, kindCount, modeCount}
+
+-- A record as it is handed over: any bytes, of any length.
+abbrev pub Bytes : Type 0
+Bytes = List ℕ
+
+abbrev pub coreOf : Bytes → ℕ
+coreOf r = getD r 2 0
+
+abbrev pub kindOf : Bytes → ℕ
+kindOf r = getD r 3 0
+
+abbrev pub classOf : Bytes → ℕ
+classOf r = getD r 4 0
+
+abbrev pub modeOf : Bytes → ℕ
+modeOf r = getD r 5 0
+
+-- What a record says of its core: an acquire ("take"), a release, or an interrupt event, numbered by its column in the next-state table
+-- (kind 2 is event 0).
+pub data Event : Type 0 where
+  acquire : (class mode : ℕ) → Event
+  release : (class : ℕ) → Event
+  interrupt : (event : ℕ) → Event
+
+abbrev pub eventBy : (kind class mode : ℕ) → Event
+eventBy zero c m = acquire c m
+eventBy (suc zero) c m = release c
+eventBy (suc (suc k)) c m = interrupt k
+
+abbrev pub eventOf : Bytes → Event
+eventOf r = eventBy (kindOf r) (classOf r) (modeOf r)
+
+-- "Mode is 0 for a release; class and mode are 0 for kinds 2 to 9."
+abbrev pub strayByte : (kind class mode : ℕ) → Bool
+strayByte zero c m = false
+strayByte (suc zero) c m = not (eqb m 0)
+strayByte (suc (suc k)) c m = not (eqb c 0 && eqb m 0)
+
+-- Refusal 3: "not six bytes, wrong mark, core over 7, kind over 9, mode over 2, or a byte that should be 0".
+unfoldable pub isMalformed : Bytes → Bool
+isMalformed r =
+    not (eqb (length r) 6)
+    || not (eqb (getD r 0 0) 0x4C && eqb (getD r 1 0) 0x4B)
+    || leb coreCount (coreOf r)
+    || leb kindCount (kindOf r)
+    || leb modeCount (modeOf r)
+    || strayByte (kindOf r) (classOf r) (modeOf r)
+
+-- "A record names its core if it meets none of the conditions of refusal 3; one that meets any names no core."
+abbrev pub namedIf : (malformed : Bool) → ℕ → Option ℕ
+namedIf true core = none
+namedIf false core = some core
+
+pub record Names (r : Bytes) (core : ℕ) : Type 0 where
+  pub named : namedIf (isMalformed r) (coreOf r) ≡ some core

@@ -1,0 +1,77 @@
+-- The validator ("judge") over the rules: one record, and a list of records.
+use mathlib.Core.Bool.{Bool, true, false, cond}
+use mathlib.Core.List.{List, [], _∷_}
+use mathlib.Core.Option.{Option, none, some}
+use Prim.Native.Nat.{ℕ, suc}
+use lib.Dec.{eqb}
+use lib.ListN.{take}
+use Rattle.rules.specs.Record.{Bytes, coreOf, eventOf}
+use Rattle.rules.specs.HeldLocks.{Core, freshCore, afterEvent}
+use Rattle.rules.specs.Marks.{marksOf}
+use Rattle.rules.specs.Graph.{Graph, emptyGraph, addTo, drawnBy}
+use Rattle.rules.specs.Decision.{cyclic}
+use Rattle.rules.specs.Verdict.{Refusal, Answer, clean, fault, refused, number, Situation, refusal}
+
+pub record State : Type 0 where
+  pub is-closed : Bool
+  pub cores : ℕ → Core
+  pub graph : Graph
+
+-- Every core fresh, over the graph with which the run starts.
+abbrev pub startingFrom : Graph → State
+startingFrom g = record { is-closed = false; cores = λ i. freshCore; graph = g }
+
+-- What opening gives: the empty graph.
+abbrev pub start : State
+start = startingFrom emptyGraph
+
+abbrev pub situation : ℕ → State → Bytes → Situation
+situation K s r =
+    record { is-unfit = false; is-closed = s .is-closed; classes = K; core = s .cores (coreOf r); bytes = r }
+
+-- What an accepted record does, where its core stands as `core`: it draws lock dependencies from the core as it stood and sets marks from
+-- the core as it then stands.
+abbrev pub acceptOn : Core → State → Bytes → State
+acceptOn core s r =
+    let after = afterEvent (eventOf r) core in
+    record {
+      is-closed = s .is-closed;
+      cores = λ i. cond (eqb i (coreOf r)) after (s .cores i);
+      graph = addTo (s .graph) (drawnBy (eventOf r) core) (marksOf after);
+    }
+
+abbrev pub accept : State → Bytes → State
+accept s r = acceptOn (s .cores (coreOf r)) s r
+
+abbrev pub close : State → State
+close s = record { is-closed = true; cores = s .cores; graph = s .graph }
+
+pub record Outcome : Type 0 where
+  pub answer : Answer
+  pub state : State
+
+-- "accepted, a closed strong path exists": the answer is a fault and the validator is closed.
+abbrev pub judged : Bool → State → Outcome
+judged true s = record { answer = fault; state = close s }
+judged false s = record { answer = clean; state = s }
+
+abbrev pub settled : ℕ → State → Bytes → Option Refusal → Outcome
+settled K s r (some x) = record { answer = refused x; state = s }
+settled K s r none = let t = accept s r in judged (cyclic K (t .graph)) t
+
+abbrev pub step : ℕ → State → Bytes → Outcome
+step K s r = settled K s r (refusal (situation K s r))
+
+-- The answers' numbers for a list of records, refused ones included, one record a call.
+abbrev pub answers : ℕ → State → List Bytes → List ℕ
+answers K s [] = []
+answers K s (r ∷ rs) = let o = step K s r in number (o .answer) ∷ answers K (o .state) rs
+
+-- The state that a list of records leaves.
+abbrev pub run : ℕ → State → List Bytes → State
+run K s [] = s
+run K s (r ∷ rs) = run K (step K s r .state) rs
+
+-- The dependency graph at record i (from 0) of a list: all that its records up to and including that one draw.
+abbrev pub graphAt : ℕ → Graph → List Bytes → ℕ → Graph
+graphAt K g rs i = run K (startingFrom g) (take (suc i) rs) .graph

@@ -1,0 +1,99 @@
+-- Document 01, "What the judge says": the refusals, each with its number and its condition, and their order.
+use mathlib.Core.Bool.{Bool, true, false, cond, not, _&&_}
+use mathlib.Core.List.{List, [], _∷_}
+use mathlib.Core.Option.{Option, none, some}
+use Prim.Native.Nat.{ℕ}
+use lib.Dec.{leb, eqb}
+use lib.ListN.{length}
+use Rattle.rules.specs.Limits.{maxDepth}
+use Rattle.rules.specs.Record.{Bytes, Event, acquire, release, interrupt, eventOf, isMalformed}
+use Rattle.rules.specs.Context.{nextState, leavesHandler, x}
+use Rattle.rules.specs.HeldLocks.{Core, current, isHeld, HeldLock}
+
+pub data Refusal : Type 0 where
+  unfit closed malformed noClass noTransition stillHeld notHeld tooDeep : Refusal
+
+-- What a step answers. Opening answers 0 or 2.
+pub data Answer : Type 0 where
+  clean fault : Answer
+  refused : Refusal → Answer
+
+abbrev pub refusalNumber : Refusal → ℕ
+refusalNumber unfit = 11
+refusalNumber closed = 10
+refusalNumber malformed = 3
+refusalNumber noClass = 4
+refusalNumber noTransition = 6
+refusalNumber stillHeld = 7
+refusalNumber notHeld = 5
+refusalNumber tooDeep = 8
+
+abbrev pub number : Answer → ℕ
+number clean = 0
+number fault = 1
+number (refused r) = refusalNumber r
+
+-- "Order: 11, 10, 3, 4, 6, 7, 5, 8."
+abbrev pub order : List Refusal
+order = unfit ∷ closed ∷ malformed ∷ noClass ∷ noTransition ∷ stillHeld ∷ notHeld ∷ tooDeep ∷ []
+
+-- What the conditions read: whether the buffers are unfit (a fact about bytes, and false of the rules alone), whether the validator is closed,
+-- K, the core as it stands, and the record.
+pub record Situation : Type 0 where
+  pub is-unfit : Bool
+  pub is-closed : Bool
+  pub classes : ℕ
+  pub core : Core
+  pub bytes : Bytes
+
+-- "take or release, class K or more"
+abbrev pub classMissing : ℕ → Event → Bool
+classMissing K (acquire c m) = leb K c
+classMissing K (release c) = leb K c
+classMissing K (interrupt e) = false
+
+-- "x in the table"
+abbrev pub transitionMissing : Core → Event → Bool
+transitionMissing core (acquire c m) = false
+transitionMissing core (release c) = false
+transitionMissing core (interrupt e) = eqb (nextState (core .state) e) x
+
+abbrev pub someLock : List HeldLock → Bool
+someLock [] = false
+someLock (h ∷ hs) = true
+
+-- "k7 or k9 allowed, but holds stand in the frame"
+abbrev pub leavesLocked : Core → Event → Bool
+leavesLocked core (acquire c m) = false
+leavesLocked core (release c) = false
+leavesLocked core (interrupt e) = leavesHandler e && not (eqb (nextState (core .state) e) x) && someLock (current core)
+
+-- "release, class not held in this frame"
+abbrev pub releaseMissing : Core → Event → Bool
+releaseMissing core (acquire c m) = false
+releaseMissing core (release c) = not (isHeld c (current core))
+releaseMissing core (interrupt e) = false
+
+-- "take, frame holds 20"
+abbrev pub frameFull : Core → Event → Bool
+frameFull core (acquire c m) = leb maxDepth (length (current core))
+frameFull core (release c) = false
+frameFull core (interrupt e) = false
+
+abbrev pub applies : Refusal → Situation → Bool
+applies unfit s = s .is-unfit
+applies closed s = s .is-closed
+applies malformed s = isMalformed (s .bytes)
+applies noClass s = classMissing (s .classes) (eventOf (s .bytes))
+applies noTransition s = transitionMissing (s .core) (eventOf (s .bytes))
+applies stillHeld s = leavesLocked (s .core) (eventOf (s .bytes))
+applies notHeld s = releaseMissing (s .core) (eventOf (s .bytes))
+applies tooDeep s = frameFull (s .core) (eventOf (s .bytes))
+
+-- The first of these that applies.
+abbrev pub firstThatApplies : List Refusal → Situation → Option Refusal
+firstThatApplies [] s = none
+firstThatApplies (r ∷ rs) s = cond (applies r s) (some r) (firstThatApplies rs s)
+
+unfoldable pub refusal : Situation → Option Refusal
+refusal s = firstThatApplies order s
