@@ -33,7 +33,7 @@ stepped K s r = by (refusal (situation K s r)) refl (cyclic K (accept s r .graph
     by none e false c = rw c (was-clean e c)
 
 -- The number of a refusal is neither 0 nor 1.
-refused-number : (x : Refusal) → 1 < refusalNumber x
+pub refused-number : (x : Refusal) → 1 < refusalNumber x
 refused-number unfit = omega arith
 refused-number closed = omega arith
 refused-number malformed = omega arith
@@ -57,7 +57,7 @@ pub faulted : (K : ℕ) (s : State) (r : Bytes) → number (step K s r .answer) 
 faulted K s r h = faulted-by (stepped K s r) h
 
 -- A closed validator refuses every record with 10 and stays as it is.
-closed-step : (K : ℕ) (s : State) (r : Bytes) → s .is-closed ≡ true → step K s r ≡ record { answer = refused closed; state = s }
+pub closed-step : (K : ℕ) (s : State) (r : Bytes) → s .is-closed ≡ true → step K s r ≡ record { answer = refused closed; state = s }
 unfolding refusal
 closed-step K s r h = rw h
 

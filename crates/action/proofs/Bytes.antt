@@ -1,0 +1,71 @@
+-- What valid cores say of the bytes. Assumes nothing.
+use mathlib.Core.Path.{_≡_, refl, sym, ap, _∙_, subst}
+use mathlib.Core.List.{List}
+use Prim.Native.Nat.{ℕ, _+_, _*_, _-_, _%_, _/_, _<_, _≤_}
+use native.Mathlib.Omega.{arith}
+use lib.ListN.{length, getD}
+use Rattle.rules.specs.Limits.{coreCount, maxClasses, maxDepth}
+use Rattle.rules.specs.Context.{CoreState, Frame, frameOf}
+use Rattle.rules.specs.HeldLocks.{HeldLock, Core, current}
+use Rattle.validity.specs.Valid.{ValidLock, ValidCore}
+use Rattle.layout.specs.Layout.{frameCount, framesPerCore, stateSize, frameNumber, classesOf, stateOf, depthOf, heldOf}
+use Rattle.layout.specs.Encoding.{StateBytes}
+use Rattle.context.proofs.Frames.{frame-less}
+use Rattle.update.specs.Update.{FrameBytes, SmallClasses, HeldIn, newestOf}
+use Rattle.update.proofs.Prefixes.{none, Lock, lock-at}
+use Rattle.update.proofs.Releases.{found-at, newest-is}
+use Rattle.update.proofs.Cores.{frame-bytes}
+use Rattle.action.specs.Action.{Cored}
+
+module _ {K : ℕ} (few : K ≤ maxClasses) (core : Core) (valid : ValidCore K core) where
+  pub small-classes : (f : Frame) → SmallClasses (core .held f)
+  small-classes f p d l = let h = valid .locks f p d l .class in omega arith
+
+-- What valid cores say of a core's bytes.
+module _ (state : List ℕ) (c : Cored state) (i : ℕ) (li : i < coreCount) where
+  pub state-less : stateOf state i < 9
+  state-less = let e = c .encodes .states i li in let v = c .valid i .states in omega arith
+
+  pub now-is : frameOf (stateOf state i) ≡ frameOf (c .cores i .state)
+  now-is = ap frameOf (c .encodes .states i li)
+
+  pub number-less : frameNumber i (frameOf (stateOf state i)) < frameCount
+  number-less = let l = frame-less (stateOf state i) state-less in omega arith
+
+  -- The current frame's bytes are its locks.
+  pub current-bytes : FrameBytes state (frameNumber i (frameOf (stateOf state i))) (current (c .cores i))
+  current-bytes =
+      subst (λ (f : Frame). FrameBytes state (frameNumber i f) (current (c .cores i))) (sym now-is)
+      (frame-bytes (c .encodes) i (frameOf (c .cores i .state)) li (frame-less (c .cores i .state) (let e = c .encodes .states i li in let v = c .valid i .states in omega arith)))
+
+  pub current-small : SmallClasses (current (c .cores i))
+  current-small = small-classes (c .few) (c .cores i) (c .valid i) (frameOf (c .cores i .state))
+
+  pub current-few : length (current (c .cores i)) ≤ maxDepth
+  current-few = c .valid i .depths (frameOf (c .cores i .state))
+
+  pub held-in : HeldIn state (frameNumber i (frameOf (stateOf state i))) (classesOf state)
+  held-in =
+      let n = frameNumber i (frameOf (stateOf state i)) in
+      let hs = current (c .cores i) in
+      let F = current-bytes in
+      let d = F .depth in
+      let few = current-few in
+      let at : (p : ℕ) → p < depthOf state n → Lock state n p (getD hs p none) = λ p l. lock-at state n hs F current-small p (omega arith) (omega arith) in
+      let ok : (p : ℕ) → p < depthOf state n → ValidLock (classesOf state) (getD hs p none) = λ p l. c .valid i .locks (frameOf (c .cores i .state)) p none (omega arith) in
+      record {
+        long = c .encodes .long;
+        frame = number-less;
+        depth = omega arith;
+        class = λ p l. rw (at p l .class) (ok p l .class);
+        mode = λ p l. rw (at p l .mode) (ok p l .mode);
+      }
+
+  -- A lock that was found stands in the frame.
+  pub newest-inside : (class : ℕ) → (newestOf state (frameNumber i (frameOf (stateOf state i))) class ≡ 0 → ⊥)
+      → newestOf state (frameNumber i (frameOf (stateOf state i))) class - 1 < depthOf state (frameNumber i (frameOf (stateOf state i)))
+  newest-inside class ne =
+      let n = frameNumber i (frameOf (stateOf state i)) in
+      let q = found-at (newest-is state n (current (c .cores i)) current-bytes current-small current-few class) ne .inside in
+      let d = current-bytes .depth in
+      omega arith

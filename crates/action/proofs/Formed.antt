@@ -1,0 +1,31 @@
+-- A record that refusal 3 passes, field by field. Assumes nothing.
+use mathlib.Core.Path.{_≡_, refl}
+use mathlib.Core.Bool.{Bool, true, false, not, _&&_, _||_, true≢false}
+use mathlib.Core.List.{List}
+use Prim.Native.Nat.{ℕ}
+use lib.Dec.{leb, eqb}
+use lib.ListN.{length, getD}
+use borrow.Author.Tests.{leb-false, eqb-true, not-false}
+use Rattle.rules.specs.Limits.{coreCount, kindCount, modeCount}
+use Rattle.rules.specs.Record.{isMalformed, coreOf, kindOf, classOf, modeOf, strayByte}
+use Rattle.action.specs.Action.{WellFormed}
+
+or-none : (a b : Bool) → (a || b) ≡ false → (a ≡ false) × (b ≡ false)
+or-none true b h = absurd (true≢false h)
+or-none false b h = (refl, h)
+
+pub well-formed : (bytes : List ℕ) → isMalformed bytes ≡ false → WellFormed bytes
+unfolding isMalformed
+well-formed bytes h =
+    let stray = or-none _ (strayByte (kindOf bytes) (classOf bytes) (modeOf bytes)) h in
+    let mode = or-none _ (leb modeCount (modeOf bytes)) (stray .0) in
+    let kind = or-none _ (leb kindCount (kindOf bytes)) (mode .0) in
+    let core = or-none _ (leb coreCount (coreOf bytes)) (kind .0) in
+    let long = or-none (not (eqb (length bytes) 6)) _ (core .0) in
+    record {
+      formed = h;
+      long = eqb-true (length bytes) 6 (not-false (eqb (length bytes) 6) (long .0));
+      core = leb-false coreCount (coreOf bytes) (core .1);
+      kind = leb-false kindCount (kindOf bytes) (kind .1);
+      mode = leb-false modeCount (modeOf bytes) (mode .1);
+    }

@@ -1,0 +1,139 @@
+use mathlib.Core.Path.{_≡_}
+use Prim.Native.Nat.{_+_}
+use native.Mathlib.Omega.{arith}
+use Rattle.rules.specs.Record.{coreOf}
+use Rattle.layout.specs.Layout.{depthsAt}
+use Rattle.action.proofs.Bytes.{state-less, number-less, held-in}
+use Rattle.action.proofs.Outcomes.{acquire-no-class, acquire-too-deep, acquire-accepts}
+use borrow.Author.Needs.{needs}
+use Rattle.action.proofs.acquire.Statement.{statement}
+use Rattle.action.proofs.acquire.Tie as tie
+use Rattle.action.proofs.acquire.Reads as reads
+use Rattle.action.proofs.acquire.Lts as lts
+use Rattle.action.proofs.frame_of.Reads as frame-of-reads
+use Rattle.update.proofs.draw.Reads as draw-reads
+use Rattle.update.proofs.push.Reads as push-reads
+
+slice-read-k : tie.Need-slice-read-k
+slice-read-k c = search needs
+
+shared-slice-read-class : tie.Need-shared-slice-read-class
+shared-slice-read-class c = search needs
+
+returns : tie.Need-returns
+returns c =
+    let p = c .before .before .before .before .before .before .pre in
+    let st = c .before .before .before .before .before .before .args .state .now in
+    let by = c .before .before .before .before .before .before .args .bytes .now in
+    acquire-no-class _ _ _ (p .2) (p .0 .few) (p .3) (c .if1 .taken)
+
+shared-slice-read-frame-of : tie.Need-shared-slice-read-frame-of
+shared-slice-read-frame-of c = search needs
+
+cast-frame-of : tie.Need-cast-frame-of
+cast-frame-of c = search needs
+
+frame-of-requires : tie.Need-frame-of-requires
+frame-of-requires c κs =
+    let p = c .before .before .before .before .before .before .before .before .pre in
+    let st = c .before .before .before .before .before .before .before .before .args .state .now in
+    let by = c .before .before .before .before .before .before .before .before .args .bytes .now in
+    (p .0 .encodes .long, p .2 .core, state-less st (p .0) (coreOf by) (p .2 .core))
+
+add-if2 : tie.Need-add-if2
+add-if2 c =
+    let p = c .before .before .before .before .before .before .before .before .before .pre in
+    let st = c .before .before .before .before .before .before .before .before .before .args .state .now in
+    let by = c .before .before .before .before .before .before .before .before .before .args .bytes .now in
+    let h = number-less st (p .0) (coreOf by) (p .2 .core) in let e = c .frame-of .ensures in omega arith
+
+slice-read-if2 : tie.Need-slice-read-if2
+slice-read-if2 c =
+    let p = c .before .before .before .before .before .before .before .before .before .before .pre in
+    let st = c .before .before .before .before .before .before .before .before .before .before .args .state .now in
+    let by = c .before .before .before .before .before .before .before .before .before .before .args .bytes .now in
+    let h = number-less st (p .0) (coreOf by) (p .2 .core) in let e = c .before .frame-of .ensures in let l = p .0 .encodes .long in omega arith
+
+cast-if2 : tie.Need-cast-if2
+cast-if2 c =
+    let p = c .before .before .before .before .before .before .before .before .before .before .pre in
+    let st = c .before .before .before .before .before .before .before .before .before .before .args .state .now in
+    let by = c .before .before .before .before .before .before .before .before .before .before .args .bytes .now in
+    omega (arith, c .slice-known4 .given (depthsAt + c .before .frame-of .result))
+
+same-length : tie.Need-same-length
+same-length c = search needs
+
+returns-2 : tie.Need-returns-2
+returns-2 c =
+    let p = c .before .before .before .before .before .before .before .before .before .before .before .pre in
+    let st = c .before .before .before .before .before .before .before .before .before .before .before .args .state .now in
+    let by = c .before .before .before .before .before .before .before .before .before .before .before .args .bytes .now in
+    acquire-too-deep _ _ _ (p .2) (p .0 .few) (p .3) (c .before .before .before .before .before .if1 .left) (rw (c .before .before .frame-of .ensures) at (c .if2 .taken))
+
+shared-slice-read-mode : tie.Need-shared-slice-read-mode
+shared-slice-read-mode c = search needs
+
+cast-draw : tie.Need-cast-draw
+cast-draw c = search needs
+
+cast-draw-2 : tie.Need-cast-draw-2
+cast-draw-2 c = search needs
+
+cast-draw-3 : tie.Need-cast-draw-3
+cast-draw-3 c = search needs
+
+draw-requires : tie.Need-draw-requires
+draw-requires c κs =
+    let p = c .before .before .before .before .before .before .before .before .before .before .before .before .before .before .pre in
+    let st = c .before .before .before .before .before .before .before .before .before .before .before .before .before .before .args .state .now in
+    let by = c .before .before .before .before .before .before .before .before .before .before .before .before .before .before .args .bytes .now in
+    (rw (c .before .before .before .before .before .frame-of .ensures) (held-in st (p .0) (coreOf by) (p .2 .core)), p .1, p .0 .few, c .before .before .before .before .before .before .before .before .if1 .left, p .2 .mode)
+
+push-requires : tie.Need-push-requires
+push-requires c κs =
+    let p = c .before .before .before .before .before .before .before .before .before .before .before .before .before .before .before .before .before .before .pre in
+    let st = c .before .before .before .before .before .before .before .before .before .before .before .before .before .before .before .before .before .before .args .state .now in
+    let by = c .before .before .before .before .before .before .before .before .before .before .before .before .before .before .before .before .before .before .args .bytes .now in
+    let l = c .before .before .before .before .before .before .before .before .before .before .before .before .if1 .left in
+    let f = p .0 .few in
+    (p .0 .encodes .long, rw (c .before .before .before .before .before .before .before .before .before .frame-of .ensures) (number-less st (p .0) (coreOf by) (p .2 .core)), c .before .before .before .before .before .before .before .if2 .left, omega arith, p .2 .mode)
+
+same-length-2 : tie.Need-same-length-2
+same-length-2 c = search needs
+
+same-length-3 : tie.Need-same-length-3
+same-length-3 c = search needs
+
+returns-3 : tie.Need-returns-3
+returns-3 c =
+    let p = c .before .before .before .before .before .before .before .before .before .before .before .before .before .before .before .before .before .before .before .before .before .pre in
+    let st = c .before .before .before .before .before .before .before .before .before .before .before .before .before .before .before .before .before .before .before .before .before .args .state .now in
+    let by = c .before .before .before .before .before .before .before .before .before .before .before .before .before .before .before .before .before .before .before .before .before .args .bytes .now in
+    let e = c .before .before .before .before .before .before .before .before .before .before .before .before .frame-of .ensures in
+    acquire-accepts _ _ _ (p .2) (p .0 .few) (p .3) (c .before .before .before .before .before .before .before .before .before .before .before .before .before .before .before .if1 .left) (rw e at (c .before .before .before .before .before .before .before .before .before .before .if2 .left)) (rw e at (c .before .before .before .before .before .before .draw .ensures)) (rw e at (c .before .before .push .ensures))
+
+pub acquire-spec : {M : Type 1} → statement M
+acquire-spec =
+    tie.close
+    (tie.spec
+    slice-read-k
+    shared-slice-read-class
+    returns
+    shared-slice-read-frame-of
+    cast-frame-of
+    frame-of-requires
+    add-if2
+    slice-read-if2
+    cast-if2
+    same-length
+    returns-2
+    shared-slice-read-mode
+    cast-draw
+    cast-draw-2
+    cast-draw-3
+    draw-requires
+    push-requires
+    same-length-2
+    same-length-3
+    returns-3)

@@ -1,0 +1,57 @@
+use borrow.Author.Needs.{needs}
+use Rattle.action.proofs.act.Statement.{statement}
+use Rattle.action.proofs.act.Tie as tie
+use Rattle.action.proofs.act.Reads as reads
+use Rattle.action.proofs.act.Lts as lts
+use Rattle.action.proofs.acquire.Reads as acquire-reads
+use Rattle.action.proofs.interrupt.Reads as interrupt-reads
+use Rattle.action.proofs.release.Reads as release-reads
+
+shared-slice-read-kind : tie.Need-shared-slice-read-kind
+shared-slice-read-kind c = search needs
+
+acquire-requires : tie.Need-acquire-requires
+acquire-requires c κs = search needs
+
+same-length : tie.Need-same-length
+same-length c = search needs
+
+same-length-2 : tie.Need-same-length-2
+same-length-2 c = search needs
+
+returns : tie.Need-returns
+returns c = search needs
+
+release-requires : tie.Need-release-requires
+release-requires c κs = search needs
+
+same-length-3 : tie.Need-same-length-3
+same-length-3 c = search needs
+
+returns-2 : tie.Need-returns-2
+returns-2 c = c .before .before .release .ensures _
+
+interrupt-requires : tie.Need-interrupt-requires
+interrupt-requires c κs = search needs
+
+same-length-4 : tie.Need-same-length-4
+same-length-4 c = search needs
+
+returns-3 : tie.Need-returns-3
+returns-3 c = c .before .before .interrupt .ensures _
+
+pub act-spec : {M : Type 1} → statement M
+act-spec =
+    tie.close
+    (tie.spec
+    shared-slice-read-kind
+    acquire-requires
+    same-length
+    same-length-2
+    returns
+    release-requires
+    same-length-3
+    returns-2
+    interrupt-requires
+    same-length-4
+    returns-3)

@@ -1,0 +1,102 @@
+use mathlib.Core.Path.{_≡_, sym, _∙_}
+use native.Mathlib.Omega.{arith}
+use Rattle.rules.specs.Record.{coreOf}
+use Rattle.action.proofs.Bytes.{state-less, held-in, newest-inside}
+use Rattle.action.proofs.Outcomes.{release-no-class, release-not-held, release-accepts}
+use borrow.Author.Needs.{needs}
+use Rattle.action.proofs.release.Statement.{statement}
+use Rattle.action.proofs.release.Tie as tie
+use Rattle.action.proofs.release.Reads as reads
+use Rattle.action.proofs.release.Lts as lts
+use Rattle.action.proofs.frame_of.Reads as frame-of-reads
+use Rattle.update.proofs.newest.Reads as newest-reads
+use Rattle.update.proofs.remove.Reads as remove-reads
+
+shared-slice-read-class : tie.Need-shared-slice-read-class
+shared-slice-read-class c = search needs
+
+slice-read-if1 : tie.Need-slice-read-if1
+slice-read-if1 c = search needs
+
+returns : tie.Need-returns
+returns c =
+    let p = c .before .before .before .before .before .pre in
+    let st = c .before .before .before .before .before .args .state .now in
+    let by = c .before .before .before .before .before .args .bytes .now in
+    λ matrix. release-no-class _ matrix _ (p .1) (p .0 .few) (p .2) (c .if1 .taken)
+
+shared-slice-read-frame-of : tie.Need-shared-slice-read-frame-of
+shared-slice-read-frame-of c = search needs
+
+cast-frame-of : tie.Need-cast-frame-of
+cast-frame-of c = search needs
+
+frame-of-requires : tie.Need-frame-of-requires
+frame-of-requires c κs =
+    let p = c .before .before .before .before .before .before .before .pre in
+    let st = c .before .before .before .before .before .before .before .args .state .now in
+    let by = c .before .before .before .before .before .before .before .args .bytes .now in
+    (p .0 .encodes .long, p .1 .core, state-less st (p .0) (coreOf by) (p .1 .core))
+
+newest-requires : tie.Need-newest-requires
+newest-requires c κs =
+    let p = c .before .before .before .before .before .before .before .before .before .pre in
+    let st = c .before .before .before .before .before .before .before .before .before .args .state .now in
+    let by = c .before .before .before .before .before .before .before .before .before .args .bytes .now in
+    rw (c .before .frame-of .ensures) (let h = held-in st (p .0) (coreOf by) (p .1 .core) in (h .long, h .frame, h .depth))
+
+same-length : tie.Need-same-length
+same-length c = search needs
+
+returns-2 : tie.Need-returns-2
+returns-2 c =
+    let p = c .before .before .before .before .before .before .before .before .before .before .before .pre in
+    let st = c .before .before .before .before .before .before .before .before .before .before .before .args .state .now in
+    let by = c .before .before .before .before .before .before .before .before .before .before .before .args .bytes .now in
+    let e = c .before .before .before .frame-of .ensures in
+    λ matrix. release-not-held _ matrix _ (p .1) (p .0 .few) (p .2) (c .before .before .before .before .before .before .if1 .left) (rw e at (sym (c .before .newest .ensures) ∙ c .if2 .taken))
+
+sub-remove : tie.Need-sub-remove
+sub-remove c = search needs
+
+remove-requires : tie.Need-remove-requires
+remove-requires c κs =
+    let p = c .before .before .before .before .before .before .before .before .before .before .before .before .pre in
+    let st = c .before .before .before .before .before .before .before .before .before .before .before .before .args .state .now in
+    let by = c .before .before .before .before .before .before .before .before .before .before .before .before .args .bytes .now in
+    let e = c .before .before .before .before .frame-of .ensures in
+    let ne = c .before .if2 .left in
+    let h = held-in st (p .0) (coreOf by) (p .1 .core) in
+    rw ((c .before .before .newest .ensures), e)
+    (h .long, h .frame, h .depth, newest-inside st (p .0) (coreOf by) (p .1 .core) _ (rw (c .before .before .newest .ensures, e) at ne))
+
+same-length-2 : tie.Need-same-length-2
+same-length-2 c = search needs
+
+returns-3 : tie.Need-returns-3
+returns-3 c =
+    let p = c .before .before .before .before .before .before .before .before .before .before .before .before .before .before .before .pre in
+    let st = c .before .before .before .before .before .before .before .before .before .before .before .before .before .before .before .args .state .now in
+    let by = c .before .before .before .before .before .before .before .before .before .before .before .before .before .before .before .args .bytes .now in
+    let e = c .before .before .before .before .before .before .before .frame-of .ensures in
+    let ne = c .before .before .before .before .if2 .left in
+    λ matrix.
+    release-accepts _ matrix _ (p .1) (p .0 .few) (p .2) (c .before .before .before .before .before .before .before .before .before .before .if1 .left) (rw (c .before .before .before .before .before .newest .ensures, e) at ne) (rw (c .before .before .before .before .before .newest .ensures, e) at (c .before .before .remove .ensures))
+
+pub release-spec : {M : Type 1} → statement M
+release-spec =
+    tie.close
+    (tie.spec
+    shared-slice-read-class
+    slice-read-if1
+    returns
+    shared-slice-read-frame-of
+    cast-frame-of
+    frame-of-requires
+    newest-requires
+    same-length
+    returns-2
+    sub-remove
+    remove-requires
+    same-length-2
+    returns-3)

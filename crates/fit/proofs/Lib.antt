@@ -1,0 +1,6 @@
+pub mod AllBelow
+pub mod MarkTests
+pub mod Facts
+pub mod Places
+pub mod Fitting
+pub mod Settled

@@ -1,0 +1,23 @@
+-- The test of a mark byte, by whether its class is below K. Assumes nothing.
+use mathlib.Core.Path.{_≡_, refl}
+use mathlib.Core.Bool.{true, false, _&&_}
+use mathlib.Core.List.{List}
+use Prim.Native.Nat.{ℕ, _/_, _%_, _≤_, _<_}
+use lib.Dec.{leb}
+use borrow.Author.Tests.{lt-ltb, le-ltb, ne-eqb}
+use Rattle.layout.specs.Layout.{markOf}
+use Rattle.layout.specs.Fit.{markFits}
+
+module _ (K : ℕ) (state : List ℕ) (c : ℕ) where
+  pub mark-used : c < K
+      → markFits K state c ≡ (leb (markOf state c / 64 % 2) (markOf state c / 4 % 2) && leb (markOf state c / 128 % 2) (markOf state c / 8 % 2))
+  unfolding markFits
+  mark-used l = rw (lt-ltb c K l)
+
+  pub mark-zero : K ≤ c → markOf state c ≡ 0 → markFits K state c ≡ true
+  unfolding markFits
+  mark-zero l e = rw (le-ltb c K l, e)
+
+  pub mark-past : K ≤ c → (markOf state c ≡ 0 → ⊥) → markFits K state c ≡ false
+  unfolding markFits
+  mark-past l h = rw (le-ltb c K l, ne-eqb _ _ h)

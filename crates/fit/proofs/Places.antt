@@ -1,0 +1,58 @@
+-- Every byte of the state buffer and of the matrix has a name: what holds at each named place holds of every byte. Assumes nothing.
+use mathlib.Core.Path.{_≡_, subst}
+use Prim.Native.Nat.{ℕ, _+_, _-_, _*_, _/_, _%_, _≤_, _<_}
+use native.Mathlib.Nat.{mod-lt, div-add-mod', div-lt-iff-lt-mul}
+use native.Mathlib.Decide.{decLt}
+use native.Mathlib.Omega.{arith}
+use Rattle.rules.specs.Limits.{coreCount, maxClasses, maxDepth}
+use Rattle.rules.specs.Context.{Frame}
+use Rattle.layout.specs.Layout.{framesPerCore, frameCount, classesAt, closedAt, statesAt, depthsAt, marksAt, heldAt, stateSize, matrixSize, frameNumber}
+
+-- Every frame is one of a core's.
+pub by-frame : (P : ℕ → Type 0) → ((i : ℕ) (f : Frame) → i < coreCount → f < framesPerCore → P (frameNumber i f))
+    → (n : ℕ) → n < frameCount → P n
+by-frame P a n l =
+    let e : frameNumber (n / framesPerCore) (n % framesPerCore) ≡ n = omega arith in
+    subst P e (a (n / framesPerCore) (n % framesPerCore) (omega arith) (omega arith))
+
+-- What holds at each named place of the state buffer.
+pub record AtPlaces (P : ℕ → Type 0) : Type 0 where
+  pub classes : P classesAt
+  pub closed : P closedAt
+  pub states : (i : ℕ) → i < coreCount → P (statesAt + i)
+  pub depths : (i : ℕ) (f : Frame) → i < coreCount → f < framesPerCore → P (depthsAt + frameNumber i f)
+  pub usage : (c : ℕ) → c < maxClasses → P (marksAt + c)
+  pub held : (i : ℕ) (f : Frame) (p : ℕ) → i < coreCount → f < framesPerCore → p < maxDepth
+      → P (heldAt + maxDepth * frameNumber i f + p)
+
+-- Every byte below stateSize has a named place.
+pub by-place : (P : ℕ → Type 0) → AtPlaces P → (j : ℕ) → j < stateSize → P j
+by-place P a j l =
+    elim (decLt j closedAt) [
+      | yes h ↦ let e : classesAt ≡ j = omega arith in subst P e (a .classes)
+      | no h₀ ↦ elim (decLt j statesAt) [
+        | yes h ↦ let e : closedAt ≡ j = omega arith in subst P e (a .closed)
+        | no h₁ ↦ elim (decLt j depthsAt) [
+          | yes h ↦ let e : statesAt + (j - statesAt) ≡ j = omega arith in subst P e (a .states (j - statesAt) (omega arith))
+          | no h₂ ↦ elim (decLt j marksAt) [
+            | yes h ↦
+                let e : depthsAt + (j - depthsAt) ≡ j = omega arith in
+                subst P e (by-frame (λ n. P (depthsAt + n)) (a .depths) (j - depthsAt) (omega arith))
+            | no h₃ ↦ elim (decLt j heldAt) [
+              | yes h ↦ let e : marksAt + (j - marksAt) ≡ j = omega arith in subst P e (a .usage (j - marksAt) (omega arith))
+              | no h₄ ↦
+                  let q = j - heldAt in
+                  let e : heldAt + maxDepth * (q / maxDepth) + q % maxDepth ≡ j = omega arith in
+                  subst P e
+                  (by-frame (λ n. P (heldAt + maxDepth * n + q % maxDepth)) (λ i f h g. a .held i f (q % maxDepth) h g (omega arith))
+                  (q / maxDepth) (omega arith))
+            ]
+          ]
+        ]
+      ]
+    ]
+
+-- Every byte below K x K is that of a pair of classes.
+pub by-pair : (K : ℕ) → 1 ≤ K → (P : ℕ → Type 0) → ((from to : ℕ) → from < K → to < K → P (from * K + to))
+    → (j : ℕ) → j < matrixSize K → P j
+by-pair K some P a j l = subst P (div-add-mod' j K) (a (j / K) (j % K) (div-lt-iff-lt-mul some .1 l) (mod-lt j some))

@@ -1,0 +1,54 @@
+-- The encoding settles every byte of the stated sizes: two buffers that encode the same and agree past it are equal. Assumes nothing.
+use mathlib.Core.Path.{_≡_, sym, _∙_}
+use mathlib.Core.Bool.{Bool}
+use mathlib.Core.List.{List}
+use Prim.Native.Nat.{ℕ, _≤_, _<_}
+use native.Mathlib.Decide.{decLt}
+use native.Mathlib.Omega.{arith}
+use lib.ListN.{length, getD}
+use lib.Seq.{ext-getD}
+use Rattle.rules.specs.HeldLocks.{Core}
+use Rattle.rules.specs.Marks.{Marks}
+use Rattle.rules.specs.Graph.{Dependencies}
+use Rattle.layout.specs.Layout.{stateSize, matrixSize}
+use Rattle.layout.specs.Encoding.{StateBytes, MatrixBytes, KeepsPast}
+use Rattle.fit.proofs.Places.{AtPlaces, by-place, by-pair}
+
+-- Two lists of one length are equal if they are below n and from n on.
+meets : (n : ℕ) (x y : List ℕ) → length x ≡ length y → ((j : ℕ) → j < n → getD x j 0 ≡ getD y j 0)
+    → ((j : ℕ) → n ≤ j → getD x j 0 ≡ getD y j 0) → x ≡ y
+meets n x y long below past =
+    ext-getD 0 x y long (λ j l. elim (decLt j n) [ yes h ↦ below j h | no h ↦ past j (omega arith) ])
+
+-- So are two that one buffer became, where only the first n bytes may differ.
+both-keep : (n : ℕ) (before x y : List ℕ) → ((j : ℕ) → j < n → getD x j 0 ≡ getD y j 0) → KeepsPast n before x → KeepsPast n before y → x ≡ y
+both-keep n before x y below a b = meets n x y (a .long ∙ sym (b .long)) below (λ j l. a .past j l ∙ sym (b .past j l))
+
+module _ (K : ℕ) (is-closed : Bool) (cores : ℕ → Core) (marks : Marks) (x y : List ℕ)
+    (a : StateBytes K is-closed cores marks x) (b : StateBytes K is-closed cores marks y) where
+  same-places : AtPlaces (λ j. getD x j 0 ≡ getD y j 0)
+  same-places =
+      record {
+        classes = a .classes ∙ sym (b .classes);
+        closed = a .closed ∙ sym (b .closed);
+        states = λ i l. a .states i l ∙ sym (b .states i l);
+        depths = λ i f l h. a .depths i f l h ∙ sym (b .depths i f l h);
+        usage = λ c l. a .usage c l ∙ sym (b .usage c l);
+        held = λ i f p l h q. a .held i f p l h q ∙ sym (b .held i f p l h q);
+      }
+
+  pub settled-state : length x ≡ length y → ((j : ℕ) → stateSize ≤ j → getD x j 0 ≡ getD y j 0) → x ≡ y
+  settled-state long past = meets stateSize x y long (by-place _ same-places) past
+
+  pub settled-state-after : (before : List ℕ) → KeepsPast stateSize before x → KeepsPast stateSize before y → x ≡ y
+  settled-state-after before = both-keep stateSize before x y (by-place _ same-places)
+
+module _ (K : ℕ) (some : 1 ≤ K) (locks : Dependencies) (x y : List ℕ) (a : MatrixBytes K locks x) (b : MatrixBytes K locks y) where
+  same-pairs : (j : ℕ) → j < matrixSize K → getD x j 0 ≡ getD y j 0
+  same-pairs = by-pair K some (λ j. getD x j 0 ≡ getD y j 0) (λ from to l h. a .kinds from to l h ∙ sym (b .kinds from to l h))
+
+  pub settled-matrix : length x ≡ length y → ((j : ℕ) → matrixSize K ≤ j → getD x j 0 ≡ getD y j 0) → x ≡ y
+  settled-matrix long past = meets (matrixSize K) x y long same-pairs past
+
+  pub settled-matrix-after : (before : List ℕ) → KeepsPast (matrixSize K) before x → KeepsPast (matrixSize K) before y → x ≡ y
+  settled-matrix-after before = both-keep (matrixSize K) before x y same-pairs

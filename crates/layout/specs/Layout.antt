@@ -1,0 +1,69 @@
+-- Document 01, "What lies on the bench": where each byte of the state buffer ("desk"), the dependency matrix ("sheet") and the report ("slip")
+-- stands. Every other definition goes by these names; src/lib.rt has them once more for the code.
+use mathlib.Core.List.{List}
+use Prim.Native.Nat.{ℕ, _+_, _*_}
+use lib.ListN.{getD}
+use Rattle.rules.specs.Limits.{coreCount, maxClasses, maxDepth}
+use Rattle.rules.specs.Context.{Frame}
+
+-- Frames of one core: task, soft, hard.
+abbrev pub framesPerCore : ℕ
+framesPerCore = 3
+
+abbrev pub frameCount : ℕ
+frameCount = framesPerCore * coreCount
+
+abbrev pub classesAt : ℕ
+classesAt = 0
+
+abbrev pub closedAt : ℕ
+closedAt = 1
+
+abbrev pub statesAt : ℕ
+statesAt = 2
+
+abbrev pub depthsAt : ℕ
+depthsAt = statesAt + coreCount
+
+abbrev pub marksAt : ℕ
+marksAt = depthsAt + frameCount
+
+abbrev pub heldAt : ℕ
+heldAt = marksAt + maxClasses
+
+abbrev pub stateSize : ℕ
+stateSize = heldAt + maxDepth * frameCount
+
+abbrev pub matrixSize : ℕ → ℕ
+matrixSize K = K * K
+
+abbrev pub reportSize : ℕ → ℕ
+reportSize K = 1 + 3 * K
+
+-- The number of a core's frame: "core 0 task, soft, hard, then core 1 and so on".
+abbrev pub frameNumber : ℕ → Frame → ℕ
+frameNumber core f = framesPerCore * core + f
+
+-- ---- The bytes by name.
+
+abbrev pub classesOf : List ℕ → ℕ
+classesOf state = getD state classesAt 0
+
+abbrev pub closedOf : List ℕ → ℕ
+closedOf state = getD state closedAt 0
+
+abbrev pub stateOf : List ℕ → ℕ → ℕ
+stateOf state core = getD state (statesAt + core) 0
+
+abbrev pub depthOf : List ℕ → ℕ → ℕ
+depthOf state frame = getD state (depthsAt + frame) 0
+
+abbrev pub markOf : List ℕ → ℕ → ℕ
+markOf state class = getD state (marksAt + class) 0
+
+-- Place p of a frame, the oldest first.
+abbrev pub heldOf : List ℕ → ℕ → ℕ → ℕ
+heldOf state frame p = getD state (heldAt + maxDepth * frame + p) 0
+
+abbrev pub kindsOf : List ℕ → ℕ → ℕ → ℕ → ℕ
+kindsOf matrix K from to = getD matrix (from * K + to) 0

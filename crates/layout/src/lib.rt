@@ -1,0 +1,25 @@
+// The layout of the buffers, once for the code. specs/Layout.antt is the same for the definitions.
+
+pub const CORES: usize = 8;
+
+pub const MAX_CLASSES: usize = 64;
+
+pub const MAX_DEPTH: usize = 20;
+
+pub const FRAMES_PER_CORE: usize = 3;
+
+pub const FRAMES: usize = FRAMES_PER_CORE * CORES;
+
+pub const CLASSES_AT: usize = 0;
+
+pub const CLOSED_AT: usize = 1;
+
+pub const STATES_AT: usize = 2;
+
+pub const DEPTHS_AT: usize = STATES_AT + CORES;
+
+pub const MARKS_AT: usize = DEPTHS_AT + FRAMES;
+
+pub const HELD_AT: usize = MARKS_AT + MAX_CLASSES;
+
+pub const STATE_SIZE: usize = HELD_AT + MAX_DEPTH * FRAMES;

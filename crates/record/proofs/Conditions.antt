@@ -1,0 +1,57 @@
+-- Refusal 3, condition by condition. Assumes nothing.
+use mathlib.Core.Path.{_≡_, refl, sym}
+use mathlib.Core.Bool.{Bool, true, false, not, _&&_, _||_, or-true, and-false, and-true}
+use mathlib.Core.List.{List}
+use Prim.Native.Nat.{ℕ, zero, suc, _≤_, _<_}
+use lib.Dec.{leb, eqb}
+use lib.ListN.{length, getD}
+use borrow.Author.Tests.{eq-eqb, ne-eqb, le-leb, lt-leb}
+use Rattle.rules.specs.Record.{coreOf, kindOf, classOf, modeOf, strayByte, isMalformed}
+
+module _ (r : List ℕ) where
+  pub by-length : (length r ≡ 6 → ⊥) → true ≡ isMalformed r
+  unfolding isMalformed
+  by-length n = simp (ne-eqb (length r) 6 n)
+
+  pub by-mark-0 : (getD r 0 0 ≡ 0x4C → ⊥) → true ≡ isMalformed r
+  unfolding isMalformed
+  by-mark-0 n = simp (ne-eqb (getD r 0 0) 0x4C n, or-true)
+
+  pub by-mark-1 : (getD r 1 0 ≡ 0x4B → ⊥) → true ≡ isMalformed r
+  unfolding isMalformed
+  by-mark-1 n = simp (ne-eqb (getD r 1 0) 0x4B n, and-false, or-true)
+
+  pub by-core : 8 ≤ coreOf r → true ≡ isMalformed r
+  unfolding isMalformed
+  by-core h = simp (le-leb 8 (coreOf r) h, or-true)
+
+  pub by-kind : 10 ≤ kindOf r → true ≡ isMalformed r
+  unfolding isMalformed
+  by-kind h = simp (le-leb 10 (kindOf r) h, or-true)
+
+  pub by-mode : 3 ≤ modeOf r → true ≡ isMalformed r
+  unfolding isMalformed
+  by-mode h = simp (le-leb 3 (modeOf r) h, or-true)
+
+  -- All others passed, a stray byte decides.
+  pub by-stray : length r ≡ 6 → getD r 0 0 ≡ 0x4C → getD r 1 0 ≡ 0x4B → coreOf r < 8 → kindOf r < 10 → modeOf r < 3
+      → strayByte (kindOf r) (classOf r) (modeOf r) ≡ isMalformed r
+  unfolding isMalformed
+  by-stray l m0 m1 c k m =
+      simp (eq-eqb (length r) 6 l, eq-eqb (getD r 0 0) 0x4C m0, eq-eqb (getD r 1 0) 0x4B m1, lt-leb 8 (coreOf r) c, lt-leb 10 (kindOf r) k, lt-leb 3 (modeOf r) m)
+
+pub stray-acquire : (k c m : ℕ) → k ≡ 0 → false ≡ strayByte k c m
+stray-acquire k c m e = rw e refl
+
+pub stray-mode : (k c m : ℕ) → (k ≡ 0 → ⊥) → (m ≡ 0 → ⊥) → true ≡ strayByte k c m
+stray-mode zero c m a b = absurd (a refl)
+stray-mode (suc zero) c m a b = simp (ne-eqb m 0 b)
+stray-mode (suc (suc k)) c m a b = simp (ne-eqb m 0 b, and-false)
+
+pub stray-release : (k c m : ℕ) → k ≡ 1 → m ≡ 0 → false ≡ strayByte k c m
+stray-release k c m a b = rw (a, b) refl
+
+pub stray-interrupt : (k c m : ℕ) → (k ≡ 0 → ⊥) → (k ≡ 1 → ⊥) → m ≡ 0 → not (eqb c 0) ≡ strayByte k c m
+stray-interrupt zero c m a b e = absurd (a refl)
+stray-interrupt (suc zero) c m a b e = absurd (b refl)
+stray-interrupt (suc (suc k)) c m a b e = simp (eq-eqb m 0 e, and-true)

@@ -1,0 +1,5 @@
+pub mod Choices
+pub mod Visits
+pub mod Orders
+pub mod Paths
+pub mod Reported

@@ -1,0 +1,4 @@
+pub mod Rows
+pub mod States
+pub mod Trails
+pub mod Reports

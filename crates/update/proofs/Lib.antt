@@ -1,0 +1,7 @@
+pub mod Frames
+pub mod Last
+pub mod Prefixes
+pub mod Drawing
+pub mod Marking
+pub mod Cores
+pub mod Releases

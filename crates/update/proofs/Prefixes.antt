@@ -1,0 +1,48 @@
+-- The locks held at the first places of a frame. Assumes nothing.
+use mathlib.Core.Path.{_≡_, refl, sym, ap, _∙_}
+use mathlib.Core.Bool.{Bool, true, false, _&&_, _||_, or-false, or-assoc, and-false}
+use mathlib.Core.List.{List, [], _∷_}
+use Prim.Native.Nat.{ℕ, zero, suc, _+_, _*_, _%_, _/_, _<_, _≤_}
+use native.Mathlib.Nat.{le-of-suc-le-suc, not-suc-le-zero}
+use native.Mathlib.Omega.{arith}
+use lib.Dec.{eqb}
+use lib.ListN.{length, getD, take}
+use Rattle.rules.specs.Limits.{maxDepth}
+use Rattle.rules.specs.HeldLocks.{HeldLock, someHeld}
+use Rattle.layout.specs.Layout.{heldOf}
+use Rattle.layout.specs.Encoding.{heldByte, heldByteAt}
+use Rattle.update.specs.Update.{FrameBytes, SmallClasses}
+
+pub none : HeldLock
+none = record { class = 0; mode = 0 }
+
+-- One place more.
+pub one-more : (c : ℕ) (test : HeldLock → Bool) (hs : List HeldLock) (p : ℕ) → p < length hs
+    → someHeld c test (take (suc p) hs) ≡ (someHeld c test (take p hs) || (eqb c (getD hs p none .class) && test (getD hs p none)))
+one-more c test [] p l = absurd (not-suc-le-zero l)
+one-more c test (h ∷ hs) zero l = or-false (eqb c (h .class) && test h)
+one-more c test (h ∷ hs) (suc p) l =
+    ap (λ (b : Bool). (eqb c (h .class) && test h) || b) (one-more c test hs p (le-of-suc-le-suc l))
+    ∙ sym (or-assoc (eqb c (h .class) && test h) (someHeld c test (take p hs)) (eqb c (getD hs p none .class) && test (getD hs p none)))
+
+pub all-places : (hs : List HeldLock) → take (length hs) hs ≡ hs
+all-places [] = refl
+all-places (h ∷ hs) = ap {B = List HeldLock} (λ (l : List HeldLock). h ∷ l) (all-places hs)
+
+byte-of : (hs : List HeldLock) (p : ℕ) → p < length hs → heldByteAt hs p ≡ heldByte (getD hs p none)
+byte-of [] p l = absurd (not-suc-le-zero l)
+byte-of (h ∷ hs) zero l = refl
+byte-of (h ∷ hs) (suc p) l = byte-of hs p (le-of-suc-le-suc l)
+
+-- The byte of a held lock gives its class and its mode.
+pub record Lock (state : List ℕ) (n p : ℕ) (h : HeldLock) : Type 0 where
+  pub class : heldOf state n p % 64 ≡ h .class
+  pub mode : heldOf state n p / 64 ≡ h .mode
+
+pub lock-at : (state : List ℕ) (n : ℕ) (hs : List HeldLock) → FrameBytes state n hs → SmallClasses hs → (p : ℕ) → p < length hs → p < maxDepth
+    → Lock state n p (getD hs p none)
+unfolding none
+lock-at state n hs F small p l m =
+    let e : heldOf state n p ≡ heldByte (getD hs p none) = F .held p m ∙ byte-of hs p l in
+    let s = small p none l in
+    record { class = rw e (omega arith); mode = rw e (omega arith) }

@@ -1,0 +1,131 @@
+use Prim.Native.Nat.{_+_, _*_, _%_}
+use Rattle.rules.specs.Limits.{maxDepth}
+use Rattle.layout.specs.Layout.{heldAt, heldOf}
+use Prim.Native.Nat.{ℕ, _≤_, _-_}
+use native.Mathlib.Omega.{arith}
+use Rattle.layout.proofs.Buffers.{cell-inside}
+use Rattle.update.proofs.Drawing.{Drawing, drawing-start, drawing-step, drawing-done}
+use Rattle.update.proofs.draw.Statement.{statement}
+use Rattle.update.proofs.draw.Tie as tie
+use Rattle.update.proofs.draw.Reads as reads
+use Rattle.update.proofs.draw.Lts as lts
+use Rattle.context.proofs.kind_bit.Reads as kind-bit-reads
+
+abbrev Inv-loop : tie.InvT-loop
+Inv-loop state matrix₀ k frame class mode d p₀ matrix p = (p ≤ d) × Drawing state k frame class mode matrix₀ p matrix
+
+abbrev μ-loop : tie.MeasureT-loop
+μ-loop state matrix₀ k frame class mode d p₀ matrix p = d - p
+
+add-d : tie.Need-add-d Inv-loop μ-loop
+add-d c = omega arith
+
+shared-slice-read-d : tie.Need-shared-slice-read-d Inv-loop μ-loop
+shared-slice-read-d c = omega arith
+
+cast-d : tie.Need-cast-d Inv-loop μ-loop
+cast-d c = omega arith
+
+loop-holds : tie.Need-loop-holds Inv-loop μ-loop
+loop-holds c = (omega arith, drawing-start _ _ _ _ _ _)
+
+mul-held : tie.Need-mul-held Inv-loop μ-loop
+mul-held c = omega arith
+
+add-held : tie.Need-add-held Inv-loop μ-loop
+add-held c = omega arith
+
+add-held-2 : tie.Need-add-held-2 Inv-loop μ-loop
+add-held-2 c = omega arith
+
+shared-slice-read-held : tie.Need-shared-slice-read-held Inv-loop μ-loop
+shared-slice-read-held c = omega arith
+
+cast-held : tie.Need-cast-held Inv-loop μ-loop
+cast-held c = omega (arith, c .shared-slice-known3 .given (heldAt + maxDepth * c .before .before .before .before .before .before .args .frame + c .before .before .loop .p))
+
+mul-at : tie.Need-mul-at Inv-loop μ-loop
+mul-at c =
+    let p = c .before .before .before .before .before .before .pre in
+    let l = c .before .before .loop in
+    let a = c .before .before .before .before .before .before .args in
+    let h = cell-inside (a .k) (heldOf (a .state .now) (a .frame) (l .p) % 64) (a .class) (p .0 .class (l .p) (omega arith)) (p .3) in
+    omega arith
+
+add-at : tie.Need-add-at Inv-loop μ-loop
+add-at c =
+    let p = c .before .before .before .before .before .before .pre in
+    let l = c .before .before .loop in
+    let a = c .before .before .before .before .before .before .args in
+    let h = cell-inside (a .k) (heldOf (a .state .now) (a .frame) (l .p) % 64) (a .class) (p .0 .class (l .p) (omega arith)) (p .3) in
+    omega arith
+
+slice-read-matrix : tie.Need-slice-read-matrix Inv-loop μ-loop
+slice-read-matrix c =
+    let p = c .before .before .before .before .before .before .before .pre in
+    let l = c .before .before .before .loop in
+    let a = c .before .before .before .before .before .before .before .args in
+    let h = cell-inside (a .k) (heldOf (a .state .now) (a .frame) (l .p) % 64) (a .class) (p .0 .class (l .p) (omega arith)) (p .3) in
+    omega (arith, l .inv .1 .keeps .long, p .1)
+
+kind-bit-requires : tie.Need-kind-bit-requires Inv-loop μ-loop
+kind-bit-requires c κs =
+    let p = c .before .before .before .before .before .before .before .pre in
+    let l = c .before .before .before .loop in
+    let a = c .before .before .before .before .before .before .before .args in
+    (p .0 .mode (l .p) (omega arith), p .4)
+
+slice-write-matrix : tie.Need-slice-write-matrix Inv-loop μ-loop
+slice-write-matrix c =
+    let p = c .before .before .before .before .before .before .before .before .pre in
+    let l = c .before .before .before .before .loop in
+    let a = c .before .before .before .before .before .before .before .before .args in
+    let h = cell-inside (a .k) (heldOf (a .state .now) (a .frame) (l .p) % 64) (a .class) (p .0 .class (l .p) (omega arith)) (p .3) in
+    omega (arith, l .inv .1 .keeps .long, p .1)
+
+add-p : tie.Need-add-p Inv-loop μ-loop
+add-p c = omega arith
+
+loop-less : tie.Need-loop-less Inv-loop μ-loop
+loop-less c = omega arith
+
+loop-again : tie.Need-loop-again Inv-loop μ-loop
+loop-again c =
+    let p = c .before .before .before .before .before .before .before .before .pre in
+    let l = c .before .before .before .before .loop in (
+      omega arith,
+      rw (c .kind-bit .ensures)
+          (drawing-step _ _ _ _ _ _ (l .p) _ (l .inv .1) (omega arith) (omega (arith, p .0 .depth)) (p .3) (p .0 .class (l .p) (omega arith)) (p .1)),
+    )
+
+same-length : tie.Need-same-length Inv-loop μ-loop
+same-length c = c .before .loop .inv .1 .keeps .long
+
+returns : tie.Need-returns Inv-loop μ-loop
+returns c = drawing-done _ _ _ _ _ _ _ _ (c .before .loop .inv .1) (omega arith)
+
+pub draw-spec : {M : Type 1} → statement M
+draw-spec =
+    tie.close
+    (tie.spec
+    Inv-loop
+    μ-loop
+    add-d
+    shared-slice-read-d
+    cast-d
+    loop-holds
+    mul-held
+    add-held
+    add-held-2
+    shared-slice-read-held
+    cast-held
+    mul-at
+    add-at
+    slice-read-matrix
+    kind-bit-requires
+    slice-write-matrix
+    add-p
+    loop-less
+    loop-again
+    same-length
+    returns)

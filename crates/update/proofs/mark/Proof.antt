@@ -1,0 +1,105 @@
+use Prim.Native.Nat.{ℕ, _≤_, _-_, _+_, _*_, _%_}
+use native.Mathlib.Omega.{arith}
+use Rattle.rules.specs.Limits.{maxDepth}
+use Rattle.layout.specs.Layout.{heldAt, heldOf}
+use Rattle.update.proofs.Marking.{Marking, same-held, marking-start, marking-step, marking-done}
+use Rattle.update.proofs.mark.Statement.{statement}
+use Rattle.update.proofs.mark.Tie as tie
+use Rattle.update.proofs.mark.Reads as reads
+use Rattle.update.proofs.mark.Lts as lts
+use Rattle.context.proofs.mark_bits.Reads as mark-bits-reads
+
+abbrev Inv-loop : tie.InvT-loop
+Inv-loop state₀ frame k context d p₀ state p = (p ≤ d) × Marking state₀ frame context p state
+
+abbrev μ-loop : tie.MeasureT-loop
+μ-loop state₀ frame k context d p₀ state p = d - p
+
+add-d : tie.Need-add-d Inv-loop μ-loop
+add-d c = omega arith
+
+slice-read-d : tie.Need-slice-read-d Inv-loop μ-loop
+slice-read-d c = omega arith
+
+cast-d : tie.Need-cast-d Inv-loop μ-loop
+cast-d c = omega arith
+
+loop-holds : tie.Need-loop-holds Inv-loop μ-loop
+loop-holds c = (omega arith, marking-start _ _ _)
+
+mul-held : tie.Need-mul-held Inv-loop μ-loop
+mul-held c = omega arith
+
+add-held : tie.Need-add-held Inv-loop μ-loop
+add-held c = omega arith
+
+add-held-2 : tie.Need-add-held-2 Inv-loop μ-loop
+add-held-2 c = omega arith
+
+slice-read-held : tie.Need-slice-read-held Inv-loop μ-loop
+slice-read-held c = omega arith
+
+cast-held : tie.Need-cast-held Inv-loop μ-loop
+cast-held c = omega (arith, c .slice-known3 .given (heldAt + maxDepth * c .before .before .before .before .before .args .frame + c .before .before .loop .p))
+
+add-at : tie.Need-add-at Inv-loop μ-loop
+add-at c = omega arith
+
+slice-read-state : tie.Need-slice-read-state Inv-loop μ-loop
+slice-read-state c = omega arith
+
+mark-bits-requires : tie.Need-mark-bits-requires Inv-loop μ-loop
+mark-bits-requires c κs =
+    let p = c .before .before .before .before .before .before .pre in
+    let l = c .before .before .before .loop in
+    let same = same-held _ _ _ (l .inv .1) (l .p) in
+    (p .2, rw same (p .0 .mode (l .p) (omega arith)))
+
+slice-write-state : tie.Need-slice-write-state Inv-loop μ-loop
+slice-write-state c = omega arith
+
+add-p : tie.Need-add-p Inv-loop μ-loop
+add-p c = omega arith
+
+loop-less : tie.Need-loop-less Inv-loop μ-loop
+loop-less c = omega arith
+
+loop-again : tie.Need-loop-again Inv-loop μ-loop
+loop-again c =
+    let p = c .before .before .before .before .before .before .before .pre in
+    let l = c .before .before .before .before .loop in (
+      omega arith,
+      rw (c .mark-bits .ensures)
+          (marking-step _ _ _ (l .p) _ (l .inv .1) (omega arith) (omega (arith, p .0 .depth)) (p .0 .long) (omega arith)),
+    )
+
+same-length : tie.Need-same-length Inv-loop μ-loop
+same-length c = c .before .loop .inv .1 .keeps .long
+
+returns : tie.Need-returns Inv-loop μ-loop
+returns c = marking-done _ _ _ _ _ (c .before .loop .inv .1) (omega arith)
+
+pub mark-spec : {M : Type 1} → statement M
+mark-spec =
+    tie.close
+    (tie.spec
+    Inv-loop
+    μ-loop
+    add-d
+    slice-read-d
+    cast-d
+    loop-holds
+    mul-held
+    add-held
+    add-held-2
+    slice-read-held
+    cast-held
+    add-at
+    slice-read-state
+    mark-bits-requires
+    slice-write-state
+    add-p
+    loop-less
+    loop-again
+    same-length
+    returns)

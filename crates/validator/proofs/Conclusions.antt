@@ -1,0 +1,90 @@
+-- What follows an accepted record, from what the called functions leave. Assumes nothing.
+use mathlib.Core.Path.{_≡_, refl, sym, ap, _∙_, subst}
+use mathlib.Core.Bool.{Bool, true, false, _||_, _&&_}
+use mathlib.Core.List.{List}
+use mathlib.Core.Logic.{_⊎_, inl, inr}
+use Prim.Native.Nat.{ℕ, suc, _+_, _*_, _<_, _≤_}
+use native.Mathlib.Omega.{arith}
+use lib.ListN.{length, getD, set, length-set}
+use lib.Seq.{getD-set-other}
+use Rattle.rules.specs.Limits.{coreCount, maxClasses}
+use Rattle.rules.specs.Context.{Frame, frameOf}
+use Rattle.rules.specs.HeldLocks.{HeldLock, Core, current, someHeld}
+use Rattle.rules.specs.Marks.{Marks, setIn, letterFits}
+use Rattle.rules.specs.Graph.{Dependencies, Graph}
+use Rattle.validity.specs.Valid.{ValidCore}
+use Rattle.layout.specs.Layout.{stateSize, closedAt, frameNumber, classesOf, stateOf}
+use Rattle.layout.specs.Encoding.{StateBytes, MatrixBytes, KeepsPast}
+use Rattle.context.proofs.Frames.{frame-less}
+use Rattle.update.specs.Update.{FrameBytes, MarkBytes, Marked}
+use Rattle.update.proofs.Cores.{frame-bytes, marks-changed, closed-changed}
+use Rattle.action.proofs.Bytes.{small-classes}
+use Rattle.search.specs.Rows.{Rows}
+use Rattle.search.specs.Reports.{Searched}
+use Rattle.search.specs.declared.Found.{Found}
+use Rattle.search.proofs.Reported.{found-cyclic}
+use Rattle.successors.specs.Successors.{Successors}
+use Rattle.report.specs.Shown.{Shown, entriesOf}
+use Rattle.validator.specs.Step.{Reported}
+use Rattle.validator.specs.Conclude.{withMarks, ConcludedOn, is-clean, is-fault, Concluded}
+
+module _ (state matrix report : List ℕ) (core : ℕ) (few : classesOf state ≤ maxClasses) (lc : core < coreCount)
+    (marked rows : List ℕ) (found : Found)
+    (M : Marked state (frameNumber core (frameOf (stateOf state core))) (stateOf state core) marked)
+    (Su : Successors marked matrix (classesOf state) rows) (Se : Searched (classesOf state) rows found) where
+  abbrev K : ℕ
+  K = classesOf state
+
+  keeps-marked : KeepsPast stateSize state marked
+  keeps-marked = record { long = M .keeps .long; past = λ j l. M .keeps .else j (inr (omega arith)) }
+
+  module _ (cores : ℕ → Core) (marks : Marks) (locks : Dependencies) (SB : StateBytes K false cores marks state)
+      (valid : (i : ℕ) → ValidCore K (cores i)) (MB : MatrixBytes K locks matrix) where
+    abbrev after : Marks
+    after = withMarks marks (cores core)
+
+    abbrev graph : Graph
+    graph = record { locks = locks; marks = withMarks marks (cores core) }
+
+    now-is : stateOf state core ≡ cores core .state
+    now-is = SB .states core lc
+
+    current-frame : FrameBytes state (frameNumber core (frameOf (stateOf state core))) (current (cores core))
+    current-frame =
+        subst (λ (x : ℕ). FrameBytes state (frameNumber core (frameOf x)) (current (cores core))) (sym now-is)
+        (frame-bytes SB core (frameOf (cores core .state)) lc (frame-less (cores core .state) (let v = valid core .states in omega arith)))
+
+    marked-bytes : StateBytes K false cores after marked
+    marked-bytes =
+        marks-changed SB (M .keeps)
+        (subst (λ (x : ℕ). MarkBytes marked (λ c l u. marks c l u || (setIn l u x && someHeld c (letterFits u) (current (cores core))))) now-is
+        (M .marked (current (cores core)) current-frame (small-classes few (cores core) (valid core) (frameOf (cores core .state))) marks
+        (record { usage = SB .usage })))
+
+    graph-rows : Rows K graph rows
+    graph-rows = Su .graph K false cores after locks refl marked-bytes MB
+
+  pub conclude-clean : found .n ≡ 0 → Concluded state matrix report core 0 marked report
+  conclude-clean z =
+      record {
+        concluded = λ cores marks locks SB valid MB.
+            is-clean (Se .none z (graph cores marks locks SB valid MB) (graph-rows cores marks locks SB valid MB)) (marked-bytes cores marks locks SB valid MB)
+            keeps-marked;
+      }
+
+  pub conclude-fault : (report′ : List ℕ) → (found .n ≡ 0 → ⊥) → Shown K marked matrix found report report′
+      → Concluded state matrix report core 1 (set marked closedAt 1) report′
+  conclude-fault report′ nz S =
+      record {
+        concluded = λ cores marks locks SB valid MB.
+            let r = graph-rows cores marks locks SB valid MB in
+            let b = marked-bytes cores marks locks SB valid MB in
+            is-fault (found-cyclic r Se (omega arith)) (closed-changed b)
+            (record { long = length-set marked closedAt 1 ∙ keeps-marked .long; past = λ j l. getD-set-other marked closedAt j 1 0 (λ e. omega arith) ∙ keeps-marked .past j l })
+            (record {
+              entries = entriesOf report′;
+              cycle = S .cycle false cores (after cores marks locks SB valid MB) locks rows b MB r Se;
+              bytes = S .bytes;
+              keeps = rw (sym (S .bytes .count) ∙ S .count) (S .keeps);
+            });
+      }

@@ -1,0 +1,3 @@
+pub mod Fitness
+pub mod Conclusions
+pub mod Outcomes

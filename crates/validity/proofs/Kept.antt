@@ -1,0 +1,251 @@
+-- Opening gives a valid state, and each record leaves a valid state valid. Assumes nothing.
+use mathlib.Core.Path.{_≡_, refl, sym}
+use mathlib.Core.Bool.{Bool, true, false, cond, _&&_, or-true, false≢true}
+use mathlib.Core.List.{List, [], _∷_, _++_, List·Memᴰ, List·Memᴰ·head, List·Memᴰ·tail}
+use mathlib.Core.Logic.{⊎-elim}
+use mathlib.Core.Option.{none}
+use Prim.Native.Nat.{ℕ, zero, suc, _≤_, _<_, zero-le, suc-le-suc}
+use native.Mathlib.Nat.{le-of-suc-le-suc, not-suc-le-zero}
+use native.Mathlib.Omega.{arith}
+use lib.Dec.{leb, eqb}
+use lib.ListN.{length, length-append}
+use borrow.Author.Tests.{leb-true, leb-false, le-leb, eqb-true}
+use Rattle.rules.specs.Limits.{maxDepth, kindCount, modeCount}
+use Rattle.rules.specs.Record.{Bytes, Event, acquire, release, interrupt, eventBy, coreOf, kindOf, classOf, modeOf, eventOf, isMalformed}
+use Rattle.rules.specs.Context.{CoreState, nextState, leavesHandler, Frame, soft, hard, frameOf, hardOverBothOn, hardOverSoft, taskSoftOff, softHardOn}
+use Rattle.rules.specs.HeldLocks.{First, HeldLock, someHeld, isHeld, releaseNewest, Core, current, withCurrent, afterEvent}
+use Rattle.rules.specs.Marks.{Level, hardIrq, softIrq, Usage, unsafe, setIn, letterFits, marksOf}
+use Rattle.rules.specs.Graph.{Kind, Graph, emptyGraph, addTo, drawnBy}
+use Rattle.rules.specs.Verdict.{Refusal, applies, malformed, noClass, noTransition, stillHeld, tooDeep, classMissing, transitionMissing, someLock, leavesLocked, frameFull, refusal}
+use Rattle.rules.specs.Run.{State, startingFrom, start, situation, accept, Outcome, step, run}
+use Rattle.rules.proofs.Booleans.{or-cases, or-left, or-mono, and-cases, and-mono}
+use Rattle.rules.proofs.Steps.{Stepped, was-refused, was-clean, was-fault, stepped, accepted-passes}
+use Rattle.validity.specs.Valid.{ValidLock, ValidLocks, mayHoldSoft, ValidCore, ValidGraph, Valid}
+use Rattle.validity.proofs.Contexts.{eventCount, FrameStates, soft-states, hard-states, current-may, next-in-range, next-may}
+
+-- ---- Held locks.
+
+no-locks : (K : ℕ) → ValidLocks K []
+no-locks K p d l = absurd (not-suc-le-zero l)
+
+cons-valid : (K : ℕ) (h : HeldLock) (hs : List HeldLock) → ValidLock K h → ValidLocks K hs → ValidLocks K (h ∷ hs)
+cons-valid K h hs v vs zero d l = v
+cons-valid K h hs v vs (suc p) d l = vs p d (le-of-suc-le-suc l)
+
+first-valid : (K : ℕ) (h : HeldLock) (hs : List HeldLock) → ValidLocks K (h ∷ hs) → ValidLock K h
+first-valid K h hs v = v zero h (suc-le-suc zero-le)
+
+rest-valid : (K : ℕ) (h : HeldLock) (hs : List HeldLock) → ValidLocks K (h ∷ hs) → ValidLocks K hs
+rest-valid K h hs v p d l = v (suc p) d (suc-le-suc l)
+
+-- The same by membership, both ways.
+pub member-valid : (K : ℕ) {h : HeldLock} {hs : List HeldLock} → ValidLocks K hs → List·Memᴰ h hs → ValidLock K h
+member-valid K v (List·Memᴰ·head {x = y} {xs} e) = rw e (first-valid K y xs v)
+member-valid K v (List·Memᴰ·tail {x = y} {xs} m) = member-valid K (rest-valid K y xs v) m
+
+pub members-valid : (K : ℕ) (hs : List HeldLock) → ((h : HeldLock) → List·Memᴰ h hs → ValidLock K h) → ValidLocks K hs
+members-valid K [] v = no-locks K
+members-valid K (h ∷ hs) v = cons-valid K h hs (v h (List·Memᴰ·head refl)) (members-valid K hs (λ y m. v y (List·Memᴰ·tail m)))
+
+append-valid : (K : ℕ) (hs : List HeldLock) (h : HeldLock) → ValidLocks K hs → ValidLock K h → ValidLocks K (hs ++ (h ∷ []))
+append-valid K [] h vs v = cons-valid K h [] v vs
+append-valid K (y ∷ hs) h vs v =
+    cons-valid K y (hs ++ (h ∷ [])) (first-valid K y hs vs) (append-valid K hs h (rest-valid K y hs vs) v)
+
+release-kept : (K c : ℕ) (hs : List HeldLock) → ValidLocks K hs
+    → (length (releaseNewest c hs) ≤ length hs) × ValidLocks K (releaseNewest c hs)
+release-kept K c [] vs = (zero-le, vs)
+release-kept K c (h ∷ hs) vs = by (isHeld c hs) (eqb c (h .class)) (release-kept K c hs (rest-valid K h hs vs))
+  where
+    by : (later here : Bool) → (length (releaseNewest c hs) ≤ length hs) × ValidLocks K (releaseNewest c hs)
+        → (length (cond later (h ∷ releaseNewest c hs) (cond here hs (h ∷ hs))) ≤ suc (length hs))
+        × ValidLocks K (cond later (h ∷ releaseNewest c hs) (cond here hs (h ∷ hs)))
+    by true here ih = (suc-le-suc (ih .0), cons-valid K h (releaseNewest c hs) (first-valid K h hs vs) (ih .1))
+    by false true ih = (omega arith, rest-valid K h hs vs)
+    by false false ih = (omega arith, vs)
+
+held-in-range : (K c : ℕ) (test : HeldLock → Bool) (hs : List HeldLock) → ValidLocks K hs → someHeld c test hs ≡ true → c < K
+held-in-range K c test [] vs h = absurd (false≢true h)
+held-in-range K c test (y ∷ hs) vs h =
+    ⊎-elim (λ e. rw (eqb-true c (y .class) (and-cases (eqb c (y .class)) (test y) e .0)) (first-valid K y hs vs .class))
+    (held-in-range K c test hs (rest-valid K y hs vs))
+    (or-cases (eqb c (y .class) && test y) (someHeld c test hs) h)
+
+-- ---- A core over one accepted event.
+
+no-lock : (hs : List HeldLock) → someLock hs ≡ false → 0 < length hs → ⊥
+no-lock [] h l = not-suc-le-zero l
+no-lock (y ∷ hs) h l = false≢true (sym h)
+
+-- What the form of a record says of its event.
+abbrev InLimits : Event → Type 0
+InLimits (acquire c m) = m < modeCount
+InLimits (release c) = Unit {0}
+InLimits (interrupt e) = e < eventCount
+
+event-in-limits : (k c m : ℕ) → k < kindCount → m < modeCount → InLimits (eventBy k c m)
+event-in-limits zero c m h l = l
+event-in-limits (suc zero) c m h l = tt
+event-in-limits (suc (suc k)) c m h l = omega arith
+
+well-formed : (r : Bytes) → isMalformed r ≡ false → InLimits (eventOf r)
+unfolding isMalformed
+well-formed r h = by (leb kindCount (kindOf r)) refl (leb modeCount (modeOf r)) refl
+  where
+    by : (b : Bool) → leb kindCount (kindOf r) ≡ b → (d : Bool) → leb modeCount (modeOf r) ≡ d → InLimits (eventOf r)
+    by true e d q = absurd (false≢true (sym (simp (e, or-true) at h)))
+    by false e true q = absurd (false≢true (sym (simp (q, or-true) at h)))
+    by false e false q =
+        event-in-limits (kindOf r) (classOf r) (modeOf r) (leb-false kindCount (kindOf r) e) (leb-false modeCount (modeOf r) q)
+
+-- The frame holds a lock only in the states that pass the test.
+record HeldOnlyIn (f : Frame) (may : CoreState → Bool) (c : Core) : Type 0 where
+  only : 0 < length (c .held f) → may (c .state) ≡ true
+
+module _ {f : Frame} {may : CoreState → Bool} (t : FrameStates f may) (c : Core) (s : c .state ≤ hardOverSoft) (v : HeldOnlyIn f may c) where
+  current-only : (hs : List HeldLock) → HeldOnlyIn f may (withCurrent c hs)
+  current-only hs = record { only = by (eqb f (frameOf (c .state))) refl }
+    where
+      by : (b : Bool) → eqb f (frameOf (c .state)) ≡ b → 0 < length (cond b hs (c .held f)) → may (c .state) ≡ true
+      by true e l = current-may t (c .state) s e
+      by false e l = v .only l
+
+  next-only : (e : ℕ) → e < eventCount → transitionMissing c (interrupt e) ≡ false → leavesLocked c (interrupt e) ≡ false
+      → HeldOnlyIn f may (afterEvent (interrupt e) c)
+  next-only e l m q = record { only = λ p. next-may t (c .state) e s l m (by (leavesHandler e) refl (eqb f (frameOf (c .state))) refl p) (v .only p) }
+    where
+      -- A handler is left only with its frame empty.
+      by : (leaves : Bool) → leavesHandler e ≡ leaves → (here : Bool) → eqb f (frameOf (c .state)) ≡ here → 0 < length (c .held f)
+          → (leaves && here) ≡ false
+      by true a true b p = absurd (no-lock (current c) (rw (a, m) at q) (rw (eqb-true f (frameOf (c .state)) b) at p))
+      by true a false b p = refl
+      by false a here b p = refl
+
+module _ (K : ℕ) (c : Core) (v : ValidCore K c) where
+  soft-only : HeldOnlyIn soft mayHoldSoft c
+  soft-only = record { only = v .soft-held }
+
+  hard-only : HeldOnlyIn hard (leb hardOverBothOn) c
+  hard-only = record { only = λ l. le-leb hardOverBothOn (c .state) (v .hard-held l) }
+
+  current-kept : (hs : List HeldLock) → length hs ≤ maxDepth → ValidLocks K hs → ValidCore K (withCurrent c hs)
+  current-kept hs l vs =
+      record {
+        states = v .states;
+        depths = λ f. depth (eqb f (frameOf (c .state))) f;
+        locks = λ f. lock (eqb f (frameOf (c .state))) f;
+        soft-held = current-only soft-states c (v .states) soft-only hs .only;
+        hard-held = λ p. leb-true hardOverBothOn (c .state) (current-only hard-states c (v .states) hard-only hs .only p);
+      }
+    where
+      depth : (b : Bool) (f : Frame) → length (cond b hs (c .held f)) ≤ maxDepth
+      depth true f = l
+      depth false f = v .depths f
+
+      lock : (b : Bool) (f : Frame) → ValidLocks K (cond b hs (c .held f))
+      lock true f = vs
+      lock false f = v .locks f
+
+  core-kept : (ev : Event) → InLimits ev → classMissing K ev ≡ false → transitionMissing c ev ≡ false → leavesLocked c ev ≡ false
+      → frameFull c ev ≡ false → ValidCore K (afterEvent ev c)
+  core-kept (acquire a m) i n t q d =
+      current-kept (current c ++ (record { class = a; mode = m } ∷ []))
+      (let p = leb-false maxDepth (length (current c)) d in rw length-append (omega arith))
+      (append-valid K (current c) (record { class = a; mode = m }) (v .locks (frameOf (c .state)))
+      (record { class = leb-false K a n; mode = i }))
+  core-kept (release a) i n t q d =
+      let p = release-kept K a (current c) (v .locks (frameOf (c .state))) in
+      current-kept (releaseNewest a (current c)) (let o = v .depths (frameOf (c .state)) in omega arith) (p .1)
+  core-kept (interrupt e) i n t q d =
+      record {
+        states = next-in-range soft-states (c .state) e (v .states) i t;
+        depths = v .depths;
+        locks = v .locks;
+        soft-held = next-only soft-states c (v .states) soft-only e i t q .only;
+        hard-held = λ p. leb-true hardOverBothOn (nextState (c .state) e) (next-only hard-states c (v .states) hard-only e i t q .only p);
+      }
+
+  -- The classes that a valid core marks, and those between which its event draws dependencies, are in range.
+  marked-in-range : (a : ℕ) (l : Level) (u : Usage) → marksOf c a l u ≡ true → a < K
+  marked-in-range a l u h = held-in-range K a (letterFits u) (current c) (v .locks (frameOf (c .state))) (and-cases (setIn l u (c .state)) _ h .1)
+
+  drawn-in-range : (ev : Event) → classMissing K ev ≡ false → (f t : ℕ) (k : Kind) → drawnBy ev c f t k ≡ true → (f < K) × (t < K)
+  drawn-in-range (acquire a m) n f t k h =
+      let p = and-cases _ _ h in (
+        held-in-range K f _ (current c) (v .locks (frameOf (c .state))) (p .1),
+        rw (eqb-true t a (and-cases _ _ (p .0) .0)) (leb-false K a n),
+      )
+  drawn-in-range (release a) n f t k h = absurd (false≢true h)
+  drawn-in-range (interrupt e) n f t k h = absurd (false≢true h)
+
+-- Soft-unsafe is set in one state, in which hard-unsafe is set too.
+marked-unsafe : (c : Core) (a : ℕ) (i : First) → marksOf c a softIrq (unsafe i) ≡ true → marksOf c a hardIrq (unsafe i) ≡ true
+marked-unsafe c a i =
+    and-mono (setIn softIrq (unsafe i) (c .state)) (someHeld a (letterFits (unsafe i)) (current c))
+    (λ h. or-left (eqb (c .state) softHardOn) (or-left (eqb (c .state) taskSoftOff) h))
+    (λ h. h)
+
+graph-kept : (K : ℕ) (g : Graph) (ev : Event) (c : Core) → ValidGraph K g → ValidCore K c → ValidCore K (afterEvent ev c)
+    → classMissing K ev ≡ false → ValidGraph K (addTo g (drawnBy ev c) (marksOf (afterEvent ev c)))
+graph-kept K g ev c w v after n =
+    record {
+      marks-in-range = λ a l u h.
+          ⊎-elim (w .marks-in-range a l u) (marked-in-range K (afterEvent ev c) after a l u) (or-cases (g .marks a l u) _ h);
+      soft-unsafe = λ a i. or-mono (g .marks a softIrq (unsafe i)) _ (w .soft-unsafe a i) (marked-unsafe (afterEvent ev c) a i);
+      locks-in-range = λ f t k h. ⊎-elim (w .locks-in-range f t k) (drawn-in-range K c v ev n f t k) (or-cases (g .locks f t k) _ h);
+    }
+
+-- ---- States.
+
+pub valid-startingFrom : (K : ℕ) (g : Graph) → ValidGraph K g → Valid K (startingFrom g)
+valid-startingFrom K g w =
+    record {
+      cores = λ i. record {
+        states = zero-le;
+        depths = λ f. zero-le;
+        locks = λ f. no-locks K;
+        soft-held = λ l. absurd (not-suc-le-zero l);
+        hard-held = λ l. absurd (not-suc-le-zero l);
+      };
+      graph = w;
+    }
+
+pub valid-start : (K : ℕ) → Valid K start
+valid-start K =
+    valid-startingFrom K emptyGraph
+    (record {
+      marks-in-range = λ c l u h. absurd (false≢true h);
+      soft-unsafe = λ c a h. absurd (false≢true h);
+      locks-in-range = λ f t k h. absurd (false≢true h);
+    })
+
+pub valid-accept : (K : ℕ) (s : State) (r : Bytes) → Valid K s → refusal (situation K s r) ≡ none → Valid K (accept s r)
+valid-accept K s r v h =
+    record {
+      cores = λ i. by (eqb i (coreOf r)) i;
+      graph = graph-kept K (s .graph) (eventOf r) (s .cores (coreOf r)) (v .graph) (v .cores (coreOf r)) after (passes noClass);
+    }
+  where
+    passes : (x : Refusal) → applies x (situation K s r) ≡ false
+    passes x = accepted-passes (situation K s r) x h
+
+    after : ValidCore K (afterEvent (eventOf r) (s .cores (coreOf r)))
+    after =
+        core-kept K (s .cores (coreOf r)) (v .cores (coreOf r)) (eventOf r) (well-formed r (passes malformed)) (passes noClass)
+        (passes noTransition) (passes stillHeld) (passes tooDeep)
+
+    by : (b : Bool) (i : ℕ) → ValidCore K (cond b (afterEvent (eventOf r) (s .cores (coreOf r))) (s .cores i))
+    by true i = after
+    by false i = v .cores i
+
+stepped-valid : {K : ℕ} {s : State} {r : Bytes} {o : Outcome} → Stepped K s r o → Valid K s → Valid K (o .state)
+stepped-valid (was-refused x e) v = v
+stepped-valid {K} {s} {r} (was-clean e q) v = valid-accept K s r v e
+stepped-valid {K} {s} {r} (was-fault e q) v = let w = valid-accept K s r v e in record { cores = w .cores; graph = w .graph }
+
+pub valid-step : (K : ℕ) (s : State) (r : Bytes) → Valid K s → Valid K (step K s r .state)
+valid-step K s r v = stepped-valid (stepped K s r) v
+
+pub valid-run : (K : ℕ) (s : State) (rs : List Bytes) → Valid K s → Valid K (run K s rs)
+valid-run K s [] v = v
+valid-run K s (r ∷ rs) v = valid-run K (step K s r .state) rs (valid-step K s r v)

@@ -1,0 +1,42 @@
+-- What every state of a run satisfies: the limits, where locks may be held, and what the dependency graph names.
+use mathlib.Core.Path.{_≡_}
+use mathlib.Core.Bool.{Bool, true, _||_}
+use mathlib.Core.List.{List}
+use Prim.Native.Nat.{ℕ, _≤_, _<_}
+use lib.Dec.{eqb}
+use lib.ListN.{length, getD}
+use Rattle.rules.specs.Limits.{maxDepth, modeCount}
+use Rattle.rules.specs.Context.{CoreState, softHardOn, softHardOff, hardOverBothOn, hardOverSoft, Frame, soft, hard}
+use Rattle.rules.specs.HeldLocks.{First, HeldLock, Core}
+use Rattle.rules.specs.Marks.{Level, hardIrq, softIrq, Usage, unsafe}
+use Rattle.rules.specs.Graph.{Kind, Graph}
+use Rattle.rules.specs.Run.{State}
+
+pub record ValidLock (K : ℕ) (h : HeldLock) : Type 0 where
+  pub class : h .class < K
+  pub mode : h .mode < modeCount
+
+-- By index, whatever the default past the end.
+abbrev pub ValidLocks : ℕ → List HeldLock → Type 0
+ValidLocks K hs = (p : ℕ) (d : HeldLock) → p < length hs → ValidLock K (getD hs p d)
+
+-- The states in which the soft frame may hold a lock: a soft interrupt handler, and a hard one that interrupted it.
+abbrev pub mayHoldSoft : CoreState → Bool
+mayHoldSoft s = eqb s softHardOn || eqb s softHardOff || eqb s hardOverSoft
+
+pub record ValidCore (K : ℕ) (c : Core) : Type 0 where
+  pub states : c .state ≤ hardOverSoft
+  pub depths : (f : Frame) → length (c .held f) ≤ maxDepth
+  pub locks : (f : Frame) → ValidLocks K (c .held f)
+  pub soft-held : 0 < length (c .held soft) → mayHoldSoft (c .state) ≡ true
+  pub hard-held : 0 < length (c .held hard) → hardOverBothOn ≤ c .state
+
+pub record ValidGraph (K : ℕ) (g : Graph) : Type 0 where
+  pub marks-in-range : (c : ℕ) (l : Level) (u : Usage) → g .marks c l u ≡ true → c < K
+  -- A class that is soft-unsafe is hard-unsafe by the same letter.
+  pub soft-unsafe : (c : ℕ) (a : First) → g .marks c softIrq (unsafe a) ≡ true → g .marks c hardIrq (unsafe a) ≡ true
+  pub locks-in-range : (f t : ℕ) (k : Kind) → g .locks f t k ≡ true → (f < K) × (t < K)
+
+pub record Valid (K : ℕ) (s : State) : Type 0 where
+  pub cores : (i : ℕ) → ValidCore K (s .cores i)
+  pub graph : ValidGraph K (s .graph)
