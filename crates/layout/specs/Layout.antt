@@ -37,8 +37,15 @@ stateSize = heldAt + maxDepth * frameCount
 abbrev pub matrixSize : ℕ → ℕ
 matrixSize K = K * K
 
+-- The report has a count, and an entry for each dependency of the cycle.
+abbrev pub entriesAt : ℕ
+entriesAt = 1
+
+abbrev pub entrySize : ℕ
+entrySize = 3
+
 abbrev pub reportSize : ℕ → ℕ
-reportSize K = 1 + 3 * K
+reportSize K = entriesAt + entrySize * K
 
 -- The number of a core's frame: "core 0 task, soft, hard, then core 1 and so on".
 abbrev pub frameNumber : ℕ → Frame → ℕ

@@ -23,3 +23,8 @@ pub const MARKS_AT: usize = DEPTHS_AT + FRAMES;
 pub const HELD_AT: usize = MARKS_AT + MAX_CLASSES;
 
 pub const STATE_SIZE: usize = HELD_AT + MAX_DEPTH * FRAMES;
+
+// The report: a count, and an entry for each dependency of the cycle.
+pub const ENTRIES_AT: usize = 1;
+
+pub const ENTRY_SIZE: usize = 3;

@@ -9,6 +9,7 @@ use native.Mathlib.Decide.{ℕ-discrete}
 use native.Mathlib.Omega.{arith}
 use lib.Dec.{eqb}
 use lib.ListN.{length, getD, take}
+use borrow.Author.Tests.{leb-true}
 use Rattle.words.specs.Pack.{flag}
 use Rattle.rules.specs.Limits.{coreCount, maxClasses, maxDepth}
 use Rattle.rules.specs.Record.{Bytes}
@@ -85,6 +86,29 @@ module _ (state matrix report bytes : List ℕ) {a b : ℕ} {state₁ state₂ m
             matrix-is = x .2 ∙ sym (y .2);
             report-is = λ n. x .3 ∙ sym (y .3);
           }
+
+-- ---- Fit buffers, from wherever they come.
+
+-- They hold the state that they encode, and are judged as they stand.
+pub fit-holds : (b : Buffers) → AllBytes (b .state) → fitsAll (b .state) (b .matrix) (b .report) ≡ true
+    → Holds (classesOf (b .state)) (view (b .state) (b .matrix)) b
+unfolding fitsAll
+fit-holds b small e =
+    let p = and-cases (fits (b .state) (b .matrix)) _ e in
+    let f = facts (b .state) (b .matrix) (p .0) in
+    record {
+      some = f .some;
+      few = f .few;
+      valid = fit-valid (b .state) (b .matrix) (p .0);
+      encodes = fit-encodes (b .state) (b .matrix) (p .0) small;
+      room = leb-true _ _ (p .1);
+    }
+
+-- A step keeps fit buffers fit.
+pub fit-kept : {b b′ : Buffers} {r : Bytes} {answer : ℕ} → AllBytes (b .state) → fitsAll (b .state) (b .matrix) (b .report) ≡ true
+    → Stepped (b .state) (b .matrix) (b .report) r answer (b′ .state) (b′ .matrix) (b′ .report)
+    → fitsAll (b′ .state) (b′ .matrix) (b′ .report) ≡ true
+fit-kept {b} {b′} small e t = let h = fit-holds b small e in held-fit (step-holds {b′ = b′} h (judged-by h {b′ = b′} t))
 
 -- ---- Demand 1.
 

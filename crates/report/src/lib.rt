@@ -1,4 +1,6 @@
 // The report of a cycle: byte 0 is the number of its dependencies, and each has three bytes: class, kind, source.
+use layout::ENTRIES_AT;
+use layout::ENTRY_SIZE;
 use layout::MARKS_AT;
 use search::Found;
 ghost use mathlib.Core.Path.{_≡_};
@@ -84,7 +86,7 @@ fn put(report: &mut [u8], i: usize, class: u8, kind: u8, source: u8)
     requires { ⌜ (i < 64) × (1 + 3 * i + 3 ≤ length (now report)) ⌝ }
     ensures { λ _. ⌜ Written (now (report .entry)) i class kind source (now (report .exit)) ⌝ }
 {
-    let at = 1 + 3 * i;
+    let at = ENTRIES_AT + ENTRY_SIZE * i;
     report[at] = class;
     report[at + 1] = kind;
     report[at + 2] = source;

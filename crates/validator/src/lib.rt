@@ -4,6 +4,8 @@ use action::frame_of;
 use fit::fits;
 use layout::CLASSES_AT;
 use layout::CLOSED_AT;
+use layout::ENTRIES_AT;
+use layout::ENTRY_SIZE;
 use layout::STATES_AT;
 use record::CORE_AT;
 use record::is_malformed;
@@ -52,7 +54,7 @@ pub fn step(state: &mut [u8], matrix: &mut [u8], report: &mut [u8], bytes: &[u8]
     if !fits(state, matrix) {
         return UNFIT;
     }
-    if report.len() < 1 + 3 * (state[CLASSES_AT] as usize) {
+    if report.len() < ENTRIES_AT + ENTRY_SIZE * (state[CLASSES_AT] as usize) {
         return UNFIT;
     }
     if state[CLOSED_AT] == 1 {
