@@ -34,10 +34,10 @@ use Rattle.fit.proofs.Settled.{settled-state-after, settled-matrix-after}
 use Rattle.update.proofs.Prefixes.{none as unheld, lock-at}
 use Rattle.update.proofs.Cores.{frame-bytes}
 use Rattle.action.proofs.Bytes.{small-classes}
-use Rattle.validator.specs.Step.{Reported, Judged, Stepped}
+use Rattle.validator.specs.Step.{Reported, Validated, Stepped}
 use Rattle.plungerowl.specs.Runs.{Buffers, Ran, none, call, Opening}
-use Rattle.plungerowl.specs.Demands.{ClosedByFault, Drawn, Judging, standingBelow, standingIn, Balanced}
-use Rattle.plungerowl.proofs.Runs.{Holds, held-fit, judged-by, step-holds, run-holds, run-answers, opening-holds}
+use Rattle.plungerowl.specs.Demands.{ClosedByFault, Drawn, Verdict, standingBelow, standingIn, Balanced}
+use Rattle.plungerowl.proofs.Runs.{Holds, held-fit, validated-by, step-holds, run-holds, run-answers, opening-holds}
 
 -- ---- The contract settles the number and every byte.
 
@@ -53,9 +53,9 @@ pub record Settled (answer answer′ : ℕ) (state state′ matrix matrix′ rep
 
 module _ (state matrix report bytes : List ℕ) {a b : ℕ} {state₁ state₂ matrix₁ matrix₂ report₁ report₂ : List ℕ}
     (p : Stepped state matrix report bytes a state₁ matrix₁ report₁) (q : Stepped state matrix report bytes b state₂ matrix₂ report₂) where
-  both-judged : {s : State} → fits state matrix ≡ true → Judged (classesOf state) s bytes state matrix report a state₁ matrix₁ report₁
-      → Judged (classesOf state) s bytes state matrix report b state₂ matrix₂ report₂ → Settled a b state₁ state₂ matrix₁ matrix₂ report₁ report₂
-  both-judged {s} f x y =
+  both-validated : {s : State} → fits state matrix ≡ true → Validated (classesOf state) s bytes state matrix report a state₁ matrix₁ report₁
+      → Validated (classesOf state) s bytes state matrix report b state₂ matrix₂ report₂ → Settled a b state₁ state₂ matrix₁ matrix₂ report₁ report₂
+  both-validated {s} f x y =
       let o = step (classesOf state) s bytes .state in
       let e : a ≡ b = x .number-is ∙ sym (y .number-is) in
       record {
@@ -76,7 +76,7 @@ module _ (state matrix report bytes : List ℕ) {a b : ℕ} {state₁ state₂ m
           let f : fits state matrix ≡ true = and-cases (fits state matrix) _ e .0 in
           let v = fit-valid state matrix f in
           let c = fit-encodes state matrix f bytes-small in
-          both-judged f (p .judged e (view state matrix) v c) (q .judged e (view state matrix) v c)
+          both-validated f (p .validated e (view state matrix) v c) (q .validated e (view state matrix) v c)
       by false e =
           let x = p .unfit e in
           let y = q .unfit e in
@@ -108,7 +108,7 @@ fit-holds b small e =
 pub fit-kept : {b b′ : Buffers} {r : Bytes} {answer : ℕ} → AllBytes (b .state) → fitsAll (b .state) (b .matrix) (b .report) ≡ true
     → Stepped (b .state) (b .matrix) (b .report) r answer (b′ .state) (b′ .matrix) (b′ .report)
     → fitsAll (b′ .state) (b′ .matrix) (b′ .report) ≡ true
-fit-kept {b} {b′} small e t = let h = fit-holds b small e in held-fit (step-holds {b′ = b′} h (judged-by h {b′ = b′} t))
+fit-kept {b} {b′} small e t = let h = fit-holds b small e in held-fit (step-holds {b′ = b′} h (validated-by h {b′ = b′} t))
 
 -- ---- Demand 1.
 
@@ -134,7 +134,7 @@ closed-by-fault state matrix report bytes {answer} {state′} small t = record {
         let s = view state matrix in
         let f : fits state matrix ≡ true = and-cases (fits state matrix) _ e .0 in
         let c = fit-encodes state matrix f small in
-        let j = t .judged e s (fit-valid state matrix f) c in
+        let j = t .validated e s (fit-valid state matrix f) c in
         let w = closed-by (stepped K s bytes) (open-flag (s .is-closed) (sym (c .in-state .closed) ∙ z)) in
         (λ q. j .number-is ∙ w .0 (sym (j .encodes .in-state .closed) ∙ q), λ q. j .encodes .in-state .closed ∙ w .1 (sym (j .number-is) ∙ q))
     by z false e =
@@ -165,11 +165,11 @@ inside-last : (rs : List Bytes) (r : Bytes) → length rs < length (rs ++ (r ∷
 inside-last [] r = omega arith
 inside-last (x ∷ rs) r = let h = inside-last rs r in omega arith
 
-pub run-judging : {K : ℕ} {b b′ b″ : Buffers} {rs : List Bytes} {given : List ℕ} {r : Bytes} {answer : ℕ} → Opening K b → Ran b rs given b′
+pub run-verdict : {K : ℕ} {b b′ b″ : Buffers} {rs : List Bytes} {given : List ℕ} {r : Bytes} {answer : ℕ} → Opening K b → Ran b rs given b′
     → Stepped (b′ .state) (b′ .matrix) (b′ .report) r answer (b″ .state) (b″ .matrix) (b″ .report)
-    → Judging K (rs ++ (r ∷ [])) (length rs) answer (b′ .report) (b″ .report)
-run-judging {K} {b′} {b″} {rs} {r} {answer} o w t =
-    let j = judged-by (run-holds (opening-holds o) w) {b′ = b″} t in
+    → Verdict K (rs ++ (r ∷ [])) (length rs) answer (b′ .report) (b″ .report)
+run-verdict {K} {b′} {b″} {rs} {r} {answer} o w t =
+    let j = validated-by (run-holds (opening-holds o) w) {b′ = b″} t in
     let e : getD (answers K start (rs ++ (r ∷ []))) (length rs) 0 ≡ answer = answer-last K start rs r ∙ sym (j .number-is) in
     let g : step K (run K start rs) r .state .graph ≡ graphAt K emptyGraph (rs ++ (r ∷ [])) (length rs) =
     ap (λ (s : State). s .graph) (sym (run-last K start rs r)) ∙ ap (λ (l : List Bytes). run K start l .graph) (sym (take-all rs r)) in

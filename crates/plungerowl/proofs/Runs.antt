@@ -25,7 +25,7 @@ use Rattle.layout.specs.Fit.{classesFit, fits, fitsAll}
 use Rattle.fit.proofs.Fitting.{encodes-fit}
 use Rattle.opening.specs.Open.{opens, answerBy, bytesBy, openedState, openedMatrix, Opened}
 use Rattle.opening.proofs.Opens.{open-encodes}
-use Rattle.validator.specs.Step.{Judged, Stepped}
+use Rattle.validator.specs.Step.{Validated, Stepped}
 use Rattle.plungerowl.specs.Runs.{Buffers, Ran, none, call, Opening}
 
 -- The buffers encode a state of the rules, and the step will judge it.
@@ -44,20 +44,20 @@ module _ {K : ℕ} {s : State} {b : Buffers} (h : Holds K s b) where
       and-both (encodes-fit K s (b .state) (b .matrix) (h .some) (h .few) (h .valid) (h .encodes))
       (rw e (le-leb (reportSize K) (length (b .report)) (h .room)))
 
-  pub judged-by : {r : Bytes} {answer : ℕ} {b′ : Buffers}
+  pub validated-by : {r : Bytes} {answer : ℕ} {b′ : Buffers}
       → Stepped (b .state) (b .matrix) (b .report) r answer (b′ .state) (b′ .matrix) (b′ .report)
-      → Judged K s r (b .state) (b .matrix) (b .report) answer (b′ .state) (b′ .matrix) (b′ .report)
-  judged-by {r} {answer} {b′} t =
-      subst (λ (k : ℕ). Valid k s → Encodes k s (b .state) (b .matrix) → Judged k s r (b .state) (b .matrix) (b .report) answer (b′ .state) (b′ .matrix) (b′ .report))
-      (h .encodes .in-state .classes) (t .judged held-fit s) (h .valid) (h .encodes)
+      → Validated K s r (b .state) (b .matrix) (b .report) answer (b′ .state) (b′ .matrix) (b′ .report)
+  validated-by {r} {answer} {b′} t =
+      subst (λ (k : ℕ). Valid k s → Encodes k s (b .state) (b .matrix) → Validated k s r (b .state) (b .matrix) (b .report) answer (b′ .state) (b′ .matrix) (b′ .report))
+      (h .encodes .in-state .classes) (t .validated held-fit s) (h .valid) (h .encodes)
 
 report-long : {K : ℕ} {s : State} {r : Bytes} {state matrix report state′ matrix′ report′ : List ℕ} {answer : ℕ}
-    → Judged K s r state matrix report answer state′ matrix′ report′ → length report′ ≡ length report
+    → Validated K s r state matrix report answer state′ matrix′ report′ → length report′ ≡ length report
 report-long {answer} j =
     elim (ℕ-discrete answer 1) [ yes e ↦ j .reported e .keeps .long | no n ↦ ap length (j .unreported n) ]
 
 pub step-holds : {K : ℕ} {s : State} {b b′ : Buffers} {r : Bytes} {answer : ℕ} → Holds K s b
-    → Judged K s r (b .state) (b .matrix) (b .report) answer (b′ .state) (b′ .matrix) (b′ .report) → Holds K (step K s r .state) b′
+    → Validated K s r (b .state) (b .matrix) (b .report) answer (b′ .state) (b′ .matrix) (b′ .report) → Holds K (step K s r .state) b′
 step-holds {K} {s} {r} h j =
     let l = report-long j in
     let m = h .room in
@@ -65,12 +65,12 @@ step-holds {K} {s} {r} h j =
 
 pub run-holds : {K : ℕ} {s : State} {b b′ : Buffers} {rs : List Bytes} {given : List ℕ} → Holds K s b → Ran b rs given b′ → Holds K (run K s rs) b′
 run-holds h none = h
-run-holds h (call t w) = run-holds (step-holds h (judged-by h t)) w
+run-holds h (call t w) = run-holds (step-holds h (validated-by h t)) w
 
 pub run-answers : {K : ℕ} {s : State} {b b′ : Buffers} {rs : List Bytes} {given : List ℕ} → Holds K s b → Ran b rs given b′ → given ≡ answers K s rs
 run-answers h none = refl
 run-answers h (call t w) =
-    let j = judged-by h t in
+    let j = validated-by h t in
     ap₂ {C = List ℕ} _∷_ (j .number-is) (run-answers (step-holds h j) w)
 
 opened-true : {K : ℕ} {state matrix state′ matrix′ : List ℕ} → Opened K state matrix 0 state′ matrix′ → opens K state matrix ≡ true

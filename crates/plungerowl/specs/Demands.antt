@@ -30,7 +30,7 @@ pub record Drawn (K : ℕ) (rs : List Bytes) (b : Buffers) : Type 0 where
 
 -- Demand 2, of the last record of a run: it is accepted with a fault exactly when the graph then has a closed strong path, and with the fault
 -- comes a cycle of that graph.
-pub record Judging (K : ℕ) (rs : List Bytes) (i answer : ℕ) (report report′ : List ℕ) : Type 0 where
+pub record Verdict (K : ℕ) (rs : List Bytes) (i answer : ℕ) (report report′ : List ℕ) : Type 0 where
   pub fault-exactly : (answer ≡ 0) ⊎ (answer ≡ 1) → (answer ≡ 1) ↔ ClosedStrongPath K (graphAt K emptyGraph rs i)
   pub cycle : answer ≡ 1 → Reported K (graphAt K emptyGraph rs i) report report′
 

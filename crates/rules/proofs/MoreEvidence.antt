@@ -18,7 +18,7 @@ use Rattle.rules.specs.Graph.{Graph, drawnBy}
 use Rattle.rules.specs.StrongPath.{ClosedStrongPath}
 use Rattle.rules.specs.Decision.{cyclic}
 use Rattle.rules.specs.Verdict.{Refusal, malformed, number, Situation, refusal}
-use Rattle.rules.specs.Run.{State, startingFrom, situation, acceptOn, accept, Outcome, judged, settled, step, answers, graphAt}
+use Rattle.rules.specs.Run.{State, startingFrom, situation, acceptOn, accept, Outcome, decided, settled, step, answers, graphAt}
 use Rattle.rules.specs.TwoRuns.{NamedIn, Foreign, Interleaved, done, keep, insert, place, FaultBy, MoreEvidence}
 use Rattle.rules.proofs.Decided.{cyclic-sound}
 use Rattle.rules.proofs.Monotone.{Within, within-self, within-more, within-both, cyclic-mono}
@@ -40,11 +40,11 @@ module _ (K : ℕ) (whole : List Bytes) where
     alike : number (o₂ .answer) ≡ number (o₁ .answer) → Along (o₁ .state) (o₂ .state) → Together o₁ o₂
     faulted : number (o₂ .answer) ≡ 1 → o₂ .state .is-closed ≡ true → (number (o₁ .answer) ≡ 0) ⊎ (number (o₁ .answer) ≡ 1) → Together o₁ o₂
 
-  both-judged : {t₁ t₂ : State} → Along t₁ t₂ → (b₁ b₂ : Bool) → (b₁ ≡ true → b₂ ≡ true) → Together (judged b₁ t₁) (judged b₂ t₂)
-  both-judged a false false m = alike refl a
-  both-judged a false true m = faulted refl refl (inl refl)
-  both-judged a true true m = faulted refl refl (inr refl)
-  both-judged a true false m = absurd (false≢true (m refl))
+  both-decided : {t₁ t₂ : State} → Along t₁ t₂ → (b₁ b₂ : Bool) → (b₁ ≡ true → b₂ ≡ true) → Together (decided b₁ t₁) (decided b₂ t₂)
+  both-decided a false false m = alike refl a
+  both-decided a false true m = faulted refl refl (inl refl)
+  both-decided a true true m = faulted refl refl (inr refl)
+  both-decided a true false m = absurd (false≢true (m refl))
 
   both-accept : (core : Core) (r : Bytes) {s₁ s₂ : State} → Along s₁ s₂ → Along (acceptOn core s₁ r) (acceptOn core s₂ r)
   both-accept core r a =
@@ -61,7 +61,7 @@ module _ (K : ℕ) (whole : List Bytes) where
   both-settled r {s₁} {s₂} a q none =
       let t : Along (accept s₁ r) (accept s₂ r) =
       subst (λ (c : Core). Along (accept s₁ r) (acceptOn c s₂ r)) q (both-accept (s₁ .cores (coreOf r)) r a) in
-      both-judged t (cyclic K (accept s₁ r .graph)) (cyclic K (accept s₂ r .graph)) (cyclic-mono (t .within) K)
+      both-decided t (cyclic K (accept s₁ r .graph)) (cyclic K (accept s₂ r .graph)) (cyclic-mono (t .within) K)
 
   -- A malformed record is refused with 3 whatever the cores are; any other names its core, which is the same in both runs.
   malformed-refused : (s : State) (r : Bytes) → s .is-closed ≡ false → isMalformed r ≡ true → refusal (situation K s r) ≡ some malformed
@@ -84,9 +84,9 @@ module _ (K : ℕ) (whole : List Bytes) where
     apart : Along s₁ (o₂ .state) → Aside s₁ o₂
     faulted : number (o₂ .answer) ≡ 1 → o₂ .state .is-closed ≡ true → Aside s₁ o₂
 
-  aside-judged : {s₁ t₂ : State} → Along s₁ t₂ → (b₂ : Bool) → Aside s₁ (judged b₂ t₂)
-  aside-judged a false = apart a
-  aside-judged a true = faulted refl refl
+  aside-decided : {s₁ t₂ : State} → Along s₁ t₂ → (b₂ : Bool) → Aside s₁ (decided b₂ t₂)
+  aside-decided a false = apart a
+  aside-decided a true = faulted refl refl
 
   aside-accept : (r : Bytes) {s₁ s₂ : State} → Along s₁ s₂ → (NamedIn whole (coreOf r) → ⊥) → Along s₁ (accept s₂ r)
   aside-accept r {s₁} {s₂} a out =
@@ -99,7 +99,7 @@ module _ (K : ℕ) (whole : List Bytes) where
 
   aside-settled : (r : Bytes) {s₁ s₂ : State} → Along s₁ s₂ → (NamedIn whole (coreOf r) → ⊥) → (x : Option Refusal) → Aside s₁ (settled K s₂ r x)
   aside-settled r a out (some x) = apart a
-  aside-settled r {s₂} a out none = aside-judged (aside-accept r a out) (cyclic K (accept s₂ r .graph))
+  aside-settled r {s₂} a out none = aside-decided (aside-accept r a out) (cyclic K (accept s₂ r .graph))
 
   aside-step : (r : Bytes) {s₁ s₂ : State} → Along s₁ s₂ → Foreign whole r → Aside s₁ (step K s₂ r)
   aside-step r {s₁} {s₂} a f = by (isMalformed r) refl

@@ -13,7 +13,7 @@ use Rattle.rules.specs.Graph.{Graph}
 use Rattle.rules.specs.StrongPath.{ClosedStrongPath}
 use Rattle.rules.specs.Decision.{cyclic}
 use Rattle.rules.specs.Verdict.{Refusal, unfit, closed, malformed, noClass, noTransition, stillHeld, notHeld, tooDeep, Answer, clean, fault, refused, refusalNumber, number, order, Situation, applies, firstThatApplies, refusal}
-use Rattle.rules.specs.Run.{State, startingFrom, situation, accept, close, Outcome, settled, judged, step, answers, run, graphAt}
+use Rattle.rules.specs.Run.{State, startingFrom, situation, accept, close, Outcome, settled, decided, step, answers, run, graphAt}
 use Rattle.rules.specs.TwoRuns.{FaultBy}
 use Rattle.rules.proofs.Decided.{cyclic-sound, cyclic-complete}
 

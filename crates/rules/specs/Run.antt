@@ -51,13 +51,13 @@ pub record Outcome : Type 0 where
   pub state : State
 
 -- "accepted, a closed strong path exists": the answer is a fault and the validator is closed.
-abbrev pub judged : Bool → State → Outcome
-judged true s = record { answer = fault; state = close s }
-judged false s = record { answer = clean; state = s }
+abbrev pub decided : Bool → State → Outcome
+decided true s = record { answer = fault; state = close s }
+decided false s = record { answer = clean; state = s }
 
 abbrev pub settled : ℕ → State → Bytes → Option Refusal → Outcome
 settled K s r (some x) = record { answer = refused x; state = s }
-settled K s r none = let t = accept s r in judged (cyclic K (t .graph)) t
+settled K s r none = let t = accept s r in decided (cyclic K (t .graph)) t
 
 abbrev pub step : ℕ → State → Bytes → Outcome
 step K s r = settled K s r (refusal (situation K s r))

@@ -25,14 +25,14 @@ use Rattle.layout.specs.Encoding.{StateBytes, MatrixBytes, Encodes, KeepsPast}
 use Rattle.layout.specs.Fit.{fits, fitsAll}
 use Rattle.layout.proofs.Buffers.{keeps-self, keeps-both}
 use Rattle.action.specs.Action.{ActedOn, refuses, accepts, Acted, Cored}
-use Rattle.validator.specs.Step.{Reported, Judged, Stepped}
+use Rattle.validator.specs.Step.{Reported, Validated, Stepped}
 use Rattle.validator.specs.Conclude.{withMarks, ConcludedOn, is-clean, is-fault, Concluded}
 
 -- ---- Unfit.
 
 module _ (state matrix report bytes : List ℕ) where
   unfit-law : fitsAll state matrix report ≡ false → Stepped state matrix report bytes 11 state matrix report
-  unfit-law f = record { unfit = λ h. (refl, refl, refl, refl); judged = λ h. absurd (true≢false (sym h ∙ f)) }
+  unfit-law f = record { unfit = λ h. (refl, refl, refl, refl); validated = λ h. absurd (true≢false (sym h ∙ f)) }
 
   pub unfit-buffers : fits state matrix ≡ false → Stepped state matrix report bytes 11 state matrix report
   unfolding fitsAll
@@ -49,16 +49,16 @@ module _ (state matrix report bytes : List ℕ) where
 
   module _ (f : fits state matrix ≡ true) (room : reportSize K ≤ length report) where
     fit-law : {answer : ℕ} {state′ matrix′ report′ : List ℕ}
-        → ((s : State) → Valid K s → Encodes K s state matrix → Judged K s bytes state matrix report answer state′ matrix′ report′)
+        → ((s : State) → Valid K s → Encodes K s state matrix → Validated K s bytes state matrix report answer state′ matrix′ report′)
         → Stepped state matrix report bytes answer state′ matrix′ report′
     unfolding fitsAll
     fit-law j =
         let all : fitsAll state matrix report ≡ true = rw (f, le-leb (reportSize (classesOf state)) (length report) room) refl in
-        record { unfit = λ h. absurd (true≢false (sym all ∙ h)); judged = λ h. j }
+        record { unfit = λ h. absurd (true≢false (sym all ∙ h)); validated = λ h. j }
 
-    refused-judged : (s : State) (x : Refusal) → step K s bytes ≡ record { answer = refused x; state = s } → Encodes K s state matrix
-        → Judged K s bytes state matrix report (refusalNumber x) state matrix report
-    refused-judged s x e enc =
+    refused-validated : (s : State) (x : Refusal) → step K s bytes ≡ record { answer = refused x; state = s } → Encodes K s state matrix
+        → Validated K s bytes state matrix report (refusalNumber x) state matrix report
+    refused-validated s x e enc =
         let n = refused-number x in
         record {
           number-is = sym (ap (λ (o : Outcome). number (o .answer)) e);
@@ -83,7 +83,7 @@ module _ (state matrix report bytes : List ℕ) where
 
     pub is-closed : closedOf state ≡ 1 → Stepped state matrix report bytes 10 state matrix report
     is-closed e =
-        fit-law (λ s v enc. refused-judged s closed (closed-step K s bytes (closed-flag (s .is-closed) (sym (enc .in-state .closed) ∙ e))) enc)
+        fit-law (λ s v enc. refused-validated s closed (closed-step K s bytes (closed-flag (s .is-closed) (sym (enc .in-state .closed) ∙ e))) enc)
 
     module _ (open-state : closedOf state ≡ 1 → ⊥) where
       opened : (s : State) → Encodes K s state matrix → s .is-closed ≡ false
@@ -95,7 +95,7 @@ module _ (state matrix report bytes : List ℕ) where
 
       pub is-malformed : isMalformed bytes ≡ true → Stepped state matrix report bytes 3 state matrix report
       is-malformed h =
-          fit-law (λ s v enc. refused-judged s malformed (refusal-step s malformed (malformed-first s (opened s enc) h)) enc)
+          fit-law (λ s v enc. refused-validated s malformed (refusal-step s malformed (malformed-first s (opened s enc) h)) enc)
 
       -- ---- The record's event.
 
@@ -129,10 +129,10 @@ module _ (state matrix report bytes : List ℕ) where
           fit-law
           (λ s v enc.
           let r = refused-as (a .acted s (opened s enc) v enc) n in
-          subst (λ (k : ℕ). Judged K s bytes state matrix report k state′ matrix′ report) (sym (r .number-is))
-          (subst (λ (l : List ℕ). Judged K s bytes state matrix report (refusalNumber (r .by)) l matrix′ report) (sym (r .same-state))
-          (subst (λ (l : List ℕ). Judged K s bytes state matrix report (refusalNumber (r .by)) state l report) (sym (r .same-matrix))
-          (refused-judged s (r .by) (refusal-step s (r .by) (r .is)) enc))))
+          subst (λ (k : ℕ). Validated K s bytes state matrix report k state′ matrix′ report) (sym (r .number-is))
+          (subst (λ (l : List ℕ). Validated K s bytes state matrix report (refusalNumber (r .by)) l matrix′ report) (sym (r .same-state))
+          (subst (λ (l : List ℕ). Validated K s bytes state matrix report (refusalNumber (r .by)) state l report) (sym (r .same-matrix))
+          (refused-validated s (r .by) (refusal-step s (r .by) (r .is)) enc))))
 
       -- An accepted record leaves valid cores.
       pub accepted-cores : {state′ matrix′ : List ℕ} {answer : ℕ} → K ≤ 64 → (s : State) → Valid K s → Encodes K s state matrix
@@ -173,13 +173,13 @@ module _ (state matrix report bytes : List ℕ) where
       same-graph s =
           ap (λ (c : Core). record { locks = accept s bytes .graph .locks; marks = withMarks (s .graph .marks) c }) (named-core s)
 
-      judged-clean : (s : State) → refusal (situation K s bytes) ≡ none → cyclic K (accept s bytes .graph) ≡ false
+      step-clean : (s : State) → refusal (situation K s bytes) ≡ none → cyclic K (accept s bytes .graph) ≡ false
           → step K s bytes ≡ record { answer = clean; state = accept s bytes }
-      judged-clean s e c = rw (e, c) refl
+      step-clean s e c = rw (e, c) refl
 
-      judged-fault : (s : State) → refusal (situation K s bytes) ≡ none → cyclic K (accept s bytes .graph) ≡ true
+      step-fault : (s : State) → refusal (situation K s bytes) ≡ none → cyclic K (accept s bytes .graph) ≡ true
           → step K s bytes ≡ record { answer = fault; state = close (accept s bytes) }
-      judged-fault s e c = rw (e, c) refl
+      step-fault s e c = rw (e, c) refl
 
       module _ (s : State) {state′ matrix′ : List ℕ} (o : s .is-closed ≡ false) (p : Accepted s state′ matrix′) where
         abbrev marks′ : Marks
@@ -193,11 +193,11 @@ module _ (state matrix report bytes : List ℕ) where
               in-matrix = p .in-matrix;
             }
 
-        judge : {answer : ℕ} {state″ report″ : List ℕ}
+        validate : {answer : ℕ} {state″ report″ : List ℕ}
             → ConcludedOn K (accept s bytes .cores) (s .graph .marks) (accept s bytes .graph .locks) (coreOf bytes) state′ report answer state″ report″
-            → Judged K s bytes state matrix report answer state″ matrix′ report″
-        judge {state″} (is-clean c sb ks) =
-            let e = judged-clean s (p .is) (sym (ap (cyclic K) (same-graph s)) ∙ c) in
+            → Validated K s bytes state matrix report answer state″ matrix′ report″
+        validate {state″} (is-clean c sb ks) =
+            let e = step-clean s (p .is) (sym (ap (cyclic K) (same-graph s)) ∙ c) in
             record {
               number-is = sym (ap (λ (t : Outcome). number (t .answer)) e);
               encodes = subst (λ (t : Outcome). Encodes K (t .state) state″ matrix′) (sym e)
@@ -209,8 +209,8 @@ module _ (state matrix report bytes : List ℕ) where
               unreported = λ h. refl;
               reported = λ h. absurd (omega arith);
             }
-        judge {state″} {report″} (is-fault c sb ks r) =
-            let e = judged-fault s (p .is) (sym (ap (cyclic K) (same-graph s)) ∙ c) in
+        validate {state″} {report″} (is-fault c sb ks r) =
+            let e = step-fault s (p .is) (sym (ap (cyclic K) (same-graph s)) ∙ c) in
             record {
               number-is = sym (ap (λ (t : Outcome). number (t .answer)) e);
               encodes = subst (λ (t : Outcome). Encodes K (t .state) state″ matrix′) (sym e) (encoded true sb);
@@ -223,15 +223,15 @@ module _ (state matrix report bytes : List ℕ) where
                   (subst (λ (g : Graph). Reported K g report report″) (same-graph s) r);
             }
 
-      pub is-judged : {state′ matrix′ state″ report″ : List ℕ} {before answer : ℕ} → Acted state matrix bytes before state′ matrix′ → before ≡ 0
+      pub is-validated : {state′ matrix′ state″ report″ : List ℕ} {before answer : ℕ} → Acted state matrix bytes before state′ matrix′ → before ≡ 0
           → Concluded state′ matrix′ report (coreOf bytes) answer state″ report″ → Stepped state matrix report bytes answer state″ matrix′ report″
-      is-judged {state′} a z c =
+      is-validated {state′} a z c =
           fit-law
           (λ s v enc.
           let o = opened s enc in
           let p = accepted-as (a .acted s o v enc) z in
           let valid = valid-accept K s bytes v (p .is) in
-          judge s o p
+          validate s o p
           (concluded-at (p .in-state .classes) c (accept s bytes .cores) (s .graph .marks) (accept s bytes .graph .locks)
           (subst (λ (b : Bool). StateBytes K b (accept s bytes .cores) (s .graph .marks) state′) o (p .in-state)) (valid .cores) (p .in-matrix)))
 

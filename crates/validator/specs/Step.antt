@@ -24,7 +24,7 @@ pub record Reported (K : ℕ) (g : Graph) (report report′ : List ℕ) : Type 0
 
 -- A record judged over buffers that encode the state s of the rules: the number is that of the rules, the buffers encode the state that the rules
 -- give, and no byte past the sizes is touched. A refusal changes nothing; the report is written with a fault only.
-pub record Judged (K : ℕ) (s : State) (bytes state matrix report : List ℕ) (answer : ℕ) (state′ matrix′ report′ : List ℕ) : Type 0 where
+pub record Validated (K : ℕ) (s : State) (bytes state matrix report : List ℕ) (answer : ℕ) (state′ matrix′ report′ : List ℕ) : Type 0 where
   pub number-is : answer ≡ number (step K s bytes .answer)
   pub encodes : Encodes K (step K s bytes .state) state′ matrix′
   pub keeps-state : KeepsPast stateSize state state′
@@ -36,5 +36,5 @@ pub record Judged (K : ℕ) (s : State) (bytes state matrix report : List ℕ) (
 -- The step. Unfit buffers are refused with 11 and nothing is changed; every state of the rules that fit buffers encode is judged as it stands.
 pub record Stepped (state matrix report bytes : List ℕ) (answer : ℕ) (state′ matrix′ report′ : List ℕ) : Type 0 where
   pub unfit : fitsAll state matrix report ≡ false → (answer ≡ 11) × (state′ ≡ state) × (matrix′ ≡ matrix) × (report′ ≡ report)
-  pub judged : fitsAll state matrix report ≡ true → (s : State) → Valid (classesOf state) s → Encodes (classesOf state) s state matrix
-      → Judged (classesOf state) s bytes state matrix report answer state′ matrix′ report′
+  pub validated : fitsAll state matrix report ≡ true → (s : State) → Valid (classesOf state) s → Encodes (classesOf state) s state matrix
+      → Validated (classesOf state) s bytes state matrix report answer state′ matrix′ report′

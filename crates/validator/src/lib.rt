@@ -47,7 +47,7 @@ fn conclude(state: &mut [u8], matrix: &[u8], report: &mut [u8], core: usize) -> 
     1
 }
 
-// Judges one record.
+// Validates one record ("judges").
 pub fn step(state: &mut [u8], matrix: &mut [u8], report: &mut [u8], bytes: &[u8]) -> u8
     ensures { λ r. ⌜ Stepped (now (state .entry)) (now (matrix .entry)) (now (report .entry)) (now (bytes .entry)) r (now (state .exit)) (now (matrix .exit)) (now (report .exit)) ⌝ }
 {

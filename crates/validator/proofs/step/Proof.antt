@@ -6,7 +6,7 @@ use Rattle.fit.proofs.Facts.{facts}
 use Rattle.fit.proofs.Fitting.{fit-encodes, fit-valid}
 use Rattle.action.proofs.Formed.{well-formed}
 use Rattle.validator.proofs.Fitness.{fit-cored}
-use Rattle.validator.proofs.Outcomes.{unfit-buffers, unfit-report, is-closed, is-malformed, is-refused, conclude-ready, is-judged}
+use Rattle.validator.proofs.Outcomes.{unfit-buffers, unfit-report, is-closed, is-malformed, is-refused, conclude-ready, is-validated}
 use borrow.Author.Needs.{needs}
 use Rattle.validator.proofs.step.Statement.{statement}
 use Rattle.validator.proofs.step.Tie as tie
@@ -135,7 +135,7 @@ same-length-13 : tie.Need-same-length-13
 same-length-13 c = search needs
 
 returns-6 : tie.Need-returns-6
-returns-6 c = is-judged _ _ _ _ (sym (c .before .before .before .before .before .before .before .before .before .before .before .before .before .before .before .before .before .before .before .before .before .before .before .before .fits2 .ensures) ∙ not-false _ (c .before .before .before .before .before .before .before .before .before .before .before .before .before .before .before .before .before .before .before .before .before .before .before .if1 .left)) (c .before .before .before .before .before .before .before .before .before .before .before .before .before .before .before .before .before .before .before .before .before .if2 .left) (c .before .before .before .before .before .before .before .before .before .before .before .before .before .before .before .before .before .before .before .if3 .left) (c .before .before .before .before .before .before .before .before .before .before .before .before .before .before .act .ensures) (c .before .before .before .before .before .before .before .before .before .if5 .left) (c .before .before .before .before .conclude .ensures)
+returns-6 c = is-validated _ _ _ _ (sym (c .before .before .before .before .before .before .before .before .before .before .before .before .before .before .before .before .before .before .before .before .before .before .before .before .fits2 .ensures) ∙ not-false _ (c .before .before .before .before .before .before .before .before .before .before .before .before .before .before .before .before .before .before .before .before .before .before .before .if1 .left)) (c .before .before .before .before .before .before .before .before .before .before .before .before .before .before .before .before .before .before .before .before .before .if2 .left) (c .before .before .before .before .before .before .before .before .before .before .before .before .before .before .before .before .before .before .before .if3 .left) (c .before .before .before .before .before .before .before .before .before .before .before .before .before .before .act .ensures) (c .before .before .before .before .before .before .before .before .before .if5 .left) (c .before .before .before .before .conclude .ensures)
 
 pub step-spec : {M : Type 1} → statement M
 step-spec =
