@@ -1,0 +1,174 @@
+//! The library beside a fast ordinary Rust judge, in the same run: best of several
+//! rounds, the two taking turns. No timed test: nothing fails by being slow. It fails
+//! only if the two disagree on what they computed or if a drawing isn't clean.
+
+use crate::gen::{clean_style, Shadow};
+use crate::judges::library;
+use crate::rng::Rng;
+use crate::run::Rec;
+use crate::fast;
+use std::hint::black_box;
+use std::time::Instant;
+
+type StepFn = fn(&mut [u8], &mut [u8], &mut [u8], &[u8]) -> u8;
+type AskFn = fn(&[u8], &[u8], u64, &mut u64, &mut u32) -> u8;
+
+const ROUNDS: usize = 15;
+
+/// A clean drawing: arrows only upwards, unsafe marks below and safe marks above.
+/// Sparse: each class to the next, no marks. Dense: each class to all higher ones by
+/// every kind, every mark on its half; 20 holds in three frames.
+fn drawing(k: usize, dense: bool) -> Shadow {
+    let mut s = Shadow::opened(k);
+    for from in 0..k {
+        for to in from + 1..k {
+            if dense {
+                s.sheet[from * k + to] = 15;
+            } else if to == from + 1 {
+                s.sheet[from * k + to] = [2, 1, 2, 4][from % 4];
+            }
+        }
+        if dense {
+            s.desk[34 + from] = if from < k / 2 { 4 + 8 + 64 + 128 } else { 1 + 2 + 16 + 32 };
+        }
+    }
+    // Core 0 in the task, with hard off (its takes leave no marks) and a few holds;
+    // in the dense drawing cores 1 to 3 have full frames.
+    s.desk[2] = 3;
+    s.desk[10] = 2;
+    s.desk[98] = 0;
+    s.desk[99] = 1;
+    if dense {
+        for core in 1..4 {
+            s.desk[2 + core] = 3;
+            s.desk[10 + 3 * core] = 20;
+            for i in 0..20 {
+                s.desk[98 + 60 * core + i] = (i % k) as u8;
+            }
+        }
+    }
+    s
+}
+
+/// Best seconds of each of two, taking turns.
+fn best(mut a: impl FnMut() -> f64, mut b: impl FnMut() -> f64, rounds: usize) -> (f64, f64) {
+    let (mut x, mut y) = (f64::MAX, f64::MAX);
+    for _ in 0..rounds {
+        x = x.min(a());
+        y = y.min(b());
+    }
+    (x, y)
+}
+
+fn row(name: &str, (lib, quick): (f64, f64), calls: usize) {
+    let (a, b) = (lib / calls as f64, quick / calls as f64);
+    println!(
+        "{name:34} {:>9.3} {:>9.3} {:>7.2} {:>12.0} {:>12.0}",
+        a * 1e6, b * 1e6, a / b, 1.0 / a, 1.0 / b
+    );
+}
+
+pub fn run() -> bool {
+    let mut well = true;
+    println!("{:34} {:>9} {:>9} {:>7} {:>12} {:>12}", "", "lib us", "fast us", "lib/fast", "lib /s", "fast /s");
+    // A take and a release in turn, so that the desk comes back to where it was.
+    for k in [8usize, 64] {
+        for dense in [false, true] {
+            let pair = [Rec::new(0, 0, k as u8 - 1, 0), Rec::new(0, 1, k as u8 - 1, 0)];
+            let n = 20_000;
+            let mut results = [0u64; 2];
+            let time = |step: StepFn, result: &mut u64| {
+                let mut s = drawing(k, dense);
+                let mut sum = 0u64;
+                let started = Instant::now();
+                for i in 0..n {
+                    sum += u64::from(step(black_box(&mut s.desk), black_box(&mut s.sheet), &mut s.slip, pair[i % 2].slice()));
+                }
+                let t = started.elapsed().as_secs_f64();
+                *result = sum + s.sheet.iter().chain(&s.desk).fold(0, |a, &b| a * 33 % 1_000_003 + u64::from(b));
+                if sum != 0 {
+                    *result = u64::MAX;
+                }
+                t
+            };
+            let [r0, r1] = &mut results;
+            let times = best(|| time(library::step, r0), || time(fast::step, r1), ROUNDS);
+            if results[0] != results[1] || results[0] == u64::MAX {
+                println!("the two differ, or not clean: {results:?}");
+                well = false;
+            }
+            row(&format!("step, K = {k}, {}", if dense { "dense" } else { "sparse" }), times, n);
+            let [r0, r1] = &mut results;
+            let plain = best(|| time(library::step, r0), || time(fast::step_plain, r1), ROUNDS);
+            well &= results[0] == results[1];
+            row("    the same beside plain loops", plain, n);
+        }
+    }
+    for k in [8usize, 64] {
+        for dense in [false, true] {
+            let s = drawing(k, dense);
+            let n = 20_000;
+            let mut results = [0u64; 2];
+            let time = |ask: AskFn, result: &mut u64| {
+                let mut sum = 0u64;
+                let started = Instant::now();
+                for i in 0..n {
+                    let (mut word, mut count) = (0, 0);
+                    sum += u64::from(ask(black_box(&s.desk), black_box(&s.sheet), (i % k) as u64, &mut word, &mut count)) << 40;
+                    sum = sum.wrapping_add(word ^ u64::from(count));
+                }
+                let t = started.elapsed().as_secs_f64();
+                *result = sum;
+                t
+            };
+            let [r0, r1] = &mut results;
+            let times = best(|| time(library::ask, r0), || time(fast::ask, r1), ROUNDS);
+            if results[0] != results[1] {
+                println!("the two differ: {results:?}");
+                well = false;
+            }
+            row(&format!("question, K = {k}, {}", if dense { "dense" } else { "sparse" }), times, n);
+        }
+    }
+    for k in [8usize, 64] {
+        // A clean log, every record accepted.
+        let n = 200_000;
+        let rng = &mut Rng::new(9);
+        let style = clean_style(k);
+        let mut shadow = Shadow::opened(k);
+        let mut log = Vec::with_capacity(n);
+        while log.len() < n {
+            let (record, answer) = shadow.next(rng, &style);
+            match answer {
+                0 => log.push(record),
+                1 => {
+                    println!("the log isn't clean");
+                    return false;
+                }
+                _ => {}
+            }
+        }
+        let arrows = shadow.sheet.iter().map(|b| b.count_ones()).sum::<u32>();
+        let mut ends = [Vec::new(), Vec::new()];
+        let time = |step: StepFn, end: &mut Vec<u8>| {
+            let mut s = Shadow::opened(k);
+            let mut sum = 0u64;
+            let started = Instant::now();
+            for r in &log {
+                sum += u64::from(step(&mut s.desk, &mut s.sheet, &mut s.slip, r.slice()));
+            }
+            let t = started.elapsed().as_secs_f64();
+            *end = [s.desk, s.sheet, vec![sum.min(255) as u8]].concat();
+            t
+        };
+        let [e0, e1] = &mut ends;
+        let times = best(|| time(library::step, e0), || time(fast::step, e1), 5);
+        if ends[0] != ends[1] || ends[0].last() != Some(&0) {
+            println!("the two differ over the log, or not clean");
+            well = false;
+        }
+        row(&format!("log of {n}, K = {k}, per record"), times, n);
+        println!("{:34} {:.3} s and {:.3} s whole; {arrows} hold arrows drawn at the end", "", times.0, times.1);
+    }
+    well
+}

@@ -1,0 +1,413 @@
+//! An ordinary Rust judge written for speed, for the benchmark: same semantics as
+//! document 01. Fit test at each step, successor words built once per step, one
+//! depth-first walk over (class, arrival) with done and on-stack words. It is
+//! compared with the reference in every run of the comparer. No unsafe code.
+#![forbid(unsafe_code)]
+
+const DESK: usize = 578;
+const STATES: usize = 2;
+const DEPTHS: usize = 10;
+const MARKS: usize = 34;
+const HOLDS: usize = 98;
+const X: u8 = 255;
+
+static NEXT: [[u8; 8]; 9] = [
+    [0, 2, 0, 1, 4, X, 6, X],
+    [1, 3, 0, 1, X, X, 7, X],
+    [0, 2, 2, 3, X, X, X, X],
+    [1, 3, 2, 3, X, X, X, X],
+    [4, 5, X, X, X, 0, 8, X],
+    [4, 5, X, X, X, X, X, X],
+    [X, X, X, X, X, X, X, 0],
+    [X, X, X, X, X, X, X, 1],
+    [X, X, X, X, X, X, X, 4],
+];
+static FRAME: [u8; 9] = [0, 0, 0, 0, 1, 1, 2, 2, 2];
+/// Mark bits by state and mode.
+static BITS: [[u8; 3]; 9] = [
+    [4 + 64, 8 + 128, 8 + 128],
+    [4, 8, 8],
+    [0, 0, 0],
+    [0, 0, 0],
+    [16 + 4, 16 + 8, 32 + 8],
+    [16, 16, 32],
+    [1, 1, 2],
+    [1, 1, 2],
+    [1, 1, 2],
+];
+
+pub fn open(k: u64, desk: &mut [u8], sheet: &mut [u8]) -> u8 {
+    if k.wrapping_sub(1) > 63 {
+        return 2;
+    }
+    let size = (k * k) as usize;
+    if desk.len() < DESK || sheet.len() < size {
+        return 2;
+    }
+    desk[..DESK].fill(0);
+    desk[0] = k as u8;
+    sheet[..size].fill(0);
+    0
+}
+
+/// All of "Unfit" but the buffers' sizes and K.
+fn fits(desk: &[u8; DESK], sheet: &[u8], k: usize) -> bool {
+    let mut bad = desk[1] > 1;
+    for core in 0..8 {
+        let state = desk[STATES + core];
+        bad |= state > 8;
+        bad |= desk[DEPTHS + 3 * core + 1] != 0 && 0x130u32 >> (state & 15) & 1 == 0;
+        bad |= desk[DEPTHS + 3 * core + 2] != 0 && state < 6;
+    }
+    if bad {
+        return false;
+    }
+    let k8 = k as u8;
+    for (holds, &depth) in desk[HOLDS..].chunks_exact(20).zip(&desk[DEPTHS..MARKS]) {
+        let holds: &[u8; 20] = holds.try_into().unwrap();
+        if depth == 0 {
+            bad |= holds.iter().fold(0, |all, &h| all | h) != 0;
+        } else {
+            bad |= depth > 20;
+            for (i, &h) in holds.iter().enumerate() {
+                let wrong = if (i as u8) < depth { (h & 63 >= k8) | (h >= 192) } else { h != 0 };
+                bad |= wrong;
+            }
+        }
+    }
+    let marks: &[u8; 64] = desk[MARKS..HOLDS].try_into().unwrap();
+    let mut wrong = 0;
+    for (i, &m) in marks.iter().enumerate() {
+        wrong |= (m >> 4) & 12 & !m;
+        wrong |= if (i as u8) >= k8 { m } else { 0 };
+    }
+    wrong |= sheet.iter().fold(0, |all, &b| all | b) & 0xF0;
+    !bad && wrong == 0
+}
+
+/// Successor words: [0] arrivals by N, [1] arrivals by R; the first 64 rows after an
+/// arrival by N, the others after an arrival by R.
+struct Words {
+    next: [[u64; 2]; 128],
+}
+
+#[inline]
+fn gather(chunk: u64, bit: u32) -> u64 {
+    ((chunk >> bit) & 0x0101_0101_0101_0101).wrapping_mul(0x0102_0408_1020_4080) >> 56
+}
+
+fn words(desk: &[u8; DESK], sheet: &[u8], k: usize) -> Words {
+    let (mut hard_n, mut hard_r, mut soft_n, mut soft_r) = (0u64, 0u64, 0u64, 0u64);
+    for (i, eight) in desk[MARKS..HOLDS].chunks_exact(8).enumerate() {
+        let chunk = u64::from_le_bytes(eight.try_into().unwrap());
+        if chunk != 0 {
+            hard_n |= gather(chunk, 0) << (8 * i);
+            hard_r |= gather(chunk, 1) << (8 * i);
+            soft_n |= gather(chunk, 4) << (8 * i);
+            soft_r |= gather(chunk, 5) << (8 * i);
+        }
+    }
+    let mut next = [[0u64; 2]; 128];
+    let (after_n, after_r) = next.split_at_mut(64);
+    for (from, row) in sheet.chunks_exact(k).enumerate() {
+        let (mut er, mut en, mut sr, mut sn) = (0u64, 0u64, 0u64, 0u64);
+        let eights = row.chunks_exact(8);
+        let rest = eights.remainder();
+        let mut at = 0;
+        for eight in eights {
+            let chunk = u64::from_le_bytes(eight.try_into().unwrap());
+            if chunk != 0 {
+                er |= gather(chunk, 0) << at;
+                en |= gather(chunk, 1) << at;
+                sr |= gather(chunk, 2) << at;
+                sn |= gather(chunk, 3) << at;
+            }
+            at += 8;
+        }
+        if !rest.is_empty() {
+            let mut last = [0; 8];
+            last[..rest.len()].copy_from_slice(rest);
+            let chunk = u64::from_le_bytes(last);
+            er |= gather(chunk, 0) << at;
+            en |= gather(chunk, 1) << at;
+            sr |= gather(chunk, 2) << at;
+            sn |= gather(chunk, 3) << at;
+        }
+        let m = desk[MARKS + from];
+        let all = |bit: u8| if m & bit != 0 { u64::MAX } else { 0 };
+        en |= (all(4) & hard_n) | (all(64) & soft_n);
+        er |= (all(4) & hard_r) | (all(64) & soft_r);
+        sn |= (all(8) & hard_n) | (all(128) & soft_n);
+        sr |= (all(8) & hard_r) | (all(128) & soft_r);
+        after_n[from] = [en | sn, er | sr];
+        after_r[from] = [en, er];
+    }
+    Words { next }
+}
+
+/// The same words by plain loops.
+fn words_plain(desk: &[u8; DESK], sheet: &[u8], k: usize) -> Words {
+    let mut safe = [0u64; 8];
+    for class in 0..k {
+        for (bit, word) in safe.iter_mut().enumerate() {
+            *word |= u64::from(desk[MARKS + class] >> bit & 1) << class;
+        }
+    }
+    let mut next = [[0u64; 2]; 128];
+    for from in 0..k {
+        let mut kinds = [0u64; 4];
+        for to in 0..k {
+            let byte = sheet[from * k + to];
+            for (bit, word) in kinds.iter_mut().enumerate() {
+                *word |= u64::from(byte >> bit & 1) << to;
+            }
+        }
+        let [mut er, mut en, mut sr, mut sn] = kinds;
+        let m = desk[MARKS + from];
+        for level in [0, 4] {
+            if m >> level & 4 != 0 {
+                en |= safe[level];
+                er |= safe[level + 1];
+            }
+            if m >> level & 8 != 0 {
+                sn |= safe[level];
+                sr |= safe[level + 1];
+            }
+        }
+        next[from] = [en | sn, er | sr];
+        next[64 + from] = [en, er];
+    }
+    Words { next }
+}
+
+/// A cycle of arrivals on the stack: (stack, where the cycle starts, its end).
+type Stack = [u8; 129];
+
+/// One depth-first walk. Arrivals by N are roots enough: what follows an arrival by R
+/// also follows one by N.
+fn walk(words: &Words, k: usize, stack: &mut Stack) -> Option<(usize, usize)> {
+    let (mut done, mut on) = ([0u64; 2], [0u64; 2]);
+    for root in 0..k {
+        if done[0] >> root & 1 != 0 {
+            continue;
+        }
+        let mut top = root;
+        let mut high = 0;
+        stack[0] = root as u8;
+        on[0] |= 1 << root;
+        loop {
+            let [by_n, by_r] = words.next[top & 127];
+            let (back_n, back_r) = (by_n & on[0], by_r & on[1]);
+            if back_n | back_r != 0 {
+                let target = if back_n != 0 { back_n.trailing_zeros() } else { 64 + back_r.trailing_zeros() };
+                let start = stack[..=high].iter().position(|&a| u32::from(a) == target)?;
+                return Some((start, high));
+            }
+            let (new_n, new_r) = (by_n & !done[0], by_r & !done[1]);
+            if new_n | new_r != 0 {
+                top = if new_n != 0 {
+                    let c = new_n.trailing_zeros();
+                    on[0] |= 1 << c;
+                    c as usize
+                } else {
+                    let c = new_r.trailing_zeros();
+                    on[1] |= 1 << c;
+                    64 + c as usize
+                };
+                high += 1;
+                stack[high] = top as u8;
+                continue;
+            }
+            let side = top >> 6 & 1;
+            done[side] |= 1 << (top & 63);
+            on[side] &= !(1 << (top & 63));
+            if high == 0 {
+                break;
+            }
+            high -= 1;
+            top = usize::from(stack[high]);
+        }
+    }
+    None
+}
+
+#[cold]
+fn show(desk: &[u8; DESK], sheet: &[u8], k: usize, slip: &mut [u8], cycle: &[u8]) {
+    let mut cycle = cycle.to_vec();
+    // A class passed twice was passed by N and by R; keep the part that comes by N, as
+    // it may go on by any arrow.
+    'again: loop {
+        for i in 0..cycle.len() {
+            for j in i + 1..cycle.len() {
+                if cycle[i] & 63 == cycle[j] & 63 {
+                    if cycle[i] < 64 {
+                        cycle.drain(i + 1..=j);
+                    } else {
+                        cycle.truncate(j + 1);
+                        cycle.drain(..=i);
+                    }
+                    continue 'again;
+                }
+            }
+        }
+        break;
+    }
+    let n = cycle.len();
+    let low = (0..n).min_by_key(|&i| cycle[i] & 63).unwrap_or(0);
+    cycle.rotate_left(low);
+    slip[0] = n as u8;
+    for i in 0..n {
+        let (a, b) = (cycle[i], cycle[(i + 1) % n]);
+        let (from, to, by_r) = (usize::from(a & 63), usize::from(b & 63), b >= 64);
+        let (m, t) = (desk[MARKS + from], desk[MARKS + to]);
+        let hold = sheet[from * k + to];
+        let mut arrow = (0, 0);
+        for s in [false, true] {
+            if arrow.0 != 0 || (s && a >= 64) {
+                break;
+            }
+            let kind = (if s { 4 } else { 1 }) * (if by_r { 1 } else { 2 });
+            let (unsafe_bit, safe_bit) = (if s { 8 } else { 4 }, if by_r { 2 } else { 1 });
+            if hold & kind != 0 {
+                arrow = (kind, 0);
+            } else if m & unsafe_bit != 0 && t & safe_bit != 0 {
+                arrow = (kind, 1);
+            } else if m & (unsafe_bit << 4) != 0 && t & (safe_bit << 4) != 0 {
+                arrow = (kind, 2);
+            }
+        }
+        slip[1 + 3 * i..4 + 3 * i].copy_from_slice(&[from as u8, arrow.0, arrow.1]);
+    }
+}
+
+#[inline(never)]
+pub fn step(desk: &mut [u8], sheet: &mut [u8], slip: &mut [u8], record: &[u8]) -> u8 {
+    step_with::<false>(desk, sheet, slip, record)
+}
+
+/// The same step with successor words made by plain loops, a byte at a time.
+#[inline(never)]
+pub fn step_plain(desk: &mut [u8], sheet: &mut [u8], slip: &mut [u8], record: &[u8]) -> u8 {
+    step_with::<true>(desk, sheet, slip, record)
+}
+
+#[inline(always)]
+fn step_with<const PLAIN: bool>(desk: &mut [u8], sheet: &mut [u8], slip: &mut [u8], record: &[u8]) -> u8 {
+    let Some(desk) = desk.first_chunk_mut::<DESK>() else { return 11 };
+    let k = usize::from(desk[0]);
+    if k.wrapping_sub(1) > 63 || sheet.len() < k * k || slip.len() < 1 + 3 * k {
+        return 11;
+    }
+    let sheet = &mut sheet[..k * k];
+    if !fits(desk, sheet, k) {
+        return 11;
+    }
+    if desk[1] == 1 {
+        return 10;
+    }
+    let &[0x4C, 0x4B, core, kind, class, mode] = record else { return 3 };
+    if core > 7 || kind > 9 || mode > 2 || (kind >= 1 && mode != 0) || (kind >= 2 && class != 0) {
+        return 3;
+    }
+    let core = usize::from(core);
+    let mut state = usize::from(desk[STATES + core]);
+    let here = 3 * core + usize::from(FRAME[state]);
+    let depth = usize::from(desk[DEPTHS + here]);
+    let first = HOLDS + 20 * here;
+    match kind {
+        0 => {
+            let to = usize::from(class);
+            if to >= k {
+                return 4;
+            }
+            if depth == 20 {
+                return 8;
+            }
+            let second = if mode == 2 { 1 } else { 2 };
+            for &hold in &desk[first..first + depth] {
+                let kind = if hold < 64 { second } else { 4 * second };
+                sheet[usize::from(hold & 63) * k + to] |= kind;
+            }
+            desk[first + depth] = class + 64 * mode;
+            desk[DEPTHS + here] += 1;
+        }
+        1 => {
+            if usize::from(class) >= k {
+                return 4;
+            }
+            let Some(at) = desk[first..first + depth].iter().rposition(|&h| h & 63 == class) else {
+                return 5;
+            };
+            desk.copy_within(first + at + 1..first + depth, first + at);
+            desk[first + depth - 1] = 0;
+            desk[DEPTHS + here] -= 1;
+        }
+        _ => {
+            let after = NEXT[state][usize::from(kind) - 2];
+            if after == X {
+                return 6;
+            }
+            if (kind == 7 || kind == 9) && depth > 0 {
+                return 7;
+            }
+            state = usize::from(after);
+            desk[STATES + core] = after;
+        }
+    }
+    let here = 3 * core + usize::from(FRAME[state]);
+    let first = HOLDS + 20 * here;
+    for at in first..first + usize::from(desk[DEPTHS + here]) {
+        let hold = desk[at];
+        desk[MARKS + usize::from(hold & 63)] |= BITS[state][usize::from(hold >> 6)];
+    }
+    let words = if PLAIN { words_plain(desk, sheet, k) } else { words(desk, sheet, k) };
+    let mut stack = [0; 129];
+    match walk(&words, k, &mut stack) {
+        None => 0,
+        Some((start, end)) => {
+            desk[1] = 1;
+            show(desk, sheet, k, slip, &stack[start..=end]);
+            1
+        }
+    }
+}
+
+#[inline(never)]
+pub fn ask(desk: &[u8], sheet: &[u8], class: u64, word: &mut u64, count: &mut u32) -> u8 {
+    *word = 0;
+    *count = 0;
+    let Some(desk) = desk.first_chunk::<DESK>() else { return 11 };
+    let k = usize::from(desk[0]);
+    if k.wrapping_sub(1) > 63 || sheet.len() < k * k {
+        return 11;
+    }
+    let sheet = &sheet[..k * k];
+    if !fits(desk, sheet, k) {
+        return 11;
+    }
+    if class >= k as u64 {
+        return 4;
+    }
+    let words = words(desk, sheet, k);
+    let [mut all_n, mut all_r] = words.next[class as usize & 63];
+    let (mut new_n, mut new_r) = (all_n, all_r);
+    while new_n | new_r != 0 {
+        let at = if new_n != 0 {
+            let c = new_n.trailing_zeros() as usize;
+            new_n &= new_n - 1;
+            c
+        } else {
+            let c = new_r.trailing_zeros() as usize;
+            new_r &= new_r - 1;
+            64 + c
+        };
+        let [by_n, by_r] = words.next[at & 127];
+        new_n |= by_n & !all_n;
+        new_r |= by_r & !all_r;
+        all_n |= by_n;
+        all_r |= by_r;
+    }
+    *word = all_n | all_r;
+    *count = word.count_ones();
+    0
+}

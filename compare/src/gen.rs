@@ -1,0 +1,928 @@
+//! The inputs: fixed ones (made by hand, or all of a small space) and random ones.
+
+use crate::fast;
+use crate::rng::Rng;
+use crate::run::{Call, Case, Rec};
+
+const X: u8 = 255;
+/// The document's table, for proposing events that are allowed.
+const NEXT: [[u8; 8]; 9] = [
+    [0, 2, 0, 1, 4, X, 6, X],
+    [1, 3, 0, 1, X, X, 7, X],
+    [0, 2, 2, 3, X, X, X, X],
+    [1, 3, 2, 3, X, X, X, X],
+    [4, 5, X, X, X, 0, 8, X],
+    [4, 5, X, X, X, X, X, X],
+    [X, X, X, X, X, X, X, 0],
+    [X, X, X, X, X, X, X, 1],
+    [X, X, X, X, X, X, X, 4],
+];
+
+const BIG: [u64; 16] = [
+    255, 256, 257, 264, 300, 320, 65536, 65544, 1 << 31, 1 << 32, (1 << 32) + 1, (1 << 32) + 8,
+    (1 << 32) + 64, 1 << 63, u64::MAX - 63, u64::MAX,
+];
+
+fn any_k(rng: &mut Rng) -> usize {
+    match rng.under(10) {
+        0 => 1,
+        1 => 2,
+        2 => 3,
+        3 | 4 => 8,
+        5 => 64,
+        6 => 63,
+        7 => rng.between(4, 12),
+        _ => rng.between(1, 64),
+    }
+}
+
+/// Buffers of the stated sizes or somewhat longer, full of anything.
+fn any_buffers(rng: &mut Rng, k: usize) -> (Vec<u8>, Vec<u8>, Vec<u8>) {
+    let mut extra = || if rng.mille(400) { rng.under(9) } else { 0 };
+    let (a, b, c) = (extra(), extra(), extra());
+    (rng.bytes(578 + a), rng.bytes(k * k + b), rng.bytes(1 + 3 * k + c))
+}
+
+fn case(name: &'static str, buffers: (Vec<u8>, Vec<u8>, Vec<u8>), calls: Vec<Call>) -> Case {
+    Case { name, desk: buffers.0, sheet: buffers.1, slip: buffers.2, calls, pair: None, clause: None }
+}
+
+// ------------------------------------------------------------------ proposals
+
+/// How a log is made.
+pub struct Style {
+    pub k: usize,
+    pub cores: Vec<u8>,
+    /// Weights of take, release, event.
+    pub weights: [usize; 3],
+    /// Weights of the three modes.
+    pub modes: [usize; 3],
+    /// In 1000: records with anything in them, damaged records, questions, takes that
+    /// heed no order of classes, and proposals that fault and are then proposed anew.
+    pub random: usize,
+    pub damaged: usize,
+    pub asks: usize,
+    pub unordered: usize,
+    pub avoid: usize,
+}
+
+fn any_style(rng: &mut Rng, k: usize) -> Style {
+    let mut cores: Vec<u8> = (0..8).collect();
+    for i in (1..8).rev() {
+        cores.swap(i, rng.under(i + 1));
+    }
+    cores.truncate(rng.pick(&[1, 2, 2, 3, 4, 8]));
+    Style {
+        k,
+        cores,
+        weights: rng.pick(&[[5, 3, 3], [6, 1, 1], [9, 1, 0], [4, 4, 4], [2, 2, 6], [5, 5, 1]]),
+        modes: rng.pick(&[[1, 1, 1], [1, 1, 1], [8, 1, 1], [1, 1, 8], [0, 0, 1], [1, 0, 0], [0, 1, 3], [1, 0, 3], [1, 1, 20]]),
+        random: rng.pick(&[0, 10, 30, 30, 200]),
+        damaged: rng.pick(&[0, 5, 10, 20, 100]),
+        asks: rng.pick(&[0, 10, 30, 100]),
+        unordered: rng.pick(&[0, 0, 10, 50, 300, 1000]),
+        avoid: rng.pick(&[0, 900, 990, 1000, 1000]),
+    }
+}
+
+pub fn clean_style(k: usize) -> Style {
+    Style {
+        k, cores: (0..8).collect(), weights: [4, 4, 2], modes: [2, 1, 1],
+        random: 0, damaged: 0, asks: 0, unordered: 0, avoid: 1000,
+    }
+}
+
+pub fn damaged(rng: &mut Rng, k: usize) -> Rec {
+    let kind = rng.under(10) as u8;
+    let class = if kind < 2 { rng.under(k) as u8 } else { 0 };
+    let mode = if kind == 0 { rng.under(3) as u8 } else { 0 };
+    let mut bytes = vec![0x4C, 0x4B, rng.under(8) as u8, kind, class, mode];
+    match rng.under(6) {
+        0 => {
+            let n = rng.under(13);
+            Rec::of(&rng.bytes(n))
+        }
+        1 => {
+            bytes.truncate(rng.under(6));
+            Rec::of(&bytes)
+        }
+        2 => {
+            let n = rng.between(1, 6);
+            let more = if rng.mille(500) { vec![0; n] } else { rng.bytes(n) };
+            bytes.extend(more);
+            Rec::of(&bytes)
+        }
+        3 => {
+            let at = rng.under(6);
+            bytes[at] = rng.byte();
+            Rec::of(&bytes)
+        }
+        4 => {
+            // Just over an edge.
+            match rng.under(6) {
+                0 => bytes[2] = rng.pick(&[8, 9, 16, 128, 255]),
+                1 => bytes[3] = rng.pick(&[10, 11, 16, 32, 255]),
+                2 => bytes[5] = rng.pick(&[3, 4, 64, 128, 255]),
+                3 => {
+                    bytes[3] = 1;
+                    bytes[5] = rng.pick(&[1, 2]);
+                }
+                4 => {
+                    bytes[3] = rng.between(2, 9) as u8;
+                    bytes[4] = rng.between(1, 255) as u8;
+                    bytes[5] = 0;
+                }
+                _ => {
+                    bytes[3] = rng.between(2, 9) as u8;
+                    bytes[4] = 0;
+                    bytes[5] = rng.pick(&[1, 2]);
+                }
+            }
+            Rec::of(&bytes)
+        }
+        _ => {
+            let at = rng.under(2);
+            bytes[at] ^= 1 << rng.under(8);
+            Rec::of(&bytes)
+        }
+    }
+}
+
+/// A record that most likely is accepted on this desk, as the style says.
+fn propose(rng: &mut Rng, s: &Style, desk: &[u8]) -> Rec {
+    if rng.mille(s.damaged) {
+        return damaged(rng, s.k);
+    }
+    let core = rng.pick(&s.cores);
+    if rng.mille(s.random) {
+        let kind = rng.under(10) as u8;
+        let class = match kind {
+            0 | 1 => rng.pick(&[rng.clone().under(s.k), rng.clone().under(s.k + 2), s.k, 64, 255]) as u8,
+            _ => 0,
+        };
+        rng.next();
+        return Rec::new(core, kind, class, if kind == 0 { rng.under(3) as u8 } else { 0 });
+    }
+    let state = usize::from(desk[2 + usize::from(core)]);
+    let frame = [0, 0, 0, 0, 1, 1, 2, 2, 2][state];
+    let here = 3 * usize::from(core) + frame;
+    let depth = usize::from(desk[10 + here]);
+    let holds = &desk[98 + 20 * here..98 + 20 * here + depth];
+    let mut what = rng.weighted(&s.weights);
+    if what == 0 && depth == 20 && !rng.mille(300) {
+        what = 1;
+    }
+    if what == 0 {
+        let mode = rng.weighted(&s.modes) as u8;
+        if rng.mille(s.unordered) {
+            return Rec::new(core, 0, rng.under(s.k) as u8, mode);
+        }
+        // Task classes lowest, then those of soft handlers, then those of hard ones, and
+        // within a frame ever higher ones: never a circle.
+        let (a, b) = (s.k / 2, s.k / 2 + s.k / 4);
+        let (low, high) = if s.k < 4 { (0, s.k) } else { [(0, a), (a, b), (b, s.k)][frame] };
+        let low = holds.iter().map(|h| usize::from(h % 64) + 1).max().unwrap_or(0).max(low);
+        if low < high {
+            let far = if rng.mille(700) { (low + 3).min(high) } else { high };
+            return Rec::new(core, 0, rng.between(low, far - 1) as u8, mode);
+        }
+        what = 1;
+    }
+    if what == 1 && depth > 0 {
+        return Rec::new(core, 1, rng.pick(holds) % 64, 0);
+    }
+    let allowed: Vec<u8> = (2..10u8)
+        .filter(|&kind| NEXT[state][usize::from(kind) - 2] != X)
+        .filter(|&kind| (kind != 7 && kind != 9) || depth == 0 || s.random > 0)
+        .collect();
+    // An exit only where the frame is empty, mostly.
+    let usual: Vec<u8> = allowed.iter().copied().filter(|&kind| (kind != 7 && kind != 9) || depth == 0).collect();
+    if !usual.is_empty() && !rng.mille(s.random) {
+        return Rec::new(core, rng.pick(&usual), 0, 0);
+    }
+    if depth > 0 && !rng.mille(100) {
+        return Rec::new(core, 1, rng.pick(holds) % 64, 0);
+    }
+    Rec::new(core, if allowed.is_empty() { 2 } else { rng.pick(&allowed) }, 0, 0)
+}
+
+/// A desk that goes along with the log while it is made.
+pub struct Shadow {
+    pub desk: Vec<u8>,
+    pub sheet: Vec<u8>,
+    pub slip: Vec<u8>,
+}
+
+impl Shadow {
+    pub fn opened(k: usize) -> Shadow {
+        let mut s = Shadow { desk: vec![0; 578], sheet: vec![0; k * k], slip: vec![0; 1 + 3 * k] };
+        fast::open(k as u64, &mut s.desk, &mut s.sheet);
+        s
+    }
+    /// The next record and its answer.
+    pub fn next(&mut self, rng: &mut Rng, style: &Style) -> (Rec, u8) {
+        let mut tries = 0;
+        loop {
+            let record = propose(rng, style, &self.desk);
+            if style.avoid == 0 {
+                let answer = fast::step(&mut self.desk, &mut self.sheet, &mut self.slip, record.slice());
+                return (record, answer);
+            }
+            let (desk, sheet) = (self.desk.clone(), self.sheet.clone());
+            let answer = fast::step(&mut self.desk, &mut self.sheet, &mut self.slip, record.slice());
+            if answer == 1 && tries < 12 && rng.mille(style.avoid) {
+                self.desk = desk;
+                self.sheet = sheet;
+                tries += 1;
+                continue;
+            }
+            return (record, answer);
+        }
+    }
+}
+
+fn any_class(rng: &mut Rng, k: usize) -> u64 {
+    if rng.mille(150) {
+        rng.pick(&[k as u64, k as u64 + 1, 63, 64, 255, 256, 256 + k as u64 - 1, 1 << 32, (1 << 32) + 1, 1 << 63, u64::MAX])
+    } else {
+        rng.under(k) as u64
+    }
+}
+
+fn ask_all(k: usize, calls: &mut Vec<Call>) {
+    calls.extend((0..k as u64).map(Call::Ask));
+    calls.extend([k as u64, 255, 256, 1 << 32, u64::MAX].map(Call::Ask));
+}
+
+/// Steps from where the shadow stands; some go on after the fault.
+fn steps(rng: &mut Rng, style: &Style, shadow: &mut Shadow, most: usize, calls: &mut Vec<Call>) {
+    let mut after = 0;
+    for _ in 0..most {
+        let (record, _) = shadow.next(rng, style);
+        calls.push(Call::Step(record));
+        if rng.mille(style.asks) {
+            calls.push(Call::Ask(any_class(rng, style.k)));
+        }
+        if shadow.desk[1] == 1 {
+            after += 1;
+            if after > 3 {
+                break;
+            }
+        }
+    }
+    if rng.mille(if style.k > 16 { 60 } else { 300 }) {
+        ask_all(style.k, calls);
+    }
+}
+
+// --------------------------------------------------------------------- random
+
+fn log(rng: &mut Rng) -> Case {
+    let k = any_k(rng);
+    let style = any_style(rng, k);
+    let mut calls = vec![Call::Open(k as u64)];
+    let most = rng.pick(&[5, 20, 60, 150, 300]);
+    steps(rng, &style, &mut Shadow::opened(k), most, &mut calls);
+    case("log from opening", any_buffers(rng, k), calls)
+}
+
+/// Takes mostly, to depths of 20 and 21.
+fn deep_log(rng: &mut Rng) -> Case {
+    let k = rng.pick(&[1, 2, 3, 8, 64, 64, 33]);
+    let mut style = any_style(rng, k);
+    style.weights = [30, 1, 1];
+    style.cores.truncate(2);
+    style.damaged = 0;
+    if k < 40 || rng.mille(500) {
+        style.modes = [0, 0, 1];
+        style.unordered = 1000;
+    } else {
+        style.unordered = 0;
+    }
+    let mut calls = vec![Call::Open(k as u64)];
+    steps(rng, &style, &mut Shadow::opened(k), 120, &mut calls);
+    case("deep log", any_buffers(rng, k), calls)
+}
+
+fn long_log(rng: &mut Rng) -> Case {
+    let k = rng.pick(&[4, 8, 17, 64]);
+    let mut style = clean_style(k);
+    style.random = 10;
+    style.damaged = 5;
+    style.asks = 5;
+    style.unordered = rng.pick(&[0, 0, 3]);
+    let mut calls = vec![Call::Open(k as u64)];
+    steps(rng, &style, &mut Shadow::opened(k), 3000, &mut calls);
+    case("long log", any_buffers(rng, k), calls)
+}
+
+/// A fit desk and sheet that no opening need lead to.
+pub fn fit_desk(rng: &mut Rng, k: usize) -> (Vec<u8>, Vec<u8>, Vec<u8>) {
+    let (mut desk, mut sheet, slip) = any_buffers(rng, k);
+    desk[..578].fill(0);
+    desk[0] = k as u8;
+    desk[1] = u8::from(rng.mille(60));
+    let fullness = rng.pick(&[0, 1, 2, 3]);
+    for core in 0..8 {
+        let state = rng.under(9) as u8;
+        desk[2 + core] = state;
+        for frame in 0..3 {
+            let may = [true, [4, 5, 8].contains(&state), state >= 6][frame];
+            let depth = match fullness {
+                _ if !may => 0,
+                0 => 0,
+                1 => rng.under(3),
+                2 => rng.under(21),
+                _ => rng.pick(&[0, 1, 19, 20, 20]),
+            };
+            desk[10 + 3 * core + frame] = depth as u8;
+            for i in 0..depth {
+                desk[98 + 20 * (3 * core + frame) + i] = (rng.under(k) + 64 * rng.under(3)) as u8;
+            }
+        }
+    }
+    let mark_density = rng.pick(&[0, 0, 30, 100, 300, 1000]);
+    let mark_mask = rng.pick(&[0xFF, 0xFF, 0x0F, 0x0A, 0xAA, 0xCC, 0x33, 0x6A, 0x9B, 0x55]);
+    let half = rng.mille(300);
+    for class in 0..k {
+        if rng.mille(mark_density) {
+            let mut m = rng.byte() & mark_mask & if rng.mille(500) { rng.byte() } else { 255 };
+            if half {
+                m &= if class < k / 2 { 0xCC } else { 0x33 };
+            }
+            // A soft-unsafe mark has its hard-unsafe one.
+            if rng.mille(500) {
+                m |= (m >> 4) & 12;
+            } else {
+                m &= !(((m >> 4) & 12 & !m) << 4);
+            }
+            desk[34 + class] = m;
+        }
+    }
+    sheet[..k * k].fill(0);
+    let any_kinds = |rng: &mut Rng| match rng.under(4) {
+        0 => rng.under(16) as u8,
+        1 => 1 << rng.under(4),
+        2 => rng.pick(&[1, 4, 5, 8, 8, 12]),
+        _ => rng.pick(&[1, 2, 4, 8]),
+    };
+    match rng.under(8) {
+        0 => {}
+        1 => {
+            for b in &mut sheet[..k * k] {
+                *b = rng.under(16) as u8;
+            }
+        }
+        2 => {
+            // Only upwards: clean but for the marks; as dense as it falls.
+            let density = rng.pick(&[100, 500, 1000]);
+            for from in 0..k {
+                for to in from + 1..k {
+                    if rng.mille(density) {
+                        sheet[from * k + to] = any_kinds(rng);
+                    }
+                }
+            }
+        }
+        3 => {
+            // One ring over some classes, whole or broken at one joint, with decoys.
+            let n = rng.between(1, k);
+            let mut classes: Vec<usize> = (0..k).collect();
+            for i in (1..k).rev() {
+                classes.swap(i, rng.under(i + 1));
+            }
+            let mut second_r = rng.mille(500);
+            let first_letter_s = !second_r && rng.mille(500);
+            let last_r = second_r;
+            for i in 0..n {
+                let s = if i == 0 { first_letter_s } else { !second_r && rng.mille(600) };
+                second_r = if i == n - 1 { last_r && !s } else { rng.mille(500) };
+                if i == n - 1 && !last_r {
+                    second_r = false;
+                }
+                let kind = (if s { 4 } else { 1 }) * (if second_r { 1 } else { 2 });
+                sheet[classes[i] * k + classes[(i + 1) % n]] |= kind;
+            }
+            if rng.mille(400) {
+                let i = rng.under(n);
+                sheet[classes[i] * k + classes[(i + 1) % n]] = rng.pick(&[0, 1, 4, 8]);
+            }
+            for _ in 0..rng.under(4) {
+                sheet[rng.under(k) * k + rng.under(k)] |= rng.pick(&[1, 4, 4]);
+            }
+        }
+        4 => {
+            // Arrivals by R that may not go on, and detours by N.
+            for _ in 0..2 * k {
+                let from = rng.under(k);
+                let to = rng.under(k);
+                sheet[from * k + to] |= rng.pick(&[1, 4, 4, 8, 8]);
+            }
+        }
+        _ => {
+            let arrows = rng.pick(&[1, k / 2 + 1, k, k + k / 2, 2 * k, 4 * k]);
+            for _ in 0..arrows {
+                sheet[rng.under(k) * k + rng.under(k)] |= any_kinds(rng);
+            }
+        }
+    }
+    assert_eq!(reference::unfit(&desk, &sheet, Some(&slip)), None, "the made desk is unfit");
+    (desk, sheet, slip)
+}
+
+fn drawn_desk(rng: &mut Rng) -> Case {
+    let k = any_k(rng);
+    let (desk, sheet, slip) = fit_desk(rng, k);
+    let mut style = any_style(rng, k);
+    style.random = rng.pick(&[10, 100, 300]);
+    style.asks = style.asks.max(50);
+    let mut calls = Vec::new();
+    if rng.mille(300) {
+        calls.push(Call::Ask(any_class(rng, k)));
+    }
+    if rng.mille(300) {
+        calls.push(Call::Step(damaged(rng, k)));
+    }
+    let mut shadow = Shadow { desk: desk.clone(), sheet: sheet.clone(), slip: slip.clone() };
+    let most = rng.pick(&[2, 5, 15, 40]);
+    steps(rng, &style, &mut shadow, most, &mut calls);
+    case("fit desk", (desk, sheet, slip), calls)
+}
+
+/// Violates one clause of "Unfit" (by its place in CLAUSES); false if this desk can't.
+pub fn violate(rng: &mut Rng, clause: usize, b: &mut (Vec<u8>, Vec<u8>, Vec<u8>)) -> bool {
+    let (desk, sheet, slip) = b;
+    if clause == 0 {
+        let n = if rng.mille(500) { 577 } else { rng.under(578) };
+        desk.truncate(n);
+        return true;
+    }
+    if desk.len() < 578 {
+        return false;
+    }
+    let k = usize::from(desk[0]);
+    if clause == 1 {
+        desk[0] = rng.pick(&[0, 65, 66, 128, 129, 255, rng.clone().between(65, 255) as u8]);
+        return true;
+    }
+    if !(1..=64).contains(&k) {
+        return false;
+    }
+    let core = rng.under(8);
+    let frame = rng.under(24);
+    let depth = usize::from(desk[10 + frame]);
+    match clause {
+        2 => {
+            let n = if rng.mille(500) { k * k - 1 } else { rng.under(k * k) };
+            sheet.truncate(n);
+        }
+        3 => {
+            let n = if rng.mille(500) { 3 * k } else { rng.under(1 + 3 * k) };
+            slip.truncate(n);
+        }
+        4 => desk[1] = rng.pick(&[2, 3, 128, 255, rng.clone().between(2, 255) as u8]),
+        5 => desk[2 + core] = rng.pick(&[9, 10, 16, 255, rng.clone().between(9, 255) as u8]),
+        6 => desk[10 + frame] = rng.pick(&[21, 22, 84, 255, rng.clone().between(21, 255) as u8]),
+        7 | 8 => {
+            // In a task frame, where a hold may always stand.
+            let frame = 3 * core;
+            let mut depth = usize::from(desk[10 + frame]);
+            if depth > 20 {
+                return false;
+            }
+            if depth == 0 {
+                desk[10 + frame] = 1;
+                depth = 1;
+            }
+            let at = 98 + 20 * frame + rng.under(depth);
+            if clause == 8 {
+                desk[at] = 192 + rng.under(k) as u8;
+            } else if k < 64 {
+                desk[at] = (rng.pick(&[k, 63, rng.clone().between(k, 63)]) + 64 * rng.under(3)) as u8;
+            } else {
+                return false;
+            }
+        }
+        9 => {
+            if depth > 19 {
+                return false;
+            }
+            let at = rng.pick(&[depth, 19, rng.clone().between(depth, 19)]);
+            desk[98 + 20 * frame + at] = rng.pick(&[1, 64, 128, 255, rng.clone().between(1, 255) as u8]);
+        }
+        10 | 11 => {
+            let (part, states): (usize, &[u8]) =
+                if clause == 10 { (1, &[0, 1, 2, 3, 6, 7]) } else { (2, &[0, 1, 2, 3, 4, 5]) };
+            let frame = 3 * core + part;
+            if desk[10 + frame] == 0 {
+                desk[10 + frame] = 1;
+                desk[98 + 20 * frame] = rng.under(k) as u8;
+            }
+            let other = 3 * core + 3 - part;
+            // Keep the other handler frame from being wrong as well.
+            desk[10 + other] = 0;
+            desk[98 + 20 * other..118 + 20 * other].fill(0);
+            desk[2 + core] = rng.pick(states);
+        }
+        12 => {
+            if k == 64 {
+                return false;
+            }
+            let at = rng.pick(&[k, 63, rng.clone().between(k, 63)]);
+            desk[34 + at] = rng.pick(&[1, 2, 4, 8, 16, 32, 68, 136]);
+        }
+        13 => {
+            let at = 34 + rng.pick(&[0, k - 1, rng.clone().under(k)]);
+            let (soft, hard) = rng.pick(&[(64, 4), (128, 8)]);
+            desk[at] = (desk[at] | soft) & !hard;
+        }
+        _ => {
+            let at = rng.pick(&[0, k * k - 1, rng.clone().under(k * k)]);
+            if at >= sheet.len() {
+                return false;
+            }
+            sheet[at] |= rng.pick(&[16, 32, 64, 128, 240]);
+        }
+    }
+    rng.next();
+    true
+}
+
+fn some_calls(rng: &mut Rng, k: usize, n: usize) -> Vec<Call> {
+    let mut style = clean_style(k);
+    style.random = 500;
+    style.damaged = 150;
+    let desk = Shadow::opened(k).desk;
+    (0..n)
+        .map(|_| {
+            if rng.mille(300) {
+                Call::Ask(any_class(rng, k))
+            } else {
+                Call::Step(propose(rng, &style, &desk))
+            }
+        })
+        .collect()
+}
+
+fn unfit_desk(rng: &mut Rng) -> Case {
+    let k = any_k(rng);
+    let mut buffers = fit_desk(rng, k);
+    let n = rng.pick(&[1, 1, 2, 3, 6]);
+    for _ in 0..n {
+        let clause = rng.under(15);
+        violate(rng, clause, &mut buffers);
+    }
+    let mut calls = some_calls(rng, k, 4);
+    if rng.mille(100) {
+        calls.push(Call::Open(k as u64));
+        calls.extend(some_calls(rng, k, 3));
+    }
+    case("unfit desk", buffers, calls)
+}
+
+/// A fit desk with one to three bytes changed to anything: fit or not, as it falls.
+fn changed_desk(rng: &mut Rng) -> Case {
+    let k = any_k(rng);
+    let mut buffers = if rng.mille(700) {
+        fit_desk(rng, k)
+    } else {
+        let s = Shadow::opened(k);
+        (s.desk, s.sheet, s.slip)
+    };
+    for _ in 0..rng.between(1, 3) {
+        let at = match rng.under(6) {
+            0 => rng.under(10),
+            1 => rng.between(10, 33),
+            2 => rng.between(34, 97),
+            _ => rng.under(578 + k * k),
+        };
+        let value = match rng.under(3) {
+            0 => rng.byte(),
+            1 => rng.under(24) as u8,
+            _ => 1 << rng.under(8),
+        };
+        if at < 578 {
+            buffers.0[at] = value;
+        } else {
+            buffers.1[at - 578] = value;
+        }
+    }
+    let calls = some_calls(rng, k, 4);
+    case("changed desk", buffers, calls)
+}
+
+fn opening(rng: &mut Rng) -> Case {
+    let k = match rng.under(4) {
+        0 => rng.under(301) as u64,
+        1 => rng.pick(&BIG),
+        2 => rng.next() >> rng.under(64),
+        _ => rng.between(1, 64) as u64,
+    };
+    let near = |rng: &mut Rng, n: usize| match rng.under(6) {
+        0 => n.saturating_sub(1),
+        1 => 0,
+        2 => rng.under(n + 1),
+        3 => n + rng.under(40),
+        _ => n,
+    };
+    let size = k.min(64) as usize;
+    let (d, s, l) = (near(rng, 578), near(rng, size * size), near(rng, 1 + 3 * size));
+    let buffers = (rng.bytes(d), rng.bytes(s), rng.bytes(l));
+    let mut calls = vec![Call::Open(k)];
+    calls.extend(some_calls(rng, size.max(1), 3));
+    case("opening", buffers, calls)
+}
+
+/// Two lists for demand 3: the second has foreign records put in.
+fn pair(rng: &mut Rng) -> Case {
+    let k = rng.pick(&[1, 2, 3, 8, 8, 8, 16, 64]);
+    let mut own = any_style(rng, k);
+    let mut foreign = any_style(rng, k);
+    own.cores = (0..8).collect();
+    for i in (1..8).rev() {
+        own.cores.swap(i, rng.under(i + 1));
+    }
+    foreign.cores = own.cores.split_off(rng.between(1, 7));
+    let most = rng.pick(&[4, 10, 40, 100]);
+    let make = |rng: &mut Rng, style: &Style, most: usize, banned: &[u8]| {
+        let mut shadow = Shadow::opened(k);
+        let mut list = Vec::new();
+        let mut after = 0;
+        while list.len() < most && after < 4 {
+            let (record, _) = shadow.next(rng, style);
+            // Damaged records may name any core, if by chance they name one.
+            if !record.names().is_some_and(|c| banned.contains(&c)) {
+                list.push(record);
+            } else {
+                break;
+            }
+            after += usize::from(shadow.desk[1]);
+        }
+        list
+    };
+    let first = make(rng, &own, most, &[]);
+    let named: Vec<u8> = first.iter().filter_map(|r| r.names()).collect();
+    let put_in = make(rng, &foreign, most, &named);
+    let (mut calls, mut flags) = (Vec::new(), Vec::new());
+    let (mut i, mut j) = (0, 0);
+    let bias = rng.pick(&[100, 500, 900]);
+    while i < first.len() || j < put_in.len() {
+        let own_turn = j == put_in.len() || (i < first.len() && rng.mille(bias));
+        flags.push(own_turn);
+        if own_turn {
+            calls.push(Call::Step(first[i]));
+            i += 1;
+        } else {
+            calls.push(Call::Step(put_in[j]));
+            j += 1;
+        }
+    }
+    let mut c = case("pair of lists", any_buffers(rng, k), calls);
+    c.pair = Some((k as u64, flags));
+    c
+}
+
+pub fn random(rng: &mut Rng) -> Case {
+    match rng.weighted(&[200, 60, 5, 330, 130, 160, 60, 90]) {
+        0 => log(rng),
+        1 => deep_log(rng),
+        2 => long_log(rng),
+        3 => drawn_desk(rng),
+        4 => unfit_desk(rng),
+        5 => changed_desk(rng),
+        6 => opening(rng),
+        _ => pair(rng),
+    }
+}
+
+// ---------------------------------------------------------------------- fixed
+
+/// Records in short: "c:t" with t a take as 3E, 3r, 3R, a release as -3, or an event:
+/// h+ h- s+ s- (hard or soft on or off), S+ S- H+ H- (enter or exit a handler).
+fn read(text: &str) -> Vec<Rec> {
+    let mut core = 0;
+    let mut list = Vec::new();
+    for word in text.split_whitespace() {
+        let word = match word.split_once(':') {
+            Some((c, rest)) => {
+                core = c.parse().unwrap();
+                rest
+            }
+            None => word,
+        };
+        let event = ["h+", "h-", "s+", "s-", "S+", "S-", "H+", "H-"].iter().position(|e| *e == word);
+        list.push(match event {
+            Some(i) => Rec::new(core, 2 + i as u8, 0, 0),
+            None if word.starts_with('-') => Rec::new(core, 1, word[1..].parse().unwrap(), 0),
+            None => {
+                let (class, mode) = word.split_at(word.len() - 1);
+                let mode = "ErR".find(mode).unwrap() as u8;
+                Rec::new(core, 0, class.parse().unwrap(), mode)
+            }
+        });
+    }
+    list
+}
+
+/// A log from opening and the answers that the document says it gets: the last one
+/// given, all before it 0.
+pub struct HandLog {
+    pub name: &'static str,
+    pub k: usize,
+    pub records: Vec<Rec>,
+    pub last: u8,
+}
+
+pub fn hand_logs() -> Vec<HandLog> {
+    let twenty: String = "0R ".repeat(20);
+    let twenty_one: String = "0R ".repeat(21);
+    let rows: Vec<(&'static str, usize, &str, u8)> = vec![
+        ("P1", 8, "", 0),
+        ("P2", 8, "0:1E 2E -2 -1 1:2E 1E", 1),
+        ("P2 with K = 3", 3, "0:1E 2E -2 -1 1:2E 1E", 1),
+        ("P3", 8, "0:0R 1E 1:1R 0E", 1),
+        ("P4", 8, "0:0E 1R 1:1R 0E", 0),
+        ("P5", 8, "0:0E 1R 1:1E 0R", 1),
+        ("P6", 8, "0:0R 0R", 0),
+        ("P7", 8, "0:0R 0r", 1),
+        ("P8", 8, "0:0E 0R", 1),
+        ("P9", 8, "0:0E 1R 2E 1:2E 0E", 1),
+        ("P10", 8, "0:3E -3 H+ 3E", 1),
+        ("P10 both R", 8, "0:3R -3 H+ 3R", 0),
+        ("P11", 8, "0:H+ 4E -4 H- h- 4E 5E -5 -4 h+ 5E", 1),
+        ("P12", 8, "0:s- 6E -6 s+ S+ 6E", 0),
+        ("P12 without", 8, "0:6E -6 S+ 6E", 1),
+        ("depth 20", 8, &twenty, 0),
+        ("depth 21", 8, &twenty_one, 8),
+        ("exit hard with a hold", 8, "0:H+ 1E H-", 7),
+        ("exit soft with a hold", 8, "0:S+ 1E S-", 7),
+        ("exit hard in state 0", 8, "0:H-", 6),
+        ("release of what isn't held", 8, "0:1E -2", 5),
+        ("release in another frame", 8, "0:1E S+ -1", 5),
+        ("class 8 of 8", 8, "0:8E", 4),
+        // Errors that show in no answer from opening, only in bytes.
+        ("across frames: task, soft", 8, "0:0E S+ 1E", 0),
+        ("across frames: task, hard", 8, "0:0E H+ 1E", 0),
+        ("across frames: soft, hard", 8, "0:S+ 0E H+ 1E", 0),
+        ("across frames: all three, reads", 8, "3:0r S+ 1R H+ 2r -2 H- 3R -3 -1 S- -0", 0),
+        ("across frames: soft off, hard", 8, "5:s- 0E 1R H+ 2R 3E", 0),
+        ("across frames: back in the task", 8, "0:0E S+ 5E -5 S- 1E", 0),
+        ("oldest released: modes", 8, "0:0r 0R -0", 0),
+        ("oldest released: order", 8, "0:0R 1R 0R -0", 0),
+        ("oldest released: order and arrows", 8, "0:0R 1E 0R -0 2E -2 -1 -0", 0),
+        ("oldest released: in a handler", 8, "7:H+ 3r 3R 3R -3 -3 -3 H-", 0),
+        // Reach by class alone.
+        ("class once", 8, "0:0E 1R -1 -0 0E 2E -2 -0 2E 1E -1 -2 1R 0E", 1),
+        ("class once, other numbers", 8, "0:3E 0R -0 -3 3E 5E -5 -3 5E 0E -0 -5 0r 3E", 1),
+        ("class once, N walked before R", 8, "0:0E 1E -1 -0 1E 2R -2 -1 0E 3E -3 -0 3E 2E -2 -3 2R 0E", 1),
+        // Marks at other records than takes.
+        ("mark at hard on", 8, "0:H+ 1E -1 H- h- 1E h+", 1),
+        ("mark at soft on", 8, "0:S+ 1E -1 S- s- 1E s+", 1),
+        ("mark at exit hard", 8, "0:h- s- 1E h+ H+ H- s+", 0),
+        ("mark at exit soft", 8, "2:S+ h- 1E h+ -1 S- 2E s-", 0),
+        ("mark at a release", 8, "0:h- 1E 2E h+ -2", 0),
+        ("mark in a soft handler", 8, "1:S+ h- 1E h+ H+ 2E -2 H- -1 S-", 0),
+        ("newest hold only", 8, "0:0E 1R 2E 3R 4E 1:4E 0E", 1),
+        ("hard over 1", 8, "0:s- H+ 1E -1 H- s+", 0),
+        ("all states", 8, "0:h- h- h+ h+ s- s- h- h- s+ s- h+ s+ S+ h- h- h+ h+ H+ H- S- s- H+ H- s+ H+ H-", 0),
+        ("a self circle by soft", 1, "0:0R S- ", 6),
+        ("K of 1", 1, "0:0R 0R -0 0R 1:0R 2:0R H+ 0R", 0),
+        ("K of 1, fault", 1, "0:0r -0 H+ 0r", 1),
+    ];
+    rows.into_iter().map(|(name, k, text, last)| HandLog { name, k, records: read(text), last }).collect()
+}
+
+/// The cases made by hand and those that go through all of a small space.
+pub fn fixed(each: &mut dyn FnMut(Case) -> bool) {
+    let rng = &mut Rng::new(20_260_101);
+    // Hand logs, every class asked after each record, and steps after the end.
+    for log in hand_logs() {
+        let mut calls = vec![Call::Open(log.k as u64)];
+        ask_all(log.k, &mut calls);
+        for r in &log.records {
+            calls.push(Call::Step(*r));
+            ask_all(log.k, &mut calls);
+        }
+        calls.extend(some_calls(rng, log.k, 6));
+        if !each(case(log.name, any_buffers(rng, log.k), calls)) {
+            return;
+        }
+    }
+    // Opening with each K from 0 to 300 and big ones, with buffers just long enough,
+    // one byte short, and empty.
+    for k in (0..=300).chain(BIG) {
+        let size = k.min(64) as usize;
+        let short = (size * size).saturating_sub(1);
+        for (d, s) in [(578, size * size), (578, 4096), (577, size * size), (578, short), (577, short), (0, 0), (600, 5000), (578, 0)] {
+            let mut calls = vec![Call::Open(k)];
+            calls.extend(some_calls(rng, size.max(1), 2));
+            if !each(case("each opening", (rng.bytes(d), rng.bytes(s), rng.bytes(1 + 3 * size)), calls)) {
+                return;
+            }
+        }
+    }
+    // Each clause of "Unfit" alone, open and closed, with every kind of call.
+    for clause in 0..15 {
+        let mut made = 0;
+        while made < 150 {
+            let k = any_k(rng);
+            let mut buffers = fit_desk(rng, k);
+            if made % 2 == 0 {
+                // Holds consistent with a fresh state, so that nothing else is wrong.
+                let s = Shadow::opened(k);
+                buffers = (s.desk, s.sheet, s.slip);
+            }
+            if !violate(rng, clause, &mut buffers) {
+                continue;
+            }
+            if clause == 6 {
+                // An overlong depth in a handler frame would be wrong twice.
+                let states: Vec<u8> = buffers.0[2..10].to_vec();
+                for core in 0..8 {
+                    let wrong = (buffers.0[11 + 3 * core] > 20 && ![4, 5, 8].contains(&states[core]))
+                        || (buffers.0[12 + 3 * core] > 20 && states[core] < 6);
+                    if wrong {
+                        buffers.0[2 + core] = 8;
+                    }
+                }
+            }
+            let name = reference::CLAUSES[clause];
+            if clause == 5 && (0..8).any(|c| buffers.0[2 + c] > 8 && (buffers.0[11 + 3 * c] > 0 || buffers.0[12 + 3 * c] > 0)) {
+                // A state over 8 with handler holds is wrong twice: leave them out.
+                continue;
+            }
+            let mut calls: Vec<Call> = (0..10u8).map(|kind| Call::Step(Rec::new(rng.under(8) as u8, kind, 0, 0))).collect();
+            calls.push(Call::Step(damaged(rng, k)));
+            calls.push(Call::Step(Rec::new(0, 0, k as u8, 0)));
+            for class in [0, k as u64 - 1, k as u64, 255, 256, 1 << 32, u64::MAX] {
+                calls.push(Call::Ask(class));
+            }
+            let mut c = case("each clause alone", buffers, calls);
+            c.clause = Some(name);
+            made += 1;
+            if !each(c) {
+                return;
+            }
+        }
+    }
+    // Each byte of the desk with each value, on an opened desk with some holds.
+    for at in 0..578 {
+        let k = [1, 3, 8, 64][at % 4];
+        let mut shadow = Shadow::opened(k);
+        let style = clean_style(k);
+        for _ in 0..30 {
+            shadow.next(rng, &style);
+        }
+        for value in 0..=255u8 {
+            if at >= 34 && value > 4 && !value.is_power_of_two() && !rng.mille(100) {
+                continue;
+            }
+            let mut desk = shadow.desk.clone();
+            desk[at] = value;
+            let calls = some_calls(rng, k, 2);
+            if !each(case("each desk byte", (desk, shadow.sheet.clone(), shadow.slip.clone()), calls)) {
+                return;
+            }
+        }
+    }
+    // Each state with each kind, with empty and with standing frames.
+    for state in 0..9u8 {
+        for holds in [0, 1, 20] {
+            let mut desk = Shadow::opened(3).desk;
+            desk[2 + 4] = state;
+            let here = 12 + [0, 0, 0, 0, 1, 1, 2, 2, 2][usize::from(state)];
+            desk[10 + here] = holds;
+            desk[98 + 20 * here..98 + 20 * here + usize::from(holds)].fill(1 + 64 * 2);
+            for kind in 0..10 {
+                for class in 0..5 {
+                    for mode in 0..4 {
+                        let calls = vec![Call::Step(Rec::new(4, kind, class, mode)), Call::Ask(1)];
+                        if !each(case("each state and kind", (desk.clone(), vec![0; 9], vec![9; 10]), calls)) {
+                            return;
+                        }
+                    }
+                }
+            }
+        }
+    }
+    // All drawings of one class, and all sheets of two classes.
+    let tick = Call::Step(Rec::new(0, 2, 0, 0));
+    for mark in 0..=255u8 {
+        for kinds in 0..17u8 {
+            let mut desk = Shadow::opened(1).desk;
+            desk[34] = mark;
+            let calls = vec![Call::Ask(0), tick.clone(), Call::Ask(0), Call::Ask(1)];
+            if !each(case("all of K = 1", (desk, vec![kinds], vec![7; 4]), calls)) {
+                return;
+            }
+        }
+    }
+    for all in 0..65536usize {
+        let desk = Shadow::opened(2).desk;
+        let sheet = vec![all as u8 & 15, (all >> 4) as u8 & 15, (all >> 8) as u8 & 15, (all >> 12) as u8];
+        let calls = vec![tick.clone(), Call::Ask(0), Call::Ask(1)];
+        if !each(case("all sheets of K = 2", (desk, sheet, vec![7; 7]), calls)) {
+            return;
+        }
+    }
+}

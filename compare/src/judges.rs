@@ -1,0 +1,150 @@
+//! The judges that can stand in the subject's place: the library by its C calls, or a
+//! planted copy. The library's calls are made on the buffers as they are and, one call
+//! in eight, on copies that end exactly at an unreadable page, so that a read or a
+//! write past a slice's length stops the program.
+
+use crate::planted::{self, Plant};
+
+extern "C" {
+    fn plungerowl_open(k: u64, desk: *mut u8, desk_len: usize, sheet: *mut u8, sheet_len: usize) -> u8;
+    fn plungerowl_step(
+        desk: *mut u8, desk_len: usize, sheet: *mut u8, sheet_len: usize,
+        slip: *mut u8, slip_len: usize, record: *const u8, record_len: usize,
+    ) -> u8;
+    fn plungerowl_ask(
+        desk: *const u8, desk_len: usize, sheet: *const u8, sheet_len: usize,
+        class: u64, word: *mut u64, count: *mut u32,
+    ) -> u8;
+
+    // From the C library that std links anyway.
+    fn mmap(at: *mut u8, len: usize, prot: i32, flags: i32, fd: i32, offset: i64) -> *mut u8;
+    fn mprotect(at: *mut u8, len: usize, prot: i32) -> i32;
+}
+
+pub mod library {
+    pub fn open(k: u64, desk: &mut [u8], sheet: &mut [u8]) -> u8 {
+        unsafe { super::plungerowl_open(k, desk.as_mut_ptr(), desk.len(), sheet.as_mut_ptr(), sheet.len()) }
+    }
+    #[inline(never)]
+    pub fn step(desk: &mut [u8], sheet: &mut [u8], slip: &mut [u8], record: &[u8]) -> u8 {
+        unsafe {
+            super::plungerowl_step(
+                desk.as_mut_ptr(), desk.len(), sheet.as_mut_ptr(), sheet.len(),
+                slip.as_mut_ptr(), slip.len(), record.as_ptr(), record.len(),
+            )
+        }
+    }
+    #[inline(never)]
+    pub fn ask(desk: &[u8], sheet: &[u8], class: u64, word: &mut u64, count: &mut u32) -> u8 {
+        unsafe { super::plungerowl_ask(desk.as_ptr(), desk.len(), sheet.as_ptr(), sheet.len(), class, word, count) }
+    }
+}
+
+const ROOM: usize = 16384;
+
+/// Memory whose end borders on an unreadable page.
+struct Edge {
+    end: *mut u8,
+}
+
+impl Edge {
+    fn new() -> Edge {
+        unsafe {
+            // PROT_READ | PROT_WRITE; MAP_PRIVATE | MAP_ANONYMOUS
+            let base = mmap(std::ptr::null_mut(), ROOM + 4096, 3, 0x22, -1, 0);
+            assert!(base as isize != -1 && !base.is_null(), "mmap failed");
+            assert!(mprotect(base.add(ROOM), 4096, 0) == 0, "mprotect failed");
+            Edge { end: base.add(ROOM) }
+        }
+    }
+    #[allow(clippy::mut_from_ref)]
+    fn hold(&mut self, bytes: &[u8]) -> &mut [u8] {
+        assert!(bytes.len() <= ROOM);
+        // Within the mapped room; nobody else refers to it while &mut self lives.
+        let slice = unsafe { std::slice::from_raw_parts_mut(self.end.sub(bytes.len()), bytes.len()) };
+        slice.copy_from_slice(bytes);
+        slice
+    }
+}
+
+pub enum Subject {
+    Library(Box<Edges>),
+    Planted(Plant),
+}
+
+pub struct Edges {
+    edges: [Edge; 4],
+    calls: u64,
+}
+
+/// Every eighth call is made at the edge.
+const EACH: u64 = 8;
+
+impl Edges {
+    fn turn(&mut self) -> bool {
+        self.calls += 1;
+        self.calls % EACH == 0
+    }
+    pub fn edge_calls(&self) -> u64 {
+        self.calls / EACH
+    }
+}
+
+impl Subject {
+    pub fn library() -> Subject {
+        let edges = [Edge::new(), Edge::new(), Edge::new(), Edge::new()];
+        Subject::Library(Box::new(Edges { edges, calls: 0 }))
+    }
+
+    pub fn open(&mut self, k: u64, desk: &mut [u8], sheet: &mut [u8]) -> u8 {
+        match self {
+            Subject::Planted(_) => planted::open(k, desk, sheet),
+            Subject::Library(e) => {
+                if !e.turn() {
+                    return library::open(k, desk, sheet);
+                }
+                let [a, b, ..] = &mut e.edges;
+                let (d, s) = (a.hold(desk), b.hold(sheet));
+                let answer = library::open(k, d, s);
+                desk.copy_from_slice(d);
+                sheet.copy_from_slice(s);
+                answer
+            }
+        }
+    }
+
+    pub fn step(&mut self, desk: &mut [u8], sheet: &mut [u8], slip: &mut [u8], record: &[u8]) -> u8 {
+        match self {
+            Subject::Planted(p) => planted::step(*p, desk, sheet, slip, record),
+            Subject::Library(e) => {
+                if !e.turn() {
+                    return library::step(desk, sheet, slip, record);
+                }
+                let [a, b, c, f] = &mut e.edges;
+                let (d, s, l, r) = (a.hold(desk), b.hold(sheet), c.hold(slip), f.hold(record));
+                let answer = library::step(d, s, l, r);
+                desk.copy_from_slice(d);
+                sheet.copy_from_slice(s);
+                slip.copy_from_slice(l);
+                assert_eq!(r, record, "the record was changed");
+                answer
+            }
+        }
+    }
+
+    pub fn ask(&mut self, desk: &[u8], sheet: &[u8], class: u64, word: &mut u64, count: &mut u32) -> u8 {
+        match self {
+            Subject::Planted(p) => planted::ask(*p, desk, sheet, class, word, count),
+            Subject::Library(e) => {
+                if !e.turn() {
+                    return library::ask(desk, sheet, class, word, count);
+                }
+                let [a, b, ..] = &mut e.edges;
+                let (d, s) = (a.hold(desk), b.hold(sheet));
+                let answer = library::ask(d, s, class, word, count);
+                assert!(d == desk && s == sheet, "a question changed its buffers");
+                answer
+            }
+        }
+    }
+}

@@ -1,0 +1,640 @@
+//! Wrong judges, to show that the comparer can fail: a copy of the reference's
+//! functions with one error planted by name. `Plant::None` is the copy as it was.
+#![forbid(unsafe_code)]
+
+#[derive(Clone, Copy, PartialEq, Eq, Debug)]
+pub enum Plant {
+    None,
+    /// A take draws from every hold of the core, in whichever frame.
+    CrossFrames,
+    /// A release removes the oldest hold of the class.
+    OldestRelease,
+    /// The search visits a class once, whichever way it was reached.
+    ClassOnce,
+    /// Holds are marked only after a take.
+    MarkAtTake,
+}
+
+pub const PLANTS: [(&str, Plant); 4] = [
+    ("cross-frames", Plant::CrossFrames),
+    ("oldest-release", Plant::OldestRelease),
+    ("class-once", Plant::ClassOnce),
+    ("mark-at-take", Plant::MarkAtTake),
+];
+
+
+// ---------------------------------------------------------------- the bench
+
+/// "Desk, 578 bytes".
+pub const DESK: usize = 578;
+
+/// "Sheet, K x K bytes".
+pub fn sheet_len(k: usize) -> usize {
+    k.saturating_mul(k)
+}
+
+/// "Slip, 1 + 3K bytes".
+pub fn slip_len(k: usize) -> usize {
+    k.saturating_mul(3).saturating_add(1)
+}
+
+const MAX_K: usize = 64; // "K is the number of classes, 1 to 64"
+const CORES: usize = 8; // "There are 8 cores."
+const DEEPEST: usize = 20; // "20 per frame"
+
+// Where things lie on the desk.
+const STATES: usize = 2; // "bytes 2-9 each core's state 0-8"
+const DEPTHS: usize = 10; // "bytes 10-33 hold depths (core 0 task, soft, hard, then core 1 and so on)"
+const MARKS: usize = 34; // "bytes 34-97 marks by class"
+const HOLDS: usize = 98; // "bytes 98-577 the holds"
+
+// "Kinds: 0 take, 1 release, .. 7 exit soft, .. 9 exit hard."
+const TAKE: u8 = 0;
+const RELEASE: u8 = 1;
+const EXIT_SOFT: u8 = 7;
+const EXIT_HARD: u8 = 9;
+
+// "Modes of a take: 0 exclusive, 1 non-recursive read, 2 recursive read."
+const EXCLUSIVE: u8 = 0;
+const RECURSIVE: u8 = 2;
+
+// "the sum of the arrow kinds seen: ER 1, EN 2, SR 4, SN 8"
+const ER: u8 = 1;
+const EN: u8 = 2;
+const SR: u8 = 4;
+const SN: u8 = 8;
+
+fn begins_with_s(kind: u8) -> bool {
+    kind == SR || kind == SN
+}
+
+fn ends_with_r(kind: u8) -> bool {
+    kind == ER || kind == SR
+}
+
+// ------------------------------------------------------------------ opening
+
+/// "Opening writes K, zero in the other 577 desk bytes, and zero in the sheet's
+/// K x K bytes." Answers 0, or 2: "K not 1-64, desk under 578, or sheet under
+/// K x K", "nothing changed".
+pub fn open(k: u64, desk: &mut [u8], sheet: &mut [u8]) -> u8 {
+    if k < 1 || k > MAX_K as u64 {
+        return 2;
+    }
+    let size = sheet_len(k as usize);
+    if desk.len() < DESK || sheet.len() < size {
+        return 2;
+    }
+    desk[..DESK].fill(0);
+    desk[0] = k as u8;
+    sheet[..size].fill(0);
+    0
+}
+
+// -------------------------------------------------------------------- unfit
+
+/// Every name that [`unfit`] can give, in the order in which it looks.
+pub const CLAUSES: [&str; 15] = [
+    "desk too short",
+    "K not 1-64",
+    "sheet too short",
+    "slip too short",
+    "byte 1 over 1",
+    "state over 8",
+    "depth over 20",
+    "hold class K or more",
+    "hold mode 3",
+    "unused hold not 0",
+    "soft holds outside 4, 5, 8",
+    "hard holds outside 6-8",
+    "mark on class K or more",
+    "soft-unsafe without hard-unsafe",
+    "sheet byte over 15",
+];
+
+/// The first clause of "Unfit" that is violated, in the order of [`CLAUSES`].
+/// A slip is looked at only where there is one (the question has none).
+pub fn unfit(desk: &[u8], sheet: &[u8], slip: Option<&[u8]>) -> Option<&'static str> {
+    // "any buffer too short; K not 1-64"
+    if desk.len() < DESK {
+        return Some(CLAUSES[0]);
+    }
+    let k = usize::from(desk[0]);
+    if k < 1 || k > MAX_K {
+        return Some(CLAUSES[1]);
+    }
+    if sheet.len() < sheet_len(k) {
+        return Some(CLAUSES[2]);
+    }
+    if let Some(slip) = slip {
+        if slip.len() < slip_len(k) {
+            return Some(CLAUSES[3]);
+        }
+    }
+    // "byte 1 over 1"
+    if desk[1] > 1 {
+        return Some(CLAUSES[4]);
+    }
+    let states = &desk[STATES..DEPTHS];
+    let depths = &desk[DEPTHS..MARKS];
+    let marks = &desk[MARKS..HOLDS];
+    // "a state over 8"
+    if states.iter().any(|&s| s > 8) {
+        return Some(CLAUSES[5]);
+    }
+    // "a depth over 20"
+    if depths.iter().any(|&d| usize::from(d) > DEEPEST) {
+        return Some(CLAUSES[6]);
+    }
+    // "a standing hold with class K or more or mode 3; an unused hold byte not 0"
+    let frames = || desk[HOLDS..DESK].chunks_exact(DEEPEST).zip(depths);
+    let standing = |test: fn(u8, usize) -> bool| {
+        frames().any(|(holds, &depth)| holds[..usize::from(depth)].iter().any(|&h| test(h, k)))
+    };
+    if standing(|hold, k| usize::from(hold % 64) >= k) {
+        return Some(CLAUSES[7]);
+    }
+    if standing(|hold, _| hold / 64 == 3) {
+        return Some(CLAUSES[8]);
+    }
+    if frames().any(|(holds, &depth)| holds[usize::from(depth)..].iter().any(|&h| h != 0)) {
+        return Some(CLAUSES[9]);
+    }
+    // "soft holds outside states 4, 5, 8"
+    if (0..CORES).any(|c| depths[3 * c + 1] > 0 && ![4, 5, 8].contains(&states[c])) {
+        return Some(CLAUSES[10]);
+    }
+    // "hard holds outside 6-8"
+    if (0..CORES).any(|c| depths[3 * c + 2] > 0 && ![6, 7, 8].contains(&states[c])) {
+        return Some(CLAUSES[11]);
+    }
+    // "a mark on a class K or more"
+    if marks[k..].iter().any(|&m| m != 0) {
+        return Some(CLAUSES[12]);
+    }
+    // "a soft-unsafe mark without its hard-unsafe one"
+    if marks.iter().any(|&m| (m & 64 != 0 && m & 4 == 0) || (m & 128 != 0 && m & 8 == 0)) {
+        return Some(CLAUSES[13]);
+    }
+    // "a sheet byte over 15"
+    if sheet[..sheet_len(k)].iter().any(|&b| b > 15) {
+        return Some(CLAUSES[14]);
+    }
+    None
+}
+
+// ------------------------------------------------------------- the nine states
+
+/// "The next state, x for refused": one row for each state, kinds 2 to 9.
+const NEXT: [&str; 9] = [
+    "0201 4x6x", // 0 task, hard and soft on
+    "1301 xx7x", // 1 task, hard on, soft off
+    "0223 xxxx", // 2 task, hard off, soft on
+    "1323 xxxx", // 3 task, both off
+    "45xx x08x", // 4 soft handler, hard on
+    "45xx xxxx", // 5 soft handler, hard off
+    "xxxx xxx0", // 6 hard handler over 0
+    "xxxx xxx1", // 7 over 1
+    "xxxx xxx4", // 8 over 4
+];
+
+fn next_state(state: u8, kind: u8) -> Option<u8> {
+    let row = NEXT[usize::from(state)].as_bytes();
+    // Kinds 2-5 stand before the blank, kinds 6-9 after it.
+    let column = if kind < 6 { kind - 2 } else { kind - 1 };
+    match row[usize::from(column)] {
+        b'x' => None,
+        digit => Some(digit - b'0'),
+    }
+}
+
+/// "Frames: task in 0-3, soft in 4-5, hard in 6-8."
+fn frame(core: u8, state: u8) -> usize {
+    let within = match state {
+        0..=3 => 0,
+        4..=5 => 1,
+        _ => 2,
+    };
+    3 * usize::from(core) + within
+}
+
+// --------------------------------------------------------------- one record
+
+struct Record {
+    core: u8,
+    kind: u8,
+    class: u8,
+    mode: u8,
+}
+
+/// None for answer 3: "not six bytes, wrong mark, core over 7, kind over 9, mode
+/// over 2, or a byte that should be 0".
+fn read_record(bytes: &[u8]) -> Option<Record> {
+    let &[0x4C, 0x4B, core, kind, class, mode] = bytes else {
+        return None;
+    };
+    if core > 7 || kind > 9 || mode > 2 {
+        return None;
+    }
+    // "Mode is 0 for a release; class and mode are 0 for kinds 2 to 9."
+    if kind == RELEASE && mode != 0 {
+        return None;
+    }
+    if kind >= 2 && (class != 0 || mode != 0) {
+        return None;
+    }
+    Some(Record { core, kind, class, mode })
+}
+
+/// Judges one record: answers 0, 1, 3-8, 10, 11.
+pub fn step(plant: Plant, desk: &mut [u8], sheet: &mut [u8], slip: &mut [u8], record: &[u8]) -> u8 {
+    // "Order: 11, 10, 3, 4, 6, 7, 5, 8."
+    if unfit(desk, sheet, Some(slip)).is_some() {
+        return 11;
+    }
+    if desk[1] == 1 {
+        return 10;
+    }
+    let Some(Record { core, kind, class, mode }) = read_record(record) else {
+        return 3;
+    };
+    // 4: "take or release, class K or more"
+    let k = usize::from(desk[0]);
+    if (kind == TAKE || kind == RELEASE) && usize::from(class) >= k {
+        return 4;
+    }
+    // 6: "x in the table"
+    let state = desk[STATES + usize::from(core)];
+    let state_after = match kind {
+        TAKE | RELEASE => state,
+        _ => match next_state(state, kind) {
+            Some(next) => next,
+            None => return 6,
+        },
+    };
+    // 7: "k7 or k9 allowed, but holds stand in the frame"
+    let here = frame(core, state);
+    let depth = usize::from(desk[DEPTHS + here]);
+    if (kind == EXIT_SOFT || kind == EXIT_HARD) && depth > 0 {
+        return 7;
+    }
+    // 5: "release, class not held in this frame"; else "the newest hold of that class"
+    let first = HOLDS + DEEPEST * here;
+    let held = |&at: &usize| desk[at] % 64 == class;
+    let newest = if plant == Plant::OldestRelease {
+        (first..first + depth).find(held)
+    } else {
+        (first..first + depth).rev().find(held)
+    };
+    if kind == RELEASE && newest.is_none() {
+        return 5;
+    }
+    // 8: "take, frame holds 20"
+    if kind == TAKE && depth == DEEPEST {
+        return 8;
+    }
+
+    // Accepted: from here on desk and sheet change.
+    match (kind, newest) {
+        (TAKE, _) => {
+            // "A take draws one hold arrow to the new class from every hold in the
+            // core's current frame, then adds the hold."
+            let mut drawn_from: Vec<usize> = (first..first + depth).collect();
+            if plant == Plant::CrossFrames {
+                drawn_from.clear();
+                for other in 3 * usize::from(core)..3 * usize::from(core) + 3 {
+                    let start = HOLDS + DEEPEST * other;
+                    drawn_from.extend(start..start + usize::from(desk[DEPTHS + other]));
+                }
+            }
+            for at in drawn_from {
+                let (older, older_mode) = (usize::from(desk[at] % 64), desk[at] / 64);
+                // "First letter: E if the older hold is exclusive, S for either read.
+                // Second: R if the take is recursive read, else N"
+                let arrow = match (older_mode == EXCLUSIVE, mode == RECURSIVE) {
+                    (true, true) => ER,
+                    (true, false) => EN,
+                    (false, true) => SR,
+                    (false, false) => SN,
+                };
+                sheet[older * k + usize::from(class)] |= arrow;
+            }
+            desk[first + depth] = class + 64 * mode;
+            desk[DEPTHS + here] += 1;
+        }
+        (RELEASE, Some(at)) => {
+            // "later holds move down one", "Unused hold bytes are zero."
+            let end = first + depth;
+            desk.copy_within(at + 1..end, at);
+            desk[end - 1] = 0;
+            desk[DEPTHS + here] -= 1;
+        }
+        _ => desk[STATES + usize::from(core)] = state_after,
+    }
+    if plant != Plant::MarkAtTake || kind == TAKE {
+        mark(desk, core);
+    }
+
+    let drawing = Arrivals::of(desk, sheet);
+    if plant == Plant::ClassOnce {
+        let Some(cycle) = drawing.class_once_cycle() else {
+            return 0;
+        };
+        desk[1] = 1;
+        show(desk, sheet, slip, &cycle);
+        return 1;
+    }
+    let left = drawing.peel();
+    if left == 0 {
+        return 0;
+    }
+    desk[1] = 1;
+    show(desk, sheet, slip, &drawing.shortest_cycle(left));
+    1
+}
+
+/// "After each accepted record, every hold of that core's current frame is marked
+/// by the core's state."
+fn mark(desk: &mut [u8], core: u8) {
+    let state = desk[STATES + usize::from(core)];
+    let here = frame(core, state);
+    let first = HOLDS + DEEPEST * here;
+    for at in first..first + usize::from(desk[DEPTHS + here]) {
+        let (class, mode) = (usize::from(desk[at] % 64), desk[at] / 64);
+        // "Mark bits: 1 hard-safe N, 2 hard-safe R, 4 hard-unsafe E, 8 hard-unsafe S;
+        // 16, 32, 64, 128 the same for soft."
+        let safe = if mode == RECURSIVE { 2 } else { 1 };
+        let unsafe_ = if mode == EXCLUSIVE { 4 } else { 8 };
+        let mut bits = 0;
+        // "Hard-safe in 6-8; soft-safe in 4-5; hard-unsafe in 0, 1, 4; soft-unsafe in
+        // 0 only"
+        if [6, 7, 8].contains(&state) {
+            bits |= safe;
+        }
+        if [4, 5].contains(&state) {
+            bits |= safe * 16;
+        }
+        if [0, 1, 4].contains(&state) {
+            bits |= unsafe_;
+        }
+        if state == 0 {
+            bits |= unsafe_ * 16;
+        }
+        desk[MARKS + class] |= bits;
+    }
+}
+
+// -------------------------------------------------------------- the drawing
+
+/// Whether the drawing has an arrow of this kind and source (0 hold, 1 hard,
+/// 2 soft) between two classes under K. For fit desks and sheets.
+fn drawn(desk: &[u8], sheet: &[u8], from: usize, to: usize, kind: u8, source: u8) -> bool {
+    if source == 0 {
+        return sheet[from * usize::from(desk[0]) + to] & kind != 0;
+    }
+    // "An interrupt arrow goes from each class with an unsafe mark to each class with
+    // a safe mark of the same level, its kind made of the two letters."
+    let level = if source == 1 { 1 } else { 16 };
+    let unsafe_bit = level * if begins_with_s(kind) { 8 } else { 4 };
+    let safe_bit = level * if ends_with_r(kind) { 2 } else { 1 };
+    desk[MARKS + from] & unsafe_bit != 0 && desk[MARKS + to] & safe_bit != 0
+}
+
+/// A set of arrivals: bit c is "class c by an arrow ending in N", bit 64 + c
+/// "class c by an arrow ending in R".
+type Set = u128;
+
+fn members(mut set: Set) -> impl Iterator<Item = usize> {
+    std::iter::from_fn(move || {
+        if set == 0 {
+            return None;
+        }
+        let lowest = set.trailing_zeros() as usize;
+        set &= set - 1;
+        Some(lowest)
+    })
+}
+
+/// For each arrival, the arrivals that one more arrow can lead to.
+struct Arrivals {
+    next: [Set; 128],
+}
+
+impl Arrivals {
+    /// For fit desks and sheets.
+    fn of(desk: &[u8], sheet: &[u8]) -> Arrivals {
+        let k = usize::from(desk[0]);
+        let marks = &desk[MARKS..MARKS + k];
+        // The arrivals that interrupt arrows of each level can make.
+        let (mut hard_safe, mut soft_safe): (Set, Set) = (0, 0);
+        for (c, &m) in marks.iter().enumerate() {
+            hard_safe |= (Set::from(m & 1) << c) | (Set::from(m >> 1 & 1) << (64 + c));
+            soft_safe |= (Set::from(m >> 4 & 1) << c) | (Set::from(m >> 5 & 1) << (64 + c));
+        }
+        let mut next = [0; 128];
+        for from in 0..k {
+            // Arrivals by arrows from this class, apart by first letter.
+            let (mut en, mut er, mut sn, mut sr) = (0u64, 0u64, 0u64, 0u64);
+            for (to, &kinds) in sheet[from * k..from * k + k].iter().enumerate() {
+                er |= u64::from(kinds & 1) << to;
+                en |= u64::from(kinds >> 1 & 1) << to;
+                sr |= u64::from(kinds >> 2 & 1) << to;
+                sn |= u64::from(kinds >> 3 & 1) << to;
+            }
+            let mut by_e = Set::from(en) | Set::from(er) << 64;
+            let mut by_s = Set::from(sn) | Set::from(sr) << 64;
+            let m = marks[from];
+            if m & 4 != 0 {
+                by_e |= hard_safe;
+            }
+            if m & 8 != 0 {
+                by_s |= hard_safe;
+            }
+            if m & 64 != 0 {
+                by_e |= soft_safe;
+            }
+            if m & 128 != 0 {
+                by_s |= soft_safe;
+            }
+            // "no arrow ending in R is followed by one beginning with S"
+            next[from] = by_e | by_s;
+            next[64 + from] = by_e;
+        }
+        Arrivals { next }
+    }
+
+    /// Takes away arrivals that have no successor left, until none can be taken
+    /// away. What remains is empty exactly if no closed strong path exists.
+    fn peel(&self) -> Set {
+        let mut left = Set::MAX;
+        loop {
+            let before = left;
+            for (i, &next) in self.next.iter().enumerate() {
+                if next & left == 0 {
+                    left &= !(1 << i);
+                }
+            }
+            if left == before {
+                return left;
+            }
+        }
+    }
+
+    /// A shortest cycle among the arrivals in `left`, by breadth-first search from
+    /// each. A shortest one passes no class twice: were class x passed twice, the
+    /// circle would fall into two circles through x, and as the joints (a, b') and
+    /// (b, a') at x are strong, (a, a') or (b, b') is strong too (else a and b end
+    /// in R, a' and b' begin with S), so a shorter closed strong path would exist.
+    fn shortest_cycle(&self, left: Set) -> Vec<usize> {
+        let mut best: Vec<usize> = Vec::new();
+        for start in members(left) {
+            let mut parent = [start; 128];
+            let mut seen: Set = 0;
+            let mut wave: Set = 1 << start;
+            let mut length = 0;
+            while wave != 0 && seen >> start & 1 == 0 && (best.is_empty() || length + 1 < best.len())
+            {
+                let mut found: Set = 0;
+                for i in members(wave) {
+                    let new = self.next[i] & left & !seen;
+                    for j in members(new) {
+                        parent[j] = i;
+                    }
+                    seen |= new;
+                    found |= new;
+                }
+                wave = found;
+                length += 1;
+            }
+            if seen >> start & 1 == 1 {
+                let mut cycle = vec![start];
+                let mut at = parent[start];
+                while at != start {
+                    cycle.push(at);
+                    at = parent[at];
+                }
+                cycle.reverse();
+                best = cycle;
+            }
+        }
+        best
+    }
+
+    /// The planted search: depth first, each class visited once.
+    fn class_once_cycle(&self) -> Option<Vec<usize>> {
+        let mut visited = [false; 64];
+        for root in 0..64 {
+            // A root wasn't reached by an arrow, so it isn't yet visited.
+            if !visited[root] {
+                let mut stack = vec![root];
+                if let Some(cycle) = self.class_once(&mut visited, &mut stack) {
+                    return Some(cycle);
+                }
+            }
+        }
+        None
+    }
+
+    fn class_once(&self, visited: &mut [bool; 64], stack: &mut Vec<usize>) -> Option<Vec<usize>> {
+        let top = stack[stack.len() - 1];
+        for i in members(self.next[top]) {
+            if let Some(at) = stack.iter().position(|&a| a == i) {
+                return Some(stack[at..].to_vec());
+            }
+        }
+        for i in members(self.next[top]) {
+            if !visited[i % 64] {
+                visited[i % 64] = true;
+                stack.push(i);
+                if let Some(cycle) = self.class_once(visited, stack) {
+                    return Some(cycle);
+                }
+                stack.pop();
+            }
+        }
+        None
+    }
+
+    /// The planted reach: each class visited once.
+    fn class_once_reach(&self, class: usize) -> Set {
+        let mut visited = 0u64;
+        let mut waiting = vec![class];
+        let mut reached = 0;
+        while let Some(at) = waiting.pop() {
+            for i in members(self.next[at]) {
+                if visited >> (i % 64) & 1 == 0 {
+                    visited |= 1 << (i % 64);
+                    reached |= 1 << i;
+                    waiting.push(i);
+                }
+            }
+        }
+        reached
+    }
+
+    /// The arrivals of all strong paths of one or more arrows from a class.
+    fn reach(&self, class: usize) -> Set {
+        // The first arrow may have either first letter, as after an arrival by N.
+        let mut reached = self.next[class];
+        let mut wave = reached;
+        while wave != 0 {
+            let further = members(wave).fold(0, |all, i| all | self.next[i]);
+            wave = further & !reached;
+            reached |= further;
+        }
+        reached
+    }
+}
+
+// ---------------------------------------------------------- the circle shown
+
+/// Writes the circle through these arrivals: "Byte 0 is n, 1 to K; then n times
+/// three bytes: class, kind (1, 2, 4 or 8), source (0 hold, 1 hard, 2 soft)."
+fn show(desk: &[u8], sheet: &[u8], slip: &mut [u8], cycle: &[usize]) {
+    let n = cycle.len();
+    // "the lowest class first"
+    let lowest = (0..n).min_by_key(|&i| cycle[i] % 64).unwrap_or(0);
+    slip[0] = n as u8;
+    for i in 0..n {
+        let here = cycle[(lowest + i) % n];
+        let there = cycle[(lowest + i + 1) % n];
+        let choice = (0..3)
+            .flat_map(|source| [ER, EN, SR, SN].map(|kind| (kind, source)))
+            .find(|&(kind, source)| {
+                ends_with_r(kind) == (there >= 64)
+                    && !(here >= 64 && begins_with_s(kind))
+                    && drawn(desk, sheet, here % 64, there % 64, kind, source)
+            });
+        let (kind, source) = choice.expect("a step between arrivals is made by a drawn arrow");
+        slip[1 + 3 * i..4 + 3 * i].copy_from_slice(&[(here % 64) as u8, kind, source]);
+    }
+}
+
+// ------------------------------------------------------------- the question
+
+/// "which classes end a strong path of one or more arrows from class c? The answer
+/// is one 64-bit word, bit i for class i, and how many bits are set." "Refused with
+/// 11, then 4; word and count are then 0. A closed desk may be asked."
+pub fn ask(plant: Plant, desk: &[u8], sheet: &[u8], class: u64, word: &mut u64, count: &mut u32) -> u8 {
+    *word = 0;
+    *count = 0;
+    if unfit(desk, sheet, None).is_some() {
+        return 11;
+    }
+    if class >= u64::from(desk[0]) {
+        return 4;
+    }
+    let drawing = Arrivals::of(desk, sheet);
+    let reached = if plant == Plant::ClassOnce {
+        drawing.class_once_reach(class as usize)
+    } else {
+        drawing.reach(class as usize)
+    };
+    for i in 0..64 {
+        if reached >> i & 1 == 1 || reached >> (64 + i) & 1 == 1 {
+            *word |= 1 << i;
+            *count += 1;
+        }
+    }
+    0
+}
