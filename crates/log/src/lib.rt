@@ -1,0 +1,256 @@
+// Document 01, "Logs for the bench": the header and the records of a log, and the text of the answers.
+use layout::ENTRIES_AT;
+use layout::ENTRY_SIZE;
+use record::SIZE;
+use validator::step;
+ghost use mathlib.Core.Path.{_≡_};
+ghost use mathlib.Core.List.{_++_};
+ghost use Prim.Native.Nat.{_+_, _*_, _<_, _≤_};
+ghost use lib.ListN.{length, getD};
+ghost use Rattle.rules.specs.Limits.{maxClasses};
+ghost use Rattle.layout.specs.Layout.{reportSize, entriesAt, entrySize};
+ghost use Rattle.search.specs.Reports.{next};
+ghost use Rattle.search.specs.Trails.{kindOf};
+ghost use Rattle.report.specs.Shown.{sourceBy, entriesOf};
+ghost use Rattle.log.specs.Log.{headerClasses, nextRecord, ValidatedNext, Kept};
+ghost use Rattle.log.specs.Text.{digits, kindText, sourceText, entryText, cycleText, cleanText, refusedText, faultText, lineSize, entryLineSize, cycleSize, Appended, EntryPut};
+
+pub const HEADER_SIZE: usize = 4;
+
+fn wide(byte: u8) -> u64
+    ensures { λ r. ⌜ r ≡ byte ⌝ }
+{
+    byte as u64
+}
+
+// The number of classes in a header, 0 where it is not a good one.
+pub fn header_classes(bytes: &[u8]) -> u64
+    ensures { λ r. ⌜ r ≡ headerClasses (now (bytes .entry)) ⌝ }
+{
+    if bytes.len() != HEADER_SIZE {
+        return 0;
+    }
+    if bytes[0] != 0x4C {
+        return 0;
+    }
+    if bytes[1] != 0x48 {
+        return 0;
+    }
+    if bytes[2] != 1 {
+        return 0;
+    }
+    if 64 < bytes[3] {
+        return 0;
+    }
+    wide(bytes[3])
+}
+
+// The next record of the bytes that are left: six, or at the end of the input what is left. Nothing where more is to be read.
+pub fn next_record(bytes: &[u8], ended: bool) -> &[u8]
+    ensures { λ r. ⌜ now r ≡ nextRecord (now (bytes .entry)) ended ⌝ }
+{
+    if SIZE <= bytes.len() {
+        return &bytes[..SIZE];
+    }
+    if ended {
+        return bytes;
+    }
+    &bytes[..0]
+}
+
+// What came of the bytes that are left: how many the next record took, and its answer.
+pub struct Judged {
+    pub taken: usize,
+    pub answer: u8,
+}
+
+// Judges the next record of the bytes that are left, if there is one.
+pub fn validate_next(
+    state: &mut [u8],
+    matrix: &mut [u8],
+    report: &mut [u8],
+    bytes: &[u8],
+    ended: bool,
+) -> Judged
+    ensures { λ r. ⌜ ValidatedNext (now (state .entry)) (now (matrix .entry)) (now (report .entry)) (now (bytes .entry)) ended (r .taken) (r .answer) (now (state .exit)) (now (matrix .exit)) (now (report .exit)) ⌝ }
+{
+    let next = next_record(bytes, ended);
+    let taken = next.len();
+    if taken == 0 {
+        return Judged {
+            taken: 0,
+            answer: 0,
+        };
+    }
+    let answer = step(state, matrix, report, next);
+    Judged {
+        taken: taken,
+        answer: answer,
+    }
+}
+
+// Moves the bytes that are left to the front of the buffer, and counts them.
+pub fn keep(buf: &mut [u8], at: usize, until: usize) -> usize
+    requires { ⌜ (at ≤ until) × (until ≤ length (now buf)) ⌝ }
+    ensures { λ r. ⌜ Kept (now (buf .entry)) at until (now (buf .exit)) r ⌝ }
+{
+    let n = until - at;
+    let mut i = 0;
+    while i < n {
+        buf[i] = buf[at + i];
+        i += 1;
+    }
+    n
+}
+
+fn put_word(out: &mut [u8], at: usize, word: &[u8]) -> usize
+    requires { ⌜ at + length (now word) ≤ length (now out) ⌝ }
+    ensures { λ r. ⌜ Appended (now (out .entry)) at (now (word .entry)) (now (out .exit)) r ⌝ }
+{
+    let mut i = 0;
+    while i < word.len() {
+        out[at + i] = word[i];
+        i += 1;
+    }
+    at + i
+}
+
+// A digit's character.
+fn digit(d: u64) -> u8
+    requires { ⌜ d < 10 ⌝ }
+    ensures { λ r. ⌜ r ≡ 48 + d ⌝ }
+{
+    48 + (d as u8)
+}
+
+// The decimal digits of a number.
+fn put_number(out: &mut [u8], at: usize, n: u64) -> usize
+    requires { ⌜ at + length (digits n) ≤ length (now out) ⌝ }
+    ensures { λ r. ⌜ Appended (now (out .entry)) at (digits n) (now (out .exit)) r ⌝ }
+{
+    if n < 10 {
+        out[at] = digit(n);
+        return at + 1;
+    }
+    let end = put_number(out, at, n / 10);
+    out[end] = digit(n % 10);
+    end + 1
+}
+
+// "clean, N records"
+pub fn put_clean(out: &mut [u8], records: u64) -> usize
+    requires { ⌜ lineSize ≤ length (now out) ⌝ }
+    ensures { λ r. ⌜ Appended (now (out .entry)) 0 (cleanText records) (now (out .exit)) r ⌝ }
+{
+    let a = put_word(out, 0, b"clean, ");
+    let b = put_number(out, a, records);
+    put_word(out, b, b" records\n")
+}
+
+// "refused A at record I"
+pub fn put_refused(out: &mut [u8], answer: u8, at: u64) -> usize
+    requires { ⌜ lineSize ≤ length (now out) ⌝ }
+    ensures { λ r. ⌜ Appended (now (out .entry)) 0 (refusedText answer at) (now (out .exit)) r ⌝ }
+{
+    let a = put_word(out, 0, b"refused ");
+    let b = put_number(out, a, wide(answer));
+    let c = put_word(out, b, b" at record ");
+    let d = put_number(out, c, at);
+    put_word(out, d, b"\n")
+}
+
+// "fault at record I"
+fn put_fault(out: &mut [u8], at: u64) -> usize
+    requires { ⌜ lineSize ≤ length (now out) ⌝ }
+    ensures { λ r. ⌜ Appended (now (out .entry)) 0 (faultText at) (now (out .exit)) r ⌝ }
+{
+    let a = put_word(out, 0, b"fault at record ");
+    let b = put_number(out, a, at);
+    put_word(out, b, b"\n")
+}
+
+// The kind of a dependency, between spaces.
+fn put_kind(out: &mut [u8], at: usize, kind: u8) -> usize
+    requires { ⌜ at + 4 ≤ length (now out) ⌝ }
+    ensures { λ r. ⌜ Appended (now (out .entry)) at (kindText (kindOf kind)) (now (out .exit)) r ⌝ }
+{
+    if kind == 1 {
+        return put_word(out, at, b" ER ");
+    }
+    if kind == 4 {
+        return put_word(out, at, b" SR ");
+    }
+    if kind < 4 {
+        return put_word(out, at, b" EN ");
+    }
+    put_word(out, at, b" SN ")
+}
+
+// The source of a dependency, at the end of its line.
+fn put_source(out: &mut [u8], at: usize, source: u8) -> usize
+    requires { ⌜ at + 6 ≤ length (now out) ⌝ }
+    ensures { λ r. ⌜ Appended (now (out .entry)) at (sourceText (sourceBy source)) (now (out .exit)) r ⌝ }
+{
+    if source == 0 {
+        return put_word(out, at, b" hold\n");
+    }
+    if source == 1 {
+        return put_word(out, at, b" hard\n");
+    }
+    put_word(out, at, b" soft\n")
+}
+
+// An entry of a cycle, as "1 EN 2 hold".
+fn put_entry(out: &mut [u8], at: usize, class: u8, kind: u8, source: u8, to: u8) -> usize
+    requires { ⌜ at + entryLineSize ≤ length (now out) ⌝ }
+    ensures { λ r. ⌜ EntryPut (now (out .entry)) at class kind source to (now (out .exit)) r ⌝ }
+{
+    let a = put_number(out, at, wide(class));
+    let b = put_kind(out, a, kind);
+    let c = put_number(out, b, wide(to));
+    put_source(out, c, source)
+}
+
+// Where the entry after entry i of n begins in the report.
+fn next_entry(n: usize, i: usize) -> usize
+    requires { ⌜ (i < n) × (n ≤ maxClasses) ⌝ }
+    ensures { λ r. ⌜ r ≡ entriesAt + entrySize * next n i ⌝ }
+{
+    if i + 1 < n {
+        return ENTRIES_AT + ENTRY_SIZE * (i + 1);
+    }
+    ENTRIES_AT
+}
+
+// The cycle of a report, a line for each entry.
+fn put_cycle(out: &mut [u8], at: usize, report: &[u8]) -> usize
+    requires { ⌜ (at + cycleSize ≤ length (now out)) × (getD (now report) 0 0 ≤ maxClasses) × (reportSize maxClasses ≤ length (now report)) ⌝ }
+    ensures { λ r. ⌜ Appended (now (out .entry)) at (cycleText (entriesOf (now (report .entry)))) (now (out .exit)) r ⌝ }
+{
+    let n = report[0] as usize;
+    let mut end = at;
+    let mut i = 0;
+    while i < n {
+        let entry = ENTRIES_AT + ENTRY_SIZE * i;
+        let to = next_entry(n, i);
+        end = put_entry(
+            out,
+            end,
+            report[entry],
+            report[entry + 1],
+            report[entry + 2],
+            report[to],
+        );
+        i += 1;
+    }
+    end
+}
+
+// "fault at record I", and the cycle of the report.
+pub fn put_fault_report(out: &mut [u8], at: u64, report: &[u8]) -> usize
+    requires { ⌜ (lineSize + cycleSize ≤ length (now out)) × (getD (now report) 0 0 ≤ maxClasses) × (reportSize maxClasses ≤ length (now report)) ⌝ }
+    ensures { λ r. ⌜ Appended (now (out .entry)) 0 (faultText at ++ cycleText (entriesOf (now (report .entry)))) (now (out .exit)) r ⌝ }
+{
+    let end = put_fault(out, at);
+    put_cycle(out, end, report)
+}
