@@ -13,7 +13,8 @@ use Rattle.rules.specs.Graph.{lock, irq, ER, EN, SR, SN}
 use Rattle.rules.specs.Cycle.{Entry, entryAt, following}
 use Rattle.search.specs.Trails.{kindOf}
 use Rattle.search.specs.Reports.{next}
-use Rattle.report.specs.Shown.{sourceBy, entries, entryOf, entriesOf}
+use Rattle.report.specs.Shown.{sourceBy, entryOf, entriesOf}
+use Rattle.report.proofs.Writing.{length-entries, entry-at}
 use Rattle.log.specs.Text.{digits, kindText, sourceText, entryText, faultText, lineSize, linesOf, Appended, EntryPut}
 use Rattle.log.proofs.Digits.{places-of-byte, places-of-word}
 use Rattle.log.proofs.Writing.{both, as-text}
@@ -92,17 +93,6 @@ pub next-below : (n i : ℕ) → i < n → next n i < n
 next-below n i h = next-below-by n i (ltb (suc i) n) refl h
 
 -- ---- The entries of a report.
-
-length-entries : (n : ℕ) (e : ℕ → Entry) → length (entries n e) ≡ n
-unfolding entries
-length-entries zero e = refl
-length-entries (suc n) e = ap suc (length-entries n (λ i. e (suc i)))
-
-entry-at : (n : ℕ) (e : ℕ → Entry) (i : ℕ) → i < n → entryAt (entries n e) i ≡ e i
-unfolding entries
-entry-at zero e i h = absurd (omega arith)
-entry-at (suc n) e zero h = refl
-entry-at (suc n) e (suc i) h = entry-at n (λ j. e (suc j)) i (omega arith)
 
 module _ (report : List ℕ) where
   pub long : length (entriesOf report) ≡ getD report 0 0

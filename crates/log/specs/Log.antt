@@ -26,7 +26,7 @@ headerClasses bytes = cond (isHeader bytes) (getD bytes 3 0) 0
 unfoldable pub nextRecord : List ℕ → (ended : Bool) → List ℕ
 nextRecord bytes ended = cond (leb 6 (length bytes) || ended) (take 6 bytes) []
 
--- The next record, if there is one, is judged by the step, and nothing else is.
+-- The next record, if there is one, is validated by the step, and nothing else is.
 pub record ValidatedNext (state matrix report bytes : List ℕ) (ended : Bool) (taken answer : ℕ) (state′ matrix′ report′ : List ℕ) : Type 0 where
   pub taken-is : taken ≡ length (nextRecord bytes ended)
   pub none : taken ≡ 0 → (answer ≡ 0) × (state′ ≡ state) × (matrix′ ≡ matrix) × (report′ ≡ report)

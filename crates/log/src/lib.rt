@@ -59,31 +59,31 @@ pub fn next_record(bytes: &[u8], ended: bool) -> &[u8]
 }
 
 // What came of the bytes that are left: how many the next record took, and its answer.
-pub struct Judged {
+pub struct Answered {
     pub taken: usize,
     pub answer: u8,
 }
 
-// Judges the next record of the bytes that are left, if there is one.
+// Validates the next record of the bytes that are left, if there is one.
 pub fn validate_next(
     state: &mut [u8],
     matrix: &mut [u8],
     report: &mut [u8],
     bytes: &[u8],
     ended: bool,
-) -> Judged
+) -> Answered
     ensures { λ r. ⌜ ValidatedNext (now (state .entry)) (now (matrix .entry)) (now (report .entry)) (now (bytes .entry)) ended (r .taken) (r .answer) (now (state .exit)) (now (matrix .exit)) (now (report .exit)) ⌝ }
 {
     let next = next_record(bytes, ended);
     let taken = next.len();
     if taken == 0 {
-        return Judged {
+        return Answered {
             taken: 0,
             answer: 0,
         };
     }
     let answer = step(state, matrix, report, next);
-    Judged {
+    Answered {
         taken: taken,
         answer: answer,
     }

@@ -34,7 +34,7 @@ Came b (Outcome.Refused answer i) b′ = (1 < answer) × Stopped b i answer b′
 Came b (Outcome.Fault i) b′ = Stopped b i 1 b′
 Came b Outcome.Unread b′ = Unit {0}
 
--- The whole log: a bad or short header is refused with 2 at record 0; behind a good one the records are judged from a fresh state.
+-- The whole log: a bad or short header is refused with 2 at record 0; behind a good one the records are validated from a fresh state.
 pub data Replayed : Outcome → Buffers → Type 0 where
   unread : {b : Buffers} → Replayed Outcome.Unread b
   bad-header : {b : Buffers} → Replayed (Outcome.Refused 2 0) b

@@ -1,6 +1,6 @@
-// Document 01, "Logs for the bench": judges a log from standard input, and writes what came of it to standard output.
+// Document 01, "Logs for the bench": validates a log from standard input, and writes what came of it to standard output.
 //
-// The log is read piece by piece into a fixed buffer. What a piece says is judged by `log` and `validator`, whose contracts say how.
+// The log is read piece by piece into a fixed buffer. What a piece says is validated by `log` and `validator`, whose contracts say how.
 use libc::STDERR_FILENO;
 use libc::STDIN_FILENO;
 use libc::STDOUT_FILENO;
@@ -74,7 +74,7 @@ fn read_header(buf: &mut [u8]) -> Input
     }
 }
 
-// Judges the records behind the header, up to the first answer but 0. A proved loop has to end, and nothing says that a log does: the turns,
+// Validates the records behind the header, up to the first answer but 0. A proved loop has to end, and nothing says that a log does: the turns,
 // one for each record and each read, are counted down from a number that no run uses up.
 fn validate(
     state: &mut [u8],
@@ -122,7 +122,7 @@ fn validate(
     Outcome::Unread
 }
 
-// Judges the whole log.
+// Validates the whole log.
 fn replay(state: &mut [u8], matrix: &mut [u8], report: &mut [u8], buf: &mut [u8]) -> Outcome
     requires { ⌜ (6 ≤ length (now buf)) × (reportSize maxClasses ≤ length (now report)) ⌝ }
     ensures { λ r. ⌜ Replayed r (buffers (now (state .exit)) (now (matrix .exit)) (now (report .exit))) ⌝ }

@@ -93,12 +93,12 @@ module _ {K : ℕ} {state matrix : List ℕ} {f : Found} {before : List ℕ} whe
 
 -- ---- The report as entries.
 
-length-entries : (n : ℕ) (e : ℕ → Entry) → length (entries n e) ≡ n
+pub length-entries : (n : ℕ) (e : ℕ → Entry) → length (entries n e) ≡ n
 unfolding entries
 length-entries zero e = refl
 length-entries (suc n) e = ap suc (length-entries n (λ i. e (suc i)))
 
-entry-at : (n : ℕ) (e : ℕ → Entry) (i : ℕ) → i < n → entryAt (entries n e) i ≡ e i
+pub entry-at : (n : ℕ) (e : ℕ → Entry) (i : ℕ) → i < n → entryAt (entries n e) i ≡ e i
 unfolding entries
 entry-at zero e i l = absurd (omega arith)
 entry-at (suc n) e zero l = refl

@@ -1,4 +1,4 @@
--- `replay::judge` meets its contract. Assumes nothing.
+-- `replay::validate` meets its contract. Assumes nothing.
 use mathlib.Core.Path.{_≡_, refl, subst}
 use Prim.Native.Nat.{ℕ, _+_, _≤_}
 use native.Mathlib.Omega.{arith}
