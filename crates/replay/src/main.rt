@@ -1,6 +1,10 @@
 // Document 01, "Logs for the bench": validates a log from standard input, and writes what came of it to standard output.
 //
 // The log is read piece by piece into a fixed buffer. What a piece says is validated by `log` and `validator`, whose contracts say how.
+use layout::ENTRIES_AT;
+use layout::ENTRY_SIZE;
+use layout::MAX_CLASSES;
+use layout::STATE_SIZE;
 use libc::STDERR_FILENO;
 use libc::STDIN_FILENO;
 use libc::STDOUT_FILENO;
@@ -16,6 +20,11 @@ ghost use Rattle.replay.specs.Outcomes.{buffers, Came, Replayed, Showabl
 const FAULT: u8 = 1;
 
 const BAD_HEADER: u8 = 2;
+
+// The buffers of the largest number of classes.
+const MATRIX_SIZE: usize = MAX_CLASSES * MAX_CLASSES;
+
+const REPORT_SIZE: usize = ENTRIES_AT + ENTRY_SIZE * MAX_CLASSES;
 
 // What came of a read: up to where the buffer is filled, which is as before at the end of the input.
 struct Input {
@@ -151,16 +160,16 @@ fn print(text: &[u8]) {
 }
 
 fn main() {
-    let mut state = [0u8; 578];
-    let mut matrix = [0u8; 4096];
-    let mut report = [0u8; 193];
+    let mut state = [0u8; STATE_SIZE];
+    let mut matrix = [0u8; MATRIX_SIZE];
+    let mut report = [0u8; REPORT_SIZE];
     let mut buf = [0u8; 4096];
     let outcome = replay(&mut state, &mut matrix, &mut report, &mut buf);
     show(outcome, &report);
 }
 
 // Writes what came of a log.
-fn show(outcome: Outcome, report: &[u8; 193])
+fn show(outcome: Outcome, report: &[u8; REPORT_SIZE])
     requires { ⌜ Showable outcome (now report) ⌝ }
 {
     let mut out = [0u8; 1088];
