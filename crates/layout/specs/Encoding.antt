@@ -1,4 +1,4 @@
--- How the bytes encode a state of the rules. The two records settle every byte of the stated sizes (proofs/Settled.antt).
+-- How the bytes encode a state of the rules. The two records settle every byte of the stated sizes (crates/fit/proofs/Settled.antt).
 use mathlib.Core.Path.{_≡_}
 use mathlib.Core.Bool.{Bool, false}
 use mathlib.Core.List.{List, [], _∷_, map}

@@ -1,6 +1,7 @@
 // Document 01, "Logs for the bench": the header and the records of a log, and the text of the answers.
 use layout::ENTRIES_AT;
 use layout::ENTRY_SIZE;
+use layout::MAX_CLASSES;
 use record::SIZE;
 use validator::step;
 ghost use mathlib.Core.Path.{_≡_};
@@ -16,6 +17,8 @@ ghost use Rattle.log.specs.Log.{headerClasses, nextRecord, ValidatedNext
 ghost use Rattle.log.specs.Text.{digits, kindText, sourceText, entryText, cycleText, cleanText, refusedText, faultText, lineSize, entryLineSize, cycleSize, Appended, EntryPut};
 
 pub const HEADER_SIZE: usize = 4;
+
+const MOST_CLASSES: u8 = MAX_CLASSES as u8;
 
 fn wide(byte: u8) -> u64
     ensures { λ r. ⌜ r ≡ byte ⌝ }
@@ -39,7 +42,7 @@ pub fn header_classes(bytes: &[u8]) -> u64
     if bytes[2] != 1 {
         return 0;
     }
-    if 64 < bytes[3] {
+    if MOST_CLASSES < bytes[3] {
         return 0;
     }
     wide(bytes[3])

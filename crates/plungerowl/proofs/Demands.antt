@@ -89,7 +89,7 @@ module _ (state matrix report bytes : List ℕ) {a b : ℕ} {state₁ state₂ m
 
 -- ---- Fit buffers, from wherever they come.
 
--- They hold the state that they encode, and are judged as they stand.
+-- They hold the state that they encode, and are taken as they stand.
 pub fit-holds : (b : Buffers) → AllBytes (b .state) → fitsAll (b .state) (b .matrix) (b .report) ≡ true
     → Holds (classesOf (b .state)) (view (b .state) (b .matrix)) b
 unfolding fitsAll

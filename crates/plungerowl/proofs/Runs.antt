@@ -28,7 +28,7 @@ use Rattle.opening.proofs.Opens.{open-encodes}
 use Rattle.validator.specs.Step.{Validated, Stepped}
 use Rattle.plungerowl.specs.Runs.{Buffers, Ran, none, call, Opening}
 
--- The buffers encode a state of the rules, and the step will judge it.
+-- The buffers encode a state of the rules, and the step will not find them unfit.
 pub record Holds (K : ℕ) (s : State) (b : Buffers) : Type 0 where
   pub some : 1 ≤ K
   pub few : K ≤ maxClasses

@@ -14,7 +14,7 @@ pub extern "C" fn plungerowl_open(classes: u64, desk: &mut [u8], sheet: &mut [u8
     open(classes, desk, sheet)
 }
 
-// Judges one record. With a fault the cycle stands in the report ("slip").
+// Validates one record. With a fault the cycle stands in the report ("slip").
 #[no_mangle]
 pub extern "C" fn plungerowl_step(
     desk: &mut [u8],

@@ -22,7 +22,7 @@ pub record Reported (K : ℕ) (g : Graph) (report report′ : List ℕ) : Type 0
   pub bytes : ReportBytes entries report′
   pub keeps : KeepsPast (1 + 3 * length entries) report report′
 
--- A record judged over buffers that encode the state s of the rules: the number is that of the rules, the buffers encode the state that the rules
+-- A record validated over buffers that encode the state s of the rules: the number is that of the rules, the buffers encode the state that the rules
 -- give, and no byte past the sizes is touched. A refusal changes nothing; the report is written with a fault only.
 pub record Validated (K : ℕ) (s : State) (bytes state matrix report : List ℕ) (answer : ℕ) (state′ matrix′ report′ : List ℕ) : Type 0 where
   pub number-is : answer ≡ number (step K s bytes .answer)
@@ -33,7 +33,7 @@ pub record Validated (K : ℕ) (s : State) (bytes state matrix report : List ℕ
   pub unreported : (answer ≡ 1 → ⊥) → report′ ≡ report
   pub reported : answer ≡ 1 → Reported K (step K s bytes .state .graph) report report′
 
--- The step. Unfit buffers are refused with 11 and nothing is changed; every state of the rules that fit buffers encode is judged as it stands.
+-- The step. Unfit buffers are refused with 11 and nothing is changed; every state of the rules that fit buffers encode is taken as it stands.
 pub record Stepped (state matrix report bytes : List ℕ) (answer : ℕ) (state′ matrix′ report′ : List ℕ) : Type 0 where
   pub unfit : fitsAll state matrix report ≡ false → (answer ≡ 11) × (state′ ≡ state) × (matrix′ ≡ matrix) × (report′ ≡ report)
   pub validated : fitsAll state matrix report ≡ true → (s : State) → Valid (classesOf state) s → Encodes (classesOf state) s state matrix

@@ -1,4 +1,4 @@
-// The step: one record judged over the lent buffers.
+// The step: one record over the lent buffers.
 use action::act;
 use action::frame_of;
 use fit::fits;
