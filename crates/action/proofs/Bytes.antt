@@ -8,8 +8,8 @@ use Rattle.rules.specs.Limits.{coreCount, maxClasses, maxDepth}
 use Rattle.rules.specs.Context.{CoreState, Frame, frameOf}
 use Rattle.rules.specs.HeldLocks.{HeldLock, Core, current}
 use Rattle.validity.specs.Valid.{ValidLock, ValidCore}
-use Rattle.layout.specs.Layout.{frameCount, framesPerCore, stateSize, frameNumber, classesOf, stateOf, depthOf, heldOf}
-use Rattle.layout.specs.Encoding.{StateBytes}
+use Rattle.layout.specs.Layout.{frameCount, framesPerCore, deskSize, frameNumber, classesOf, stateOf, depthOf, heldOf}
+use Rattle.layout.specs.Encoding.{DeskBytes}
 use Rattle.context.proofs.Frames.{frame-less}
 use Rattle.update.specs.Update.{FrameBytes, SmallClasses, HeldIn, newestOf}
 use Rattle.update.proofs.Prefixes.{none, Lock, lock-at}
@@ -22,20 +22,20 @@ module _ {K : ℕ} (few : K ≤ maxClasses) (core : Core) (valid : ValidCore K c
   small-classes f p d l = let h = valid .locks f p d l .class in omega arith
 
 -- What valid cores say of a core's bytes.
-module _ (state : List ℕ) (c : Cored state) (i : ℕ) (li : i < coreCount) where
-  pub state-less : stateOf state i < 9
+module _ (desk : List ℕ) (c : Cored desk) (i : ℕ) (li : i < coreCount) where
+  pub state-less : stateOf desk i < 9
   state-less = let e = c .encodes .states i li in let v = c .valid i .states in omega arith
 
-  pub now-is : frameOf (stateOf state i) ≡ frameOf (c .cores i .state)
+  pub now-is : frameOf (stateOf desk i) ≡ frameOf (c .cores i .state)
   now-is = ap frameOf (c .encodes .states i li)
 
-  pub number-less : frameNumber i (frameOf (stateOf state i)) < frameCount
-  number-less = let l = frame-less (stateOf state i) state-less in omega arith
+  pub number-less : frameNumber i (frameOf (stateOf desk i)) < frameCount
+  number-less = let l = frame-less (stateOf desk i) state-less in omega arith
 
   -- The current frame's bytes are its locks.
-  pub current-bytes : FrameBytes state (frameNumber i (frameOf (stateOf state i))) (current (c .cores i))
+  pub current-bytes : FrameBytes desk (frameNumber i (frameOf (stateOf desk i))) (current (c .cores i))
   current-bytes =
-      subst (λ (f : Frame). FrameBytes state (frameNumber i f) (current (c .cores i))) (sym now-is)
+      subst (λ (f : Frame). FrameBytes desk (frameNumber i f) (current (c .cores i))) (sym now-is)
       (frame-bytes (c .encodes) i (frameOf (c .cores i .state)) li (frame-less (c .cores i .state) (let e = c .encodes .states i li in let v = c .valid i .states in omega arith)))
 
   pub current-small : SmallClasses (current (c .cores i))
@@ -44,15 +44,15 @@ module _ (state : List ℕ) (c : Cored state) (i : ℕ) (li : i < coreCount) whe
   pub current-few : length (current (c .cores i)) ≤ maxDepth
   current-few = c .valid i .depths (frameOf (c .cores i .state))
 
-  pub held-in : HeldIn state (frameNumber i (frameOf (stateOf state i))) (classesOf state)
+  pub held-in : HeldIn desk (frameNumber i (frameOf (stateOf desk i))) (classesOf desk)
   held-in =
-      let n = frameNumber i (frameOf (stateOf state i)) in
+      let n = frameNumber i (frameOf (stateOf desk i)) in
       let hs = current (c .cores i) in
       let F = current-bytes in
       let d = F .depth in
       let few = current-few in
-      let at : (p : ℕ) → p < depthOf state n → Lock state n p (getD hs p none) = λ p l. lock-at state n hs F current-small p (omega arith) (omega arith) in
-      let ok : (p : ℕ) → p < depthOf state n → ValidLock (classesOf state) (getD hs p none) = λ p l. c .valid i .locks (frameOf (c .cores i .state)) p none (omega arith) in
+      let at : (p : ℕ) → p < depthOf desk n → Lock desk n p (getD hs p none) = λ p l. lock-at desk n hs F current-small p (omega arith) (omega arith) in
+      let ok : (p : ℕ) → p < depthOf desk n → ValidLock (classesOf desk) (getD hs p none) = λ p l. c .valid i .locks (frameOf (c .cores i .state)) p none (omega arith) in
       record {
         long = c .encodes .long;
         frame = number-less;
@@ -62,10 +62,10 @@ module _ (state : List ℕ) (c : Cored state) (i : ℕ) (li : i < coreCount) whe
       }
 
   -- A lock that was found stands in the frame.
-  pub newest-inside : (class : ℕ) → (newestOf state (frameNumber i (frameOf (stateOf state i))) class ≡ 0 → ⊥)
-      → newestOf state (frameNumber i (frameOf (stateOf state i))) class - 1 < depthOf state (frameNumber i (frameOf (stateOf state i)))
+  pub newest-inside : (class : ℕ) → (newestOf desk (frameNumber i (frameOf (stateOf desk i))) class ≡ 0 → ⊥)
+      → newestOf desk (frameNumber i (frameOf (stateOf desk i))) class - 1 < depthOf desk (frameNumber i (frameOf (stateOf desk i)))
   newest-inside class ne =
-      let n = frameNumber i (frameOf (stateOf state i)) in
-      let q = found-at (newest-is state n (current (c .cores i)) current-bytes current-small current-few class) ne .inside in
+      let n = frameNumber i (frameOf (stateOf desk i)) in
+      let q = found-at (newest-is desk n (current (c .cores i)) current-bytes current-small current-few class) ne .inside in
       let d = current-bytes .depth in
       omega arith

@@ -11,44 +11,44 @@ use lib.ListN.{length, getD, set, length-set}
 use lib.Seq.{getD-set-other}
 use borrow.Author.Tests.{le-leb, lt-leb, eq-eqb, ne-eqb}
 use Rattle.rules.specs.Limits.{coreCount, maxDepth}
-use Rattle.rules.specs.Record.{Event, acquire, release, interrupt, eventBy, eventOf, coreOf, kindOf, classOf, modeOf}
-use Rattle.rules.specs.Context.{Frame, frameOf, nextState, leavesHandler, x}
+use Rattle.rules.specs.Record.{Event, acquire, release, interrupt, eventBy, eventOf, coreOf, kindOf, classOf, modeOf, WellFormed}
+use Rattle.rules.specs.Context.{Frame, frameOf, noState, nextState, leavesHandler}
 use Rattle.rules.specs.HeldLocks.{HeldLock, Core, current, isHeld, releaseNewest, afterEvent, withState}
 use Rattle.rules.specs.Graph.{drawnBy}
 use Rattle.rules.specs.Verdict.{Refusal, noClass, noTransition, stillHeld, notHeld, tooDeep, refusalNumber, someLock}
 use Rattle.rules.specs.Run.{State}
 use Rattle.validity.specs.Valid.{Valid}
-use Rattle.layout.specs.Layout.{frameCount, framesPerCore, stateSize, statesAt, depthsAt, heldAt, frameNumber, classesOf, stateOf, depthOf}
-use Rattle.layout.specs.Encoding.{StateBytes, MatrixBytes, Encodes, KeepsPast}
+use Rattle.layout.specs.Layout.{frameCount, framesPerCore, deskSize, statesAt, depthsAt, heldAt, frameNumber, classesOf, stateOf, depthOf}
+use Rattle.layout.specs.Encoding.{DeskBytes, SheetBytes, Encodes, KeepsPast}
 use Rattle.layout.proofs.Buffers.{keeps-self}
 use Rattle.context.proofs.Frames.{frame-less}
 use Rattle.update.specs.Update.{FrameBytes, KeepsElse, SmallClasses, Pushed, Removed, Drawn, newestOf, removeAt}
 use Rattle.update.proofs.Cores.{changed, frame-bytes, frame-changed, state-changed}
 use Rattle.update.proofs.Drawing.{same-dependencies}
-use Rattle.update.proofs.Releases.{Found, not-found, found-at, newest-is}
-use Rattle.action.specs.Action.{WellFormed, ActedOn, refuses, accepts, Acted}
+use Rattle.update.proofs.Releases.{NewestCases, not-found, found-at, newest-is}
+use Rattle.action.specs.Action.{ActedOn, refuses, accepts, Acted}
 use Rattle.action.proofs.Refusals.{refusalBy, refusal-by}
 use Rattle.action.proofs.Bytes.{small-classes}
 
-keeps-past : {n : ℕ} {before after : List ℕ} → n < frameCount → KeepsElse n before after → KeepsPast stateSize before after
+keeps-past : {n : ℕ} {before after : List ℕ} → n < frameCount → KeepsElse n before after → KeepsPast deskSize before after
 keeps-past {n} l k = record { long = k .long; past = λ j h. k .else j (λ e. omega arith) (inr (omega arith)) }
 
-module _ (state matrix bytes : List ℕ) (w : WellFormed bytes) (few : classesOf state ≤ 64) where
+module _ (desk sheet bytes : List ℕ) (w : WellFormed bytes) (few : classesOf desk ≤ 64) where
   abbrev K : ℕ
-  K = classesOf state
+  K = classesOf desk
 
   abbrev i : ℕ
   i = coreOf bytes
 
   abbrev n : ℕ
-  n = frameNumber (coreOf bytes) (frameOf (stateOf state (coreOf bytes)))
+  n = frameNumber (coreOf bytes) (frameOf (stateOf desk (coreOf bytes)))
 
-  module _ (s : State) (opened : s .is-closed ≡ false) (valid : Valid K s) (enc : Encodes K s state matrix) where
+  module _ (s : State) (opened : s .is-closed ≡ false) (valid : Valid K s) (enc : Encodes K s desk sheet) where
     abbrev core : Core
     core = s .cores (coreOf bytes)
 
-    now-is : frameOf (stateOf state i) ≡ frameOf (core .state)
-    now-is = ap frameOf (enc .in-state .states i (w .core))
+    now-is : frameOf (stateOf desk i) ≡ frameOf (core .state)
+    now-is = ap frameOf (enc .in-desk .states i (w .core))
 
     state-small : core .state < 9
     state-small = let v = valid .cores i .states in omega arith
@@ -63,30 +63,30 @@ module _ (state matrix bytes : List ℕ) (w : WellFormed bytes) (few : classesOf
     by-number : (P : ℕ → Type 0) → P n → P (frameNumber i (frameOf (core .state)))
     by-number P h = subst (λ (f : Frame). P (frameNumber i f)) now-is h
 
-    current-frame : FrameBytes state n (current core)
+    current-frame : FrameBytes desk n (current core)
     current-frame =
-        subst (λ (f : Frame). FrameBytes state (frameNumber i f) (current core)) (sym now-is)
-        (frame-bytes (enc .in-state) i (frameOf (core .state)) (w .core) now-less)
+        subst (λ (f : Frame). FrameBytes desk (frameNumber i f) (current core)) (sym now-is)
+        (frame-bytes (enc .in-desk) i (frameOf (core .state)) (w .core) now-less)
 
     small : SmallClasses (current core)
     small = small-classes few core (valid .cores i) (frameOf (core .state))
 
     refuses-by : (ev : Event) → eventOf bytes ≡ ev → (x : Refusal) → refusalBy K core ev ≡ some x
-        → ActedOn K s bytes state matrix (refusalNumber x) state matrix
+        → ActedOn K s bytes desk sheet (refusalNumber x) desk sheet
     refuses-by ev e x h = refuses x (refusal-by K s bytes opened (w .formed) ev e ∙ h)
 
-    accepts-by : (ev : Event) → eventOf bytes ≡ ev → refusalBy K core ev ≡ none → {state′ matrix′ : List ℕ}
-        → StateBytes K (s .is-closed) (changed (s .cores) i (afterEvent ev core)) (s .graph .marks) state′
-        → MatrixBytes K (λ f t k. s .graph .locks f t k || drawnBy ev core f t k) matrix′
-        → KeepsPast stateSize state state′ → KeepsPast (K * K) matrix matrix′ → ActedOn K s bytes state matrix 0 state′ matrix′
-    accepts-by ev e h {state′} {matrix′} sb mb ks km =
+    accepts-by : (ev : Event) → eventOf bytes ≡ ev → refusalBy K core ev ≡ none → {desk′ sheet′ : List ℕ}
+        → DeskBytes K (s .is-closed) (changed (s .cores) i (afterEvent ev core)) (s .graph .marks) desk′
+        → SheetBytes K (λ f t k. s .graph .locks f t k || drawnBy ev core f t k) sheet′
+        → KeepsPast deskSize desk desk′ → KeepsPast (K * K) sheet sheet′ → ActedOn K s bytes desk sheet 0 desk′ sheet′
+    accepts-by ev e h {desk′} {sheet′} sb mb ks km =
         accepts (refusal-by K s bytes opened (w .formed) ev e ∙ h)
-        (subst (λ (v : Event). StateBytes K (s .is-closed) (changed (s .cores) i (afterEvent v core)) (s .graph .marks) state′) (sym e) sb)
-        (subst (λ (v : Event). MatrixBytes K (λ f t k. s .graph .locks f t k || drawnBy v core f t k) matrix′) (sym e) mb) ks km
+        (subst (λ (v : Event). DeskBytes K (s .is-closed) (changed (s .cores) i (afterEvent v core)) (s .graph .marks) desk′) (sym e) sb)
+        (subst (λ (v : Event). SheetBytes K (λ f t k. s .graph .locks f t k || drawnBy v core f t k) sheet′) (sym e) mb) ks km
 
     -- Nothing is drawn.
-    undrawn : MatrixBytes K (λ f t k. s .graph .locks f t k || false) matrix
-    undrawn = same-dependencies (s .graph .locks) (λ f t k. s .graph .locks f t k || false) (λ f t k. sym (or-false (s .graph .locks f t k))) (enc .in-matrix)
+    undrawn : SheetBytes K (λ f t k. s .graph .locks f t k || false) sheet
+    undrawn = same-dependencies (s .graph .locks) (λ f t k. s .graph .locks f t k || false) (λ f t k. sym (or-false (s .graph .locks f t k))) (enc .in-sheet)
 
   -- ---- Acquire.
 
@@ -94,11 +94,11 @@ module _ (state matrix bytes : List ℕ) (w : WellFormed bytes) (few : classesOf
     acquires : eventOf bytes ≡ acquire (classOf bytes) (modeOf bytes)
     acquires = ap (λ (k : ℕ). eventBy k (classOf bytes) (modeOf bytes)) kind
 
-    pub acquire-no-class : K ≤ classOf bytes → Acted state matrix bytes 4 state matrix
+    pub acquire-no-class : K ≤ classOf bytes → Acted desk sheet bytes 4 desk sheet
     acquire-no-class l =
         record { acted = λ s o v enc. refuses-by s o v enc (acquire (classOf bytes) (modeOf bytes)) acquires noClass (rw (le-leb K (classOf bytes) l) refl) }
 
-    pub acquire-too-deep : classOf bytes < K → maxDepth ≤ depthOf state n → Acted state matrix bytes 8 state matrix
+    pub acquire-too-deep : classOf bytes < K → maxDepth ≤ depthOf desk n → Acted desk sheet bytes 8 desk sheet
     acquire-too-deep l d =
         record {
           acted = λ s o v enc.
@@ -107,21 +107,21 @@ module _ (state matrix bytes : List ℕ) (w : WellFormed bytes) (few : classesOf
               (rw (lt-leb K (classOf bytes) l, le-leb maxDepth (length (current (s .cores i))) (omega arith)) refl);
         }
 
-    pub acquire-accepts : {state′ matrix′ : List ℕ} → classOf bytes < K → depthOf state n < maxDepth
-        → Drawn state K n (classOf bytes) (modeOf bytes) matrix matrix′ → Pushed state n (classOf bytes) (modeOf bytes) state′
-        → Acted state matrix bytes 0 state′ matrix′
-    acquire-accepts {state′} {matrix′} l d D P =
+    pub acquire-accepts : {desk′ sheet′ : List ℕ} → classOf bytes < K → depthOf desk n < maxDepth
+        → Drawn desk K n (classOf bytes) (modeOf bytes) sheet sheet′ → Pushed desk n (classOf bytes) (modeOf bytes) desk′
+        → Acted desk sheet bytes 0 desk′ sheet′
+    acquire-accepts {desk′} {sheet′} l d D P =
         record {
           acted = λ s o v enc.
               let F = current-frame s o v enc in
               let e = F .depth in
               let hs = current (s .cores i) ++ (record { class = classOf bytes; mode = modeOf bytes } ∷ []) in
-              let keeps = by-number s o v enc (λ m. KeepsElse m state state′) (P .keeps) in
+              let keeps = by-number s o v enc (λ m. KeepsElse m desk desk′) (P .keeps) in
               accepts-by s o v enc (acquire (classOf bytes) (modeOf bytes)) acquires
               (rw (lt-leb K (classOf bytes) l, lt-leb maxDepth (length (current (s .cores i))) (omega arith)) refl)
-              (frame-changed (enc .in-state) i (w .core) (now-less s o v enc) hs keeps
-              (by-number s o v enc (λ m. FrameBytes state′ m hs) (P .frame (current (s .cores i)) F)))
-              (D .drawn (current (s .cores i)) F (small s o v enc) (s .graph .locks) (enc .in-matrix))
+              (frame-changed (enc .in-desk) i (w .core) (now-less s o v enc) hs keeps
+              (by-number s o v enc (λ m. FrameBytes desk′ m hs) (P .frame (current (s .cores i)) F)))
+              (D .drawn (current (s .cores i)) F (small s o v enc) (s .graph .locks) (enc .in-sheet))
               (keeps-past (frame-inside s o v enc) keeps) (D .keeps);
         }
 
@@ -131,17 +131,17 @@ module _ (state matrix bytes : List ℕ) (w : WellFormed bytes) (few : classesOf
     releases : eventOf bytes ≡ release (classOf bytes)
     releases = ap (λ (k : ℕ). eventBy k (classOf bytes) (modeOf bytes)) kind
 
-    pub release-no-class : K ≤ classOf bytes → Acted state matrix bytes 4 state matrix
+    pub release-no-class : K ≤ classOf bytes → Acted desk sheet bytes 4 desk sheet
     release-no-class l =
         record { acted = λ s o v enc. refuses-by s o v enc (release (classOf bytes)) releases noClass (rw (le-leb K (classOf bytes) l) refl) }
 
-    found : (s : State) (opened : s .is-closed ≡ false) (valid : Valid K s) (enc : Encodes K s state matrix)
-        → Found (classOf bytes) (current (s .cores i)) (newestOf state n (classOf bytes))
+    found : (s : State) (opened : s .is-closed ≡ false) (valid : Valid K s) (enc : Encodes K s desk sheet)
+        → NewestCases (classOf bytes) (current (s .cores i)) (newestOf desk n (classOf bytes))
     found s o v enc =
-        newest-is state n (current (s .cores i)) (current-frame s o v enc) (small s o v enc) (v .cores i .depths (frameOf (s .cores i .state)))
+        newest-is desk n (current (s .cores i)) (current-frame s o v enc) (small s o v enc) (v .cores i .depths (frameOf (s .cores i .state)))
         (classOf bytes)
 
-    pub release-not-held : classOf bytes < K → newestOf state n (classOf bytes) ≡ 0 → Acted state matrix bytes 5 state matrix
+    pub release-not-held : classOf bytes < K → newestOf desk n (classOf bytes) ≡ 0 → Acted desk sheet bytes 5 desk sheet
     release-not-held l z =
         record {
           acted = λ s o v enc.
@@ -149,21 +149,21 @@ module _ (state matrix bytes : List ℕ) (w : WellFormed bytes) (few : classesOf
               (rw (lt-leb K (classOf bytes) l, not-found (found s o v enc) z) refl);
         }
 
-    pub release-accepts : {state′ : List ℕ} → classOf bytes < K → (newestOf state n (classOf bytes) ≡ 0 → ⊥)
-        → Removed state n (newestOf state n (classOf bytes) - 1) state′ → Acted state matrix bytes 0 state′ matrix
-    release-accepts {state′} l ne R =
+    pub release-accepts : {desk′ : List ℕ} → classOf bytes < K → (newestOf desk n (classOf bytes) ≡ 0 → ⊥)
+        → Removed desk n (newestOf desk n (classOf bytes) - 1) desk′ → Acted desk sheet bytes 0 desk′ sheet
+    release-accepts {desk′} l ne R =
         record {
           acted = λ s o v enc.
               let F = current-frame s o v enc in
               let N = found-at (found s o v enc) ne in
               let hs = releaseNewest (classOf bytes) (current (s .cores i)) in
-              let keeps = by-number s o v enc (λ m. KeepsElse m state state′) (R .keeps) in
+              let keeps = by-number s o v enc (λ m. KeepsElse m desk desk′) (R .keeps) in
               accepts-by s o v enc (release (classOf bytes)) releases
               (rw (lt-leb K (classOf bytes) l, N .found) refl)
-              (frame-changed (enc .in-state) i (w .core) (now-less s o v enc) hs keeps
-              (by-number s o v enc (λ m. FrameBytes state′ m hs)
-              (subst (λ (h : List HeldLock). FrameBytes state′ n h) (sym (N .released)) (R .frame (current (s .cores i)) F))))
-              (undrawn s o v enc) (keeps-past (frame-inside s o v enc) keeps) (keeps-self (K * K) matrix);
+              (frame-changed (enc .in-desk) i (w .core) (now-less s o v enc) hs keeps
+              (by-number s o v enc (λ m. FrameBytes desk′ m hs)
+              (subst (λ (h : List HeldLock). FrameBytes desk′ n h) (sym (N .released)) (R .frame (current (s .cores i)) F))))
+              (undrawn s o v enc) (keeps-past (frame-inside s o v enc) keeps) (keeps-self (K * K) sheet);
         }
 
   -- ---- Interrupt event.
@@ -181,55 +181,55 @@ module _ (state matrix bytes : List ℕ) (w : WellFormed bytes) (few : classesOf
     event = kindOf bytes - 2
 
     abbrev to : ℕ
-    to = nextState (stateOf state i) event
+    to = nextState (stateOf desk i) event
 
     interrupts : eventOf bytes ≡ interrupt event
     interrupts =
         let e : kindOf bytes ≡ suc (suc event) = omega arith in
         ap (λ (k : ℕ). eventBy k (classOf bytes) (modeOf bytes)) e
 
-    to-is : (s : State) (opened : s .is-closed ≡ false) (valid : Valid K s) (enc : Encodes K s state matrix) → nextState (s .cores i .state) event ≡ to
-    to-is s o v enc = ap (λ (c : ℕ). nextState c event) (sym (enc .in-state .states i (w .core)))
+    to-is : (s : State) (opened : s .is-closed ≡ false) (valid : Valid K s) (enc : Encodes K s desk sheet) → nextState (s .cores i .state) event ≡ to
+    to-is s o v enc = ap (λ (c : ℕ). nextState c event) (sym (enc .in-desk .states i (w .core)))
 
-    pub interrupt-no-transition : to ≡ x → Acted state matrix bytes 6 state matrix
+    pub interrupt-no-transition : to ≡ noState → Acted desk sheet bytes 6 desk sheet
     interrupt-no-transition e =
         record {
           acted = λ s o v enc.
               refuses-by s o v enc (interrupt event) interrupts noTransition
-              (rw (eq-eqb (nextState (s .cores i .state) event) x (to-is s o v enc ∙ e)) refl);
+              (rw (eq-eqb (nextState (s .cores i .state) event) noState (to-is s o v enc ∙ e)) refl);
         }
 
-    pub interrupt-still-held : (to ≡ x → ⊥) → leavesHandler event ≡ true → (depthOf state n ≡ 0 → ⊥) → Acted state matrix bytes 7 state matrix
+    pub interrupt-still-held : (to ≡ noState → ⊥) → leavesHandler event ≡ true → (depthOf desk n ≡ 0 → ⊥) → Acted desk sheet bytes 7 desk sheet
     interrupt-still-held ne h d =
         record {
           acted = λ s o v enc.
               let q = current-frame s o v enc .depth in
               refuses-by s o v enc (interrupt event) interrupts stillHeld
               (rw (
-                ne-eqb (nextState (s .cores i .state) event) x (λ z. ne (sym (to-is s o v enc) ∙ z)),
+                ne-eqb (nextState (s .cores i .state) event) noState (λ z. ne (sym (to-is s o v enc) ∙ z)),
                 h,
                 some-lock (current (s .cores i)) (λ z. d (q ∙ z)),
               )
               refl);
         }
 
-    pub interrupt-accepts : (to ≡ x → ⊥) → (leavesHandler event ≡ false) ⊎ (depthOf state n ≡ 0)
-        → Acted state matrix bytes 0 (set state (statesAt + i) to) matrix
+    pub interrupt-accepts : (to ≡ noState → ⊥) → (leavesHandler event ≡ false) ⊎ (depthOf desk n ≡ 0)
+        → Acted desk sheet bytes 0 (set desk (statesAt + i) to) sheet
     interrupt-accepts ne h =
         record {
           acted = λ s o v enc.
               let q = current-frame s o v enc .depth in
               let l = w .core in
               accepts-by s o v enc (interrupt event) interrupts
-              (rw (ne-eqb (nextState (s .cores i .state) event) x (λ z. ne (sym (to-is s o v enc) ∙ z))) (passes s q h))
-              (subst (λ (t : ℕ). StateBytes K (s .is-closed) (changed (s .cores) i (withState (s .cores i) t)) (s .graph .marks) (set state (statesAt + i) to))
-              (sym (to-is s o v enc)) (state-changed (enc .in-state) i (w .core) to))
+              (rw (ne-eqb (nextState (s .cores i .state) event) noState (λ z. ne (sym (to-is s o v enc) ∙ z))) (passes s q h))
+              (subst (λ (t : ℕ). DeskBytes K (s .is-closed) (changed (s .cores) i (withState (s .cores i) t)) (s .graph .marks) (set desk (statesAt + i) to))
+              (sym (to-is s o v enc)) (state-changed (enc .in-desk) i (w .core) to))
               (undrawn s o v enc)
-              (record { long = length-set state (statesAt + i) to; past = λ j m. getD-set-other state (statesAt + i) j to 0 (λ e. omega arith) })
-              (keeps-self (K * K) matrix);
+              (record { long = length-set desk (statesAt + i) to; past = λ j m. getD-set-other desk (statesAt + i) j to 0 (λ e. omega arith) })
+              (keeps-self (K * K) sheet);
         }
       where
-        passes : (s : State) → depthOf state n ≡ length (current (s .cores i)) → (leavesHandler event ≡ false) ⊎ (depthOf state n ≡ 0)
+        passes : (s : State) → depthOf desk n ≡ length (current (s .cores i)) → (leavesHandler event ≡ false) ⊎ (depthOf desk n ≡ 0)
             → cond (leavesHandler event && true && someLock (current (s .cores i))) (some stillHeld) none ≡ none
         passes s q (inl e) = rw e refl
         passes s q (inr e) = rw (no-lock (current (s .cores i)) (sym q ∙ e), and-false (leavesHandler event && true)) refl

@@ -8,7 +8,7 @@ use lib.Dec.{leb, eqb}
 use lib.ListN.{length}
 use Rattle.rules.specs.Limits.{maxDepth}
 use Rattle.rules.specs.Record.{Event, acquire, release, interrupt, eventOf, coreOf, isMalformed}
-use Rattle.rules.specs.Context.{nextState, leavesHandler, x}
+use Rattle.rules.specs.Context.{noState, nextState, leavesHandler}
 use Rattle.rules.specs.HeldLocks.{Core, current, isHeld}
 use Rattle.rules.specs.Verdict.{Refusal, noClass, noTransition, stillHeld, notHeld, tooDeep, refusal, someLock}
 use Rattle.rules.specs.Run.{State, situation}
@@ -18,8 +18,8 @@ abbrev pub refusalBy : ℕ → Core → Event → Option Refusal
 refusalBy K core (acquire c m) = cond (leb K c) (some noClass) (cond (leb maxDepth (length (current core))) (some tooDeep) none)
 refusalBy K core (release c) = cond (leb K c) (some noClass) (cond (not (isHeld c (current core))) (some notHeld) none)
 refusalBy K core (interrupt e) =
-    cond (eqb (nextState (core .state) e) x) (some noTransition)
-    (cond (leavesHandler e && not (eqb (nextState (core .state) e) x) && someLock (current core)) (some stillHeld) none)
+    cond (eqb (nextState (core .state) e) noState) (some noTransition)
+    (cond (leavesHandler e && not (eqb (nextState (core .state) e) noState) && someLock (current core)) (some stillHeld) none)
 
 module _ (K : ℕ) (s : State) (bytes : List ℕ) (opened : s .is-closed ≡ false) (formed : isMalformed bytes ≡ false) where
   pub refusal-by : (ev : Event) → eventOf bytes ≡ ev → refusal (situation K s bytes) ≡ refusalBy K (s .cores (coreOf bytes)) ev

@@ -1,16 +1,27 @@
 // What a well-formed record does to fit buffers: it is refused with nothing changed, or its core, frame and lock dependencies are updated.
+use answers::NO_CLASS;
+use answers::NO_TRANSITION;
+use answers::NOT_HELD;
+use answers::OK;
+use answers::STILL_HELD;
+use answers::TOO_DEEP;
 use context::CoreState;
-use context::REFUSED;
+use context::EXIT_HARD;
+use context::EXIT_SOFT;
+use context::NO_STATE;
 use context::next;
 use layout::CLASSES_AT;
 use layout::DEPTHS_AT;
 use layout::FRAMES_PER_CORE;
 use layout::MAX_DEPTH;
 use layout::STATES_AT;
+use record::ACQUIRE;
 use record::CLASS_AT;
 use record::CORE_AT;
+use record::FIRST_EVENT;
 use record::KIND_AT;
 use record::MODE_AT;
+use record::RELEASE;
 use update::draw;
 use update::newest;
 use update::push;
@@ -20,113 +31,103 @@ ghost use mathlib.Core.List.{List};
 ghost use Prim.Native.Nat.{ℕ, _*_, _<_, _≤_};
 ghost use lib.ListN.{length};
 ghost use Rattle.rules.specs.Context.{frameOf, leavesHandler};
-ghost use Rattle.rules.specs.Record.{kindOf};
+ghost use Rattle.rules.specs.Record.{kindOf, WellFormed};
 ghost use Rattle.rules.specs.Limits.{coreCount};
-ghost use Rattle.layout.specs.Layout.{stateSize, frameNumber, classesOf, stateOf};
-ghost use Rattle.action.specs.Action.{Cored, WellFormed, Acted};
-
-pub const NO_CLASS: u8 = 4;
-
-pub const NOT_HELD: u8 = 5;
-
-pub const NO_TRANSITION: u8 = 6;
-
-pub const STILL_HELD: u8 = 7;
-
-pub const TOO_DEEP: u8 = 8;
+ghost use Rattle.layout.specs.Layout.{deskSize, frameNumber, classesOf, stateOf};
+ghost use Rattle.action.specs.Action.{Cored, Acted};
 
 // The number of the frame in which a core holds locks now.
-pub fn frame_of(state: &[u8], core: usize) -> usize
-    requires { ⌜ (stateSize ≤ length (now state)) × (core < coreCount) × (stateOf (now state) core < 9) ⌝ }
-    ensures { λ r. ⌜ r ≡ frameNumber core (frameOf (stateOf (now (state .entry)) core)) ⌝ }
+pub fn frame_of(desk: &[u8], core: usize) -> usize
+    requires { ⌜ (deskSize ≤ length (now desk)) × (core < coreCount) × (stateOf (now desk) core < 9) ⌝ }
+    ensures { λ r. ⌜ r ≡ frameNumber core (frameOf (stateOf (now (desk .entry)) core)) ⌝ }
 {
-    let frame = CoreState(state[STATES_AT + core]).frame();
+    let frame = CoreState(desk[STATES_AT + core]).frame();
     FRAMES_PER_CORE * core + frame as usize
 }
 
-fn acquire(state: &mut [u8], matrix: &mut [u8], bytes: &[u8]) -> u8
-    requires { ⌜ Cored (now state) × (classesOf (now state) * classesOf (now state) ≤ length (now matrix)) × WellFormed (now bytes) × (kindOf (now bytes) ≡ 0) ⌝ }
-    ensures { λ r. ⌜ Acted (now (state .entry)) (now (matrix .entry)) (now (bytes .entry)) r (now (state .exit)) (now (matrix .exit)) ⌝ }
+fn acquire(desk: &mut [u8], sheet: &mut [u8], bytes: &[u8]) -> u8
+    requires { ⌜ Cored (now desk) × (classesOf (now desk) * classesOf (now desk) ≤ length (now sheet)) × WellFormed (now bytes) × (kindOf (now bytes) ≡ 0) ⌝ }
+    ensures { λ r. ⌜ Acted (now (desk .entry)) (now (sheet .entry)) (now (bytes .entry)) r (now (desk .exit)) (now (sheet .exit)) ⌝ }
 {
-    let k = state[CLASSES_AT];
+    let k = desk[CLASSES_AT];
     let class = bytes[CLASS_AT];
     if k <= class {
         return NO_CLASS;
     }
-    let frame = frame_of(state, bytes[CORE_AT] as usize);
-    if MAX_DEPTH <= state[DEPTHS_AT + frame] as usize {
+    let frame = frame_of(desk, bytes[CORE_AT] as usize);
+    if MAX_DEPTH <= desk[DEPTHS_AT + frame] as usize {
         return TOO_DEEP;
     }
     let mode = bytes[MODE_AT];
     draw(
-        state,
-        matrix,
+        desk,
+        sheet,
         k as usize,
         frame,
         class as usize,
         mode as usize,
     );
-    push(state, frame, class, mode);
-    0
+    push(desk, frame, class, mode);
+    OK
 }
 
-fn release(state: &mut [u8], bytes: &[u8]) -> u8
-    requires { ⌜ Cored (now state) × WellFormed (now bytes) × (kindOf (now bytes) ≡ 1) ⌝ }
-    ensures { λ r. ⌜ ((matrix : List ℕ) → Acted (now (state .entry)) matrix (now (bytes .entry)) r (now (state .exit)) matrix) ⌝ }
+fn release(desk: &mut [u8], bytes: &[u8]) -> u8
+    requires { ⌜ Cored (now desk) × WellFormed (now bytes) × (kindOf (now bytes) ≡ 1) ⌝ }
+    ensures { λ r. ⌜ ((sheet : List ℕ) → Acted (now (desk .entry)) sheet (now (bytes .entry)) r (now (desk .exit)) sheet) ⌝ }
 {
     let class = bytes[CLASS_AT];
-    if state[CLASSES_AT] <= class {
+    if desk[CLASSES_AT] <= class {
         return NO_CLASS;
     }
-    let frame = frame_of(state, bytes[CORE_AT] as usize);
-    let place = newest(state, frame, class);
+    let frame = frame_of(desk, bytes[CORE_AT] as usize);
+    let place = newest(desk, frame, class);
     if place == 0 {
         return NOT_HELD;
     }
-    remove(state, frame, place - 1);
-    0
+    remove(desk, frame, place - 1);
+    OK
 }
 
 fn leaves_handler(event: u8) -> bool
     ensures { λ r. ⌜ r ≡ leavesHandler event ⌝ }
 {
-    if event == 5 {
+    if event == EXIT_SOFT {
         return true;
     }
-    event == 7
+    event == EXIT_HARD
 }
 
-fn interrupt(state: &mut [u8], bytes: &[u8]) -> u8
-    requires { ⌜ Cored (now state) × WellFormed (now bytes) × (2 ≤ kindOf (now bytes)) ⌝ }
-    ensures { λ r. ⌜ ((matrix : List ℕ) → Acted (now (state .entry)) matrix (now (bytes .entry)) r (now (state .exit)) matrix) ⌝ }
+fn interrupt(desk: &mut [u8], bytes: &[u8]) -> u8
+    requires { ⌜ Cored (now desk) × WellFormed (now bytes) × (2 ≤ kindOf (now bytes)) ⌝ }
+    ensures { λ r. ⌜ ((sheet : List ℕ) → Acted (now (desk .entry)) sheet (now (bytes .entry)) r (now (desk .exit)) sheet) ⌝ }
 {
     let core = bytes[CORE_AT] as usize;
-    let event = bytes[KIND_AT] - 2;
-    let to = next(state[STATES_AT + core] as usize, event as usize);
-    if to == REFUSED {
+    let event = bytes[KIND_AT] - FIRST_EVENT;
+    let to = next(desk[STATES_AT + core] as usize, event as usize);
+    if to == NO_STATE {
         return NO_TRANSITION;
     }
     if leaves_handler(event) {
-        let frame = frame_of(state, core);
-        if state[DEPTHS_AT + frame] != 0 {
+        let frame = frame_of(desk, core);
+        if desk[DEPTHS_AT + frame] != 0 {
             return STILL_HELD;
         }
     }
-    state[STATES_AT + core] = to;
-    0
+    desk[STATES_AT + core] = to;
+    OK
 }
 
 // The record's event: 0 if it is accepted, or the number of its refusal.
-pub fn act(state: &mut [u8], matrix: &mut [u8], bytes: &[u8]) -> u8
-    requires { ⌜ Cored (now state) × (classesOf (now state) * classesOf (now state) ≤ length (now matrix)) × WellFormed (now bytes) ⌝ }
-    ensures { λ r. ⌜ Acted (now (state .entry)) (now (matrix .entry)) (now (bytes .entry)) r (now (state .exit)) (now (matrix .exit)) ⌝ }
+pub fn act(desk: &mut [u8], sheet: &mut [u8], bytes: &[u8]) -> u8
+    requires { ⌜ Cored (now desk) × (classesOf (now desk) * classesOf (now desk) ≤ length (now sheet)) × WellFormed (now bytes) ⌝ }
+    ensures { λ r. ⌜ Acted (now (desk .entry)) (now (sheet .entry)) (now (bytes .entry)) r (now (desk .exit)) (now (sheet .exit)) ⌝ }
 {
     let kind = bytes[KIND_AT];
-    if kind == 0 {
-        return acquire(state, matrix, bytes);
+    if kind == ACQUIRE {
+        return acquire(desk, sheet, bytes);
     }
-    if kind == 1 {
-        return release(state, bytes);
+    if kind == RELEASE {
+        return release(desk, bytes);
     }
-    interrupt(state, bytes)
+    interrupt(desk, bytes)
 }

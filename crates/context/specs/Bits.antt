@@ -1,6 +1,7 @@
 -- The bits that the rules set, as the bytes have them.
 use mathlib.Core.Bool.{Bool, _&&_}
 use Prim.Native.Nat.{ℕ}
+use Rattle.rules.specs.Context.{taskBothOn}
 use Rattle.rules.specs.HeldLocks.{HeldLock, firstBy, secondBy, sameFirst, sameSecond}
 use Rattle.rules.specs.Marks.{Marks, setIn, letterFits}
 use Rattle.rules.specs.Graph.{Dependencies, Kind}
@@ -8,7 +9,7 @@ use Rattle.layout.specs.Encoding.{markByte, kindByte}
 use Rattle.context.specs.declared.CoreState.{CoreState}
 
 abbrev pub fresh : CoreState
-fresh = record { 0 = 0 }
+fresh = record { 0 = taskBothOn }
 
 -- The marks that a state sets on a held lock of a mode, whatever its class.
 abbrev pub marksBy : ℕ → ℕ → Marks

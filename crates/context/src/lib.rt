@@ -4,37 +4,12 @@ ghost use Prim.Native.Nat.{_<_};
 ghost use Rattle.rules.specs.Context.{nextState, frameOf};
 ghost use Rattle.context.specs.Bits.{markBits, kindBits, fresh};
 
-// No state: the event is refused.
-pub const REFUSED: u8 = 9;
+// A core's frames.
+pub const TASK: u8 = 0;
 
-// A row for each state, a column for each interrupt event.
-const NEXT: [[u8; 8]; 9] = [
-    [0, 2, 0, 1, 4, 9, 6, 9],
-    [1, 3, 0, 1, 9, 9, 7, 9],
-    [0, 2, 2, 3, 9, 9, 9, 9],
-    [1, 3, 2, 3, 9, 9, 9, 9],
-    [4, 5, 9, 9, 9, 0, 8, 9],
-    [4, 5, 9, 9, 9, 9, 9, 9],
-    [9, 9, 9, 9, 9, 9, 9, 0],
-    [9, 9, 9, 9, 9, 9, 9, 1],
-    [9, 9, 9, 9, 9, 9, 9, 4],
-];
+pub const SOFT: u8 = 1;
 
-// The usage marks that a state sets on a held lock of a mode.
-const MARKS: [[u8; 3]; 9] = [
-    [68, 136, 136],
-    [4, 8, 8],
-    [0, 0, 0],
-    [0, 0, 0],
-    [20, 24, 40],
-    [16, 16, 32],
-    [1, 1, 2],
-    [1, 1, 2],
-    [1, 1, 2],
-];
-
-// The kind of the dependency from a held lock of one mode to an acquired lock of another.
-const KINDS: [[u8; 3]; 3] = [[2, 2, 1], [8, 8, 4], [8, 8, 4]];
+pub const HARD: u8 = 2;
 
 // The state of a core.
 pub struct CoreState(pub u8);
@@ -65,22 +40,80 @@ impl CoreState {
         Self::TASK_BOTH_ON
     }
 
-    // The frame in which it holds locks: 0 task, 1 soft, 2 hard.
+    // The frame in which it holds locks.
     pub fn frame(self) -> u8
         requires { ⌜ self .0 < 9 ⌝ }
         ensures { λ r. ⌜ r ≡ frameOf (self .0) ⌝ }
     {
         if self.0 < Self::SOFT_HARD_ON.0 {
-            return 0;
+            return TASK;
         }
         if self.0 < Self::HARD_OVER_BOTH_ON.0 {
-            return 1;
+            return SOFT;
         }
-        2
+        HARD
     }
 }
 
-// The state after an interrupt event, or REFUSED.
+// No state: the event is refused.
+pub const NO_STATE: u8 = 9;
+
+// The events that leave a handler, record kinds 7 and 9. An event is numbered by its column in the table, from kind 2 on.
+pub const EXIT_SOFT: u8 = 5;
+
+pub const EXIT_HARD: u8 = 7;
+
+// The states by short names, for the table.
+const ON: u8 = CoreState::TASK_BOTH_ON.0;
+
+const SO: u8 = CoreState::TASK_SOFT_OFF.0;
+
+const HO: u8 = CoreState::TASK_HARD_OFF.0;
+
+const BO: u8 = CoreState::TASK_BOTH_OFF.0;
+
+const S: u8 = CoreState::SOFT_HARD_ON.0;
+
+const SH: u8 = CoreState::SOFT_HARD_OFF.0;
+
+const H: u8 = CoreState::HARD_OVER_BOTH_ON.0;
+
+const HS: u8 = CoreState::HARD_OVER_SOFT_OFF.0;
+
+const HH: u8 = CoreState::HARD_OVER_SOFT.0;
+
+const X: u8 = NO_STATE;
+
+// A row for each state, a column for each interrupt event: hard on, hard off, soft on, soft off, enter soft, exit soft, enter hard, exit hard.
+const NEXT: [[u8; 8]; 9] = [
+    [ON, HO, ON, SO, S, X, H, X],
+    [SO, BO, ON, SO, X, X, HS, X],
+    [ON, HO, HO, BO, X, X, X, X],
+    [SO, BO, HO, BO, X, X, X, X],
+    [S, SH, X, X, X, ON, HH, X],
+    [S, SH, X, X, X, X, X, X],
+    [X, X, X, X, X, X, X, ON],
+    [X, X, X, X, X, X, X, SO],
+    [X, X, X, X, X, X, X, S],
+];
+
+// The usage marks that a state sets on a held lock of a mode.
+const MARK_BITS: [[u8; 3]; 9] = [
+    [68, 136, 136],
+    [4, 8, 8],
+    [0, 0, 0],
+    [0, 0, 0],
+    [20, 24, 40],
+    [16, 16, 32],
+    [1, 1, 2],
+    [1, 1, 2],
+    [1, 1, 2],
+];
+
+// The kind of the dependency from a held lock of one mode to an acquired lock of another.
+const KIND_BITS: [[u8; 3]; 3] = [[2, 2, 1], [8, 8, 4], [8, 8, 4]];
+
+// The state after an interrupt event, or NO_STATE.
 pub fn next(state: usize, event: usize) -> u8
     requires { ⌜ (state < 9) × (event < 8) ⌝ }
     ensures { λ r. ⌜ r ≡ nextState state event ⌝ }
@@ -92,12 +125,12 @@ pub fn mark_bits(state: usize, mode: usize) -> u8
     requires { ⌜ (state < 9) × (mode < 3) ⌝ }
     ensures { λ r. ⌜ r ≡ markBits state mode ⌝ }
 {
-    MARKS[state][mode]
+    MARK_BITS[state][mode]
 }
 
 pub fn kind_bit(held: usize, acquired: usize) -> u8
     requires { ⌜ (held < 3) × (acquired < 3) ⌝ }
     ensures { λ r. ⌜ r ≡ kindBits held acquired ⌝ }
 {
-    KINDS[held][acquired]
+    KIND_BITS[held][acquired]
 }

@@ -8,16 +8,16 @@ use borrow.Author.Tests.{lt-ltb, le-ltb, ne-eqb}
 use Rattle.layout.specs.Layout.{markOf}
 use Rattle.layout.specs.Fit.{markFits}
 
-module _ (K : ℕ) (state : List ℕ) (c : ℕ) where
+module _ (K : ℕ) (desk : List ℕ) (c : ℕ) where
   pub mark-used : c < K
-      → markFits K state c ≡ (leb (markOf state c / 64 % 2) (markOf state c / 4 % 2) && leb (markOf state c / 128 % 2) (markOf state c / 8 % 2))
+      → markFits K desk c ≡ (leb (markOf desk c / 64 % 2) (markOf desk c / 4 % 2) && leb (markOf desk c / 128 % 2) (markOf desk c / 8 % 2))
   unfolding markFits
   mark-used l = rw (lt-ltb c K l)
 
-  pub mark-zero : K ≤ c → markOf state c ≡ 0 → markFits K state c ≡ true
+  pub mark-zero : K ≤ c → markOf desk c ≡ 0 → markFits K desk c ≡ true
   unfolding markFits
   mark-zero l e = rw (le-ltb c K l, e)
 
-  pub mark-past : K ≤ c → (markOf state c ≡ 0 → ⊥) → markFits K state c ≡ false
+  pub mark-past : K ≤ c → (markOf desk c ≡ 0 → ⊥) → markFits K desk c ≡ false
   unfolding markFits
   mark-past l h = rw (le-ltb c K l, ne-eqb _ _ h)

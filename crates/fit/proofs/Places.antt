@@ -6,7 +6,7 @@ use native.Mathlib.Decide.{decLt}
 use native.Mathlib.Omega.{arith}
 use Rattle.rules.specs.Limits.{coreCount, maxClasses, maxDepth}
 use Rattle.rules.specs.Context.{Frame}
-use Rattle.layout.specs.Layout.{framesPerCore, frameCount, classesAt, closedAt, statesAt, depthsAt, marksAt, heldAt, stateSize, matrixSize, frameNumber}
+use Rattle.layout.specs.Layout.{framesPerCore, frameCount, classesAt, closedAt, statesAt, depthsAt, marksAt, heldAt, deskSize, sheetSize, frameNumber}
 
 -- Every frame is one of a core's.
 pub by-frame : (P : ℕ → Type 0) → ((i : ℕ) (f : Frame) → i < coreCount → f < framesPerCore → P (frameNumber i f))
@@ -26,7 +26,7 @@ pub record AtPlaces (P : ℕ → Type 0) : Type 0 where
       → P (heldAt + maxDepth * frameNumber i f + p)
 
 -- Every byte below stateSize has a named place.
-pub by-place : (P : ℕ → Type 0) → AtPlaces P → (j : ℕ) → j < stateSize → P j
+pub by-place : (P : ℕ → Type 0) → AtPlaces P → (j : ℕ) → j < deskSize → P j
 by-place P a j l =
     elim (decLt j closedAt) [
       | yes h ↦ let e : classesAt ≡ j = omega arith in subst P e (a .classes)
@@ -54,5 +54,5 @@ by-place P a j l =
 
 -- Every byte below K x K is that of a pair of classes.
 pub by-pair : (K : ℕ) → 1 ≤ K → (P : ℕ → Type 0) → ((from to : ℕ) → from < K → to < K → P (from * K + to))
-    → (j : ℕ) → j < matrixSize K → P j
+    → (j : ℕ) → j < sheetSize K → P j
 by-pair K some P a j l = subst P (div-add-mod' j K) (a (j / K) (j % K) (div-lt-iff-lt-mul some .1 l) (mod-lt j some))

@@ -10,8 +10,8 @@ use lib.Seq.{ext-getD}
 use Rattle.rules.specs.HeldLocks.{Core}
 use Rattle.rules.specs.Marks.{Marks}
 use Rattle.rules.specs.Graph.{Dependencies}
-use Rattle.layout.specs.Layout.{stateSize, matrixSize}
-use Rattle.layout.specs.Encoding.{StateBytes, MatrixBytes, KeepsPast}
+use Rattle.layout.specs.Layout.{deskSize, sheetSize}
+use Rattle.layout.specs.Encoding.{DeskBytes, SheetBytes, KeepsPast}
 use Rattle.fit.proofs.Places.{AtPlaces, by-place, by-pair}
 
 -- Two lists of one length are equal if they are below n and from n on.
@@ -25,7 +25,7 @@ both-keep : (n : ℕ) (before x y : List ℕ) → ((j : ℕ) → j < n → getD 
 both-keep n before x y below a b = meets n x y (a .long ∙ sym (b .long)) below (λ j l. a .past j l ∙ sym (b .past j l))
 
 module _ (K : ℕ) (is-closed : Bool) (cores : ℕ → Core) (marks : Marks) (x y : List ℕ)
-    (a : StateBytes K is-closed cores marks x) (b : StateBytes K is-closed cores marks y) where
+    (a : DeskBytes K is-closed cores marks x) (b : DeskBytes K is-closed cores marks y) where
   same-places : AtPlaces (λ j. getD x j 0 ≡ getD y j 0)
   same-places =
       record {
@@ -37,18 +37,18 @@ module _ (K : ℕ) (is-closed : Bool) (cores : ℕ → Core) (marks : Marks) (x 
         held = λ i f p l h q. a .held i f p l h q ∙ sym (b .held i f p l h q);
       }
 
-  pub settled-state : length x ≡ length y → ((j : ℕ) → stateSize ≤ j → getD x j 0 ≡ getD y j 0) → x ≡ y
-  settled-state long past = meets stateSize x y long (by-place _ same-places) past
+  pub settled-desk : length x ≡ length y → ((j : ℕ) → deskSize ≤ j → getD x j 0 ≡ getD y j 0) → x ≡ y
+  settled-desk long past = meets deskSize x y long (by-place _ same-places) past
 
-  pub settled-state-after : (before : List ℕ) → KeepsPast stateSize before x → KeepsPast stateSize before y → x ≡ y
-  settled-state-after before = both-keep stateSize before x y (by-place _ same-places)
+  pub settled-desk-after : (before : List ℕ) → KeepsPast deskSize before x → KeepsPast deskSize before y → x ≡ y
+  settled-desk-after before = both-keep deskSize before x y (by-place _ same-places)
 
-module _ (K : ℕ) (some : 1 ≤ K) (locks : Dependencies) (x y : List ℕ) (a : MatrixBytes K locks x) (b : MatrixBytes K locks y) where
-  same-pairs : (j : ℕ) → j < matrixSize K → getD x j 0 ≡ getD y j 0
+module _ (K : ℕ) (some : 1 ≤ K) (locks : Dependencies) (x y : List ℕ) (a : SheetBytes K locks x) (b : SheetBytes K locks y) where
+  same-pairs : (j : ℕ) → j < sheetSize K → getD x j 0 ≡ getD y j 0
   same-pairs = by-pair K some (λ j. getD x j 0 ≡ getD y j 0) (λ from to l h. a .kinds from to l h ∙ sym (b .kinds from to l h))
 
-  pub settled-matrix : length x ≡ length y → ((j : ℕ) → matrixSize K ≤ j → getD x j 0 ≡ getD y j 0) → x ≡ y
-  settled-matrix long past = meets (matrixSize K) x y long same-pairs past
+  pub settled-sheet : length x ≡ length y → ((j : ℕ) → sheetSize K ≤ j → getD x j 0 ≡ getD y j 0) → x ≡ y
+  settled-sheet long past = meets (sheetSize K) x y long same-pairs past
 
-  pub settled-matrix-after : (before : List ℕ) → KeepsPast (matrixSize K) before x → KeepsPast (matrixSize K) before y → x ≡ y
-  settled-matrix-after before = both-keep (matrixSize K) before x y same-pairs
+  pub settled-sheet-after : (before : List ℕ) → KeepsPast (sheetSize K) before x → KeepsPast (sheetSize K) before y → x ≡ y
+  settled-sheet-after before = both-keep (sheetSize K) before x y same-pairs

@@ -6,4 +6,4 @@ use lib.Dec.{eqb}
 use Rattle.layout.specs.Layout.{heldOf}
 
 abbrev pub emptyAt : List ℕ → ℕ → ℕ → Bool
-emptyAt state n p = eqb (heldOf state n p) 0
+emptyAt desk n p = eqb (heldOf desk n p) 0

@@ -1,94 +1,83 @@
-// The fit test of document 01: whether the state buffer and the dependency matrix are such as opening and steps leave.
+// The fit test of document 01: whether desk and sheet are such as opening and steps leave.
 ghost use mathlib.Core.Path.{_≡_};
 ghost use mathlib.Core.Bool.{_&&_, _||_};
 ghost use Prim.Native.Nat.{_<_, _≤_, _/_, _%_};
 ghost use lib.Dec.{leb, eqb};
+ghost use Rattle.rules.specs.Context.{mayHoldSoft, mayHoldHard};
 ghost use lib.ListN.{length};
 ghost use Rattle.rules.specs.Limits.{coreCount, maxClasses, maxDepth};
-ghost use Rattle.layout.specs.Layout.{frameCount, stateSize};
+ghost use Rattle.layout.specs.Layout.{frameCount, deskSize};
 ghost use Rattle.fit.specs.Empty.{emptyAt};
 ghost use Rattle.layout.specs.Fit.{allBelow, coreFits, heldFits, frameFits, markFits, kindsFit};
+use context::CoreState;
+use context::HARD;
+use context::SOFT;
 use layout::CLASSES_AT;
 use layout::CLOSED_AT;
 use layout::CORES;
 use layout::DEPTHS_AT;
+use layout::DESK_SIZE;
 use layout::FRAMES;
 use layout::FRAMES_PER_CORE;
 use layout::HELD_AT;
 use layout::MARKS_AT;
 use layout::MAX_CLASSES;
 use layout::MAX_DEPTH;
-use layout::STATE_SIZE;
+use layout::MODES;
 use layout::STATES_AT;
-
-// A core's frames, after its task frame.
-const SOFT: usize = 1;
-
-const HARD: usize = 2;
-
-// Soft interrupt handlers, hard interrupts enabled or not; hard interrupt handlers from the first to the one over a soft handler.
-const SOFT_HARD_ON: u8 = 4;
-
-const SOFT_HARD_OFF: u8 = 5;
-
-const HARD_FIRST: u8 = 6;
-
-const HARD_OVER_SOFT: u8 = 8;
-
-const MODES: u8 = 3;
 
 const ALL_KINDS: u8 = 15;
 
 // The soft frame is empty, or the core's state is one in which it may hold locks.
 fn soft_fits(depth: u8, state: u8) -> bool
-    ensures { λ r. ⌜ r ≡ (eqb depth 0 || (eqb state 4 || (eqb state 5 || eqb state 8))) ⌝ }
+    ensures { λ r. ⌜ r ≡ (eqb depth 0 || mayHoldSoft state) ⌝ }
 {
     if depth == 0 {
         return true;
     }
-    if state == SOFT_HARD_ON {
+    if state == CoreState::SOFT_HARD_ON.0 {
         return true;
     }
-    if state == SOFT_HARD_OFF {
+    if state == CoreState::SOFT_HARD_OFF.0 {
         return true;
     }
-    state == HARD_OVER_SOFT
+    state == CoreState::HARD_OVER_SOFT.0
 }
 
 // The same of the hard frame.
 fn hard_fits(depth: u8, state: u8) -> bool
-    ensures { λ r. ⌜ r ≡ (eqb depth 0 || leb 6 state) ⌝ }
+    ensures { λ r. ⌜ r ≡ (eqb depth 0 || mayHoldHard state) ⌝ }
 {
     if depth == 0 {
         return true;
     }
-    HARD_FIRST <= state
+    CoreState::HARD_OVER_BOTH_ON.0 <= state
 }
 
-fn core_fits(state: &[u8], i: usize) -> bool
-    requires { ⌜ (i < coreCount) × (stateSize ≤ length (now state)) ⌝ }
-    ensures { λ r. ⌜ r ≡ coreFits (now (state .entry)) i ⌝ }
+fn core_fits(desk: &[u8], i: usize) -> bool
+    requires { ⌜ (i < coreCount) × (deskSize ≤ length (now desk)) ⌝ }
+    ensures { λ r. ⌜ r ≡ coreFits (now (desk .entry)) i ⌝ }
 {
-    let s = state[STATES_AT + i];
-    if HARD_OVER_SOFT < s {
+    let s = desk[STATES_AT + i];
+    if CoreState::HARD_OVER_SOFT.0 < s {
         return false;
     }
-    if soft_fits(state[DEPTHS_AT + (FRAMES_PER_CORE * i + SOFT)], s) {
-        hard_fits(state[DEPTHS_AT + (FRAMES_PER_CORE * i + HARD)], s)
+    if soft_fits(desk[DEPTHS_AT + (FRAMES_PER_CORE * i + SOFT as usize)], s) {
+        hard_fits(desk[DEPTHS_AT + (FRAMES_PER_CORE * i + HARD as usize)], s)
     } else {
         false
     }
 }
 
 // The loops have no early exit, so that the compiler can make vector instructions of them.
-fn cores_fit(state: &[u8]) -> bool
-    requires { ⌜ stateSize ≤ length (now state) ⌝ }
-    ensures { λ r. ⌜ r ≡ allBelow coreCount (coreFits (now (state .entry))) ⌝ }
+fn cores_fit(desk: &[u8]) -> bool
+    requires { ⌜ deskSize ≤ length (now desk) ⌝ }
+    ensures { λ r. ⌜ r ≡ allBelow coreCount (coreFits (now (desk .entry))) ⌝ }
 {
     let mut ok = true;
     let mut i: usize = 0;
     while i < CORES {
-        if !core_fits(state, i) {
+        if !core_fits(desk, i) {
             ok = false;
         }
         i += 1;
@@ -111,14 +100,14 @@ fn held_fits(classes: u8, standing: bool, byte: u8) -> bool
 }
 
 // A frame with no lock held: its bytes are zero. Most frames are such, and this loop is the quicker one.
-fn empty_frame_fits(state: &[u8], n: usize) -> bool
-    requires { ⌜ (n < frameCount) × (stateSize ≤ length (now state)) ⌝ }
-    ensures { λ r. ⌜ r ≡ allBelow maxDepth (emptyAt (now (state .entry)) n) ⌝ }
+fn empty_frame_fits(desk: &[u8], n: usize) -> bool
+    requires { ⌜ (n < frameCount) × (deskSize ≤ length (now desk)) ⌝ }
+    ensures { λ r. ⌜ r ≡ allBelow maxDepth (emptyAt (now (desk .entry)) n) ⌝ }
 {
     let mut ok = true;
     let mut p: usize = 0;
     while p < MAX_DEPTH {
-        if state[HELD_AT + MAX_DEPTH * n + p] != 0 {
+        if desk[HELD_AT + MAX_DEPTH * n + p] != 0 {
             ok = false;
         }
         p += 1;
@@ -126,15 +115,15 @@ fn empty_frame_fits(state: &[u8], n: usize) -> bool
     ok
 }
 
-fn used_frame_fits(classes: u8, state: &[u8], n: usize) -> bool
-    requires { ⌜ (n < frameCount) × (stateSize ≤ length (now state)) ⌝ }
-    ensures { λ r. ⌜ r ≡ frameFits classes (now (state .entry)) n ⌝ }
+fn used_frame_fits(classes: u8, desk: &[u8], n: usize) -> bool
+    requires { ⌜ (n < frameCount) × (deskSize ≤ length (now desk)) ⌝ }
+    ensures { λ r. ⌜ r ≡ frameFits classes (now (desk .entry)) n ⌝ }
 {
-    let depth = state[DEPTHS_AT + n] as usize;
+    let depth = desk[DEPTHS_AT + n] as usize;
     let mut ok = depth <= MAX_DEPTH;
     let mut p: usize = 0;
     while p < MAX_DEPTH {
-        if !held_fits(classes, p < depth, state[HELD_AT + MAX_DEPTH * n + p]) {
+        if !held_fits(classes, p < depth, desk[HELD_AT + MAX_DEPTH * n + p]) {
             ok = false;
         }
         p += 1;
@@ -142,24 +131,24 @@ fn used_frame_fits(classes: u8, state: &[u8], n: usize) -> bool
     ok
 }
 
-fn frame_fits(classes: u8, state: &[u8], n: usize) -> bool
-    requires { ⌜ (n < frameCount) × (stateSize ≤ length (now state)) ⌝ }
-    ensures { λ r. ⌜ r ≡ frameFits classes (now (state .entry)) n ⌝ }
+fn frame_fits(classes: u8, desk: &[u8], n: usize) -> bool
+    requires { ⌜ (n < frameCount) × (deskSize ≤ length (now desk)) ⌝ }
+    ensures { λ r. ⌜ r ≡ frameFits classes (now (desk .entry)) n ⌝ }
 {
-    if state[DEPTHS_AT + n] == 0 {
-        return empty_frame_fits(state, n);
+    if desk[DEPTHS_AT + n] == 0 {
+        return empty_frame_fits(desk, n);
     }
-    used_frame_fits(classes, state, n)
+    used_frame_fits(classes, desk, n)
 }
 
-fn frames_fit(classes: u8, state: &[u8]) -> bool
-    requires { ⌜ stateSize ≤ length (now state) ⌝ }
-    ensures { λ r. ⌜ r ≡ allBelow frameCount (frameFits classes (now (state .entry))) ⌝ }
+fn frames_fit(classes: u8, desk: &[u8]) -> bool
+    requires { ⌜ deskSize ≤ length (now desk) ⌝ }
+    ensures { λ r. ⌜ r ≡ allBelow frameCount (frameFits classes (now (desk .entry))) ⌝ }
 {
     let mut ok = true;
     let mut n: usize = 0;
     while n < FRAMES {
-        if !frame_fits(classes, state, n) {
+        if !frame_fits(classes, desk, n) {
             ok = false;
         }
         n += 1;
@@ -178,14 +167,14 @@ fn unsafe_fits(mark: u8) -> bool
     }
 }
 
-fn used_marks_fit(classes: usize, state: &[u8]) -> bool
-    requires { ⌜ (classes ≤ maxClasses) × (stateSize ≤ length (now state)) ⌝ }
-    ensures { λ r. ⌜ r ≡ allBelow classes (markFits classes (now (state .entry))) ⌝ }
+fn used_marks_fit(classes: usize, desk: &[u8]) -> bool
+    requires { ⌜ (classes ≤ maxClasses) × (deskSize ≤ length (now desk)) ⌝ }
+    ensures { λ r. ⌜ r ≡ allBelow classes (markFits classes (now (desk .entry))) ⌝ }
 {
     let mut ok = true;
     let mut c: usize = 0;
     while c < classes {
-        if !unsafe_fits(state[MARKS_AT + c]) {
+        if !unsafe_fits(desk[MARKS_AT + c]) {
             ok = false;
         }
         c += 1;
@@ -194,14 +183,14 @@ fn used_marks_fit(classes: usize, state: &[u8]) -> bool
 }
 
 // The classes from K on have no mark.
-fn marks_fit(classes: usize, state: &[u8]) -> bool
-    requires { ⌜ (classes ≤ maxClasses) × (stateSize ≤ length (now state)) ⌝ }
-    ensures { λ r. ⌜ r ≡ allBelow maxClasses (markFits classes (now (state .entry))) ⌝ }
+fn marks_fit(classes: usize, desk: &[u8]) -> bool
+    requires { ⌜ (classes ≤ maxClasses) × (deskSize ≤ length (now desk)) ⌝ }
+    ensures { λ r. ⌜ r ≡ allBelow maxClasses (markFits classes (now (desk .entry))) ⌝ }
 {
-    let mut ok = used_marks_fit(classes, state);
+    let mut ok = used_marks_fit(classes, desk);
     let mut c = classes;
     while c < MAX_CLASSES {
-        if state[MARKS_AT + c] != 0 {
+        if desk[MARKS_AT + c] != 0 {
             ok = false;
         }
         c += 1;
@@ -209,14 +198,14 @@ fn marks_fit(classes: usize, state: &[u8]) -> bool
     ok
 }
 
-fn kinds_fit(matrix: &[u8], size: usize) -> bool
-    requires { ⌜ size ≤ length (now matrix) ⌝ }
-    ensures { λ r. ⌜ r ≡ allBelow size (kindsFit (now (matrix .entry))) ⌝ }
+fn kinds_fit(sheet: &[u8], size: usize) -> bool
+    requires { ⌜ size ≤ length (now sheet) ⌝ }
+    ensures { λ r. ⌜ r ≡ allBelow size (kindsFit (now (sheet .entry))) ⌝ }
 {
     let mut ok = true;
     let mut j: usize = 0;
     while j < size {
-        if ALL_KINDS < matrix[j] {
+        if ALL_KINDS < sheet[j] {
             ok = false;
         }
         j += 1;
@@ -224,13 +213,13 @@ fn kinds_fit(matrix: &[u8], size: usize) -> bool
     ok
 }
 
-pub fn fits(state: &[u8], matrix: &[u8]) -> bool
-    ensures { λ r. ⌜ r ≡ Rattle.layout.specs.Fit.fits (now (state .entry)) (now (matrix .entry)) ⌝ }
+pub fn fits(desk: &[u8], sheet: &[u8]) -> bool
+    ensures { λ r. ⌜ r ≡ Rattle.layout.specs.Fit.fits (now (desk .entry)) (now (sheet .entry)) ⌝ }
 {
-    if state.len() < STATE_SIZE {
+    if desk.len() < DESK_SIZE {
         return false;
     }
-    let classes = state[CLASSES_AT];
+    let classes = desk[CLASSES_AT];
     let k = classes as usize;
     if k < 1 {
         return false;
@@ -239,20 +228,20 @@ pub fn fits(state: &[u8], matrix: &[u8]) -> bool
         return false;
     }
     let size = k * k;
-    if matrix.len() < size {
+    if sheet.len() < size {
         return false;
     }
-    if 1 < state[CLOSED_AT] {
+    if 1 < desk[CLOSED_AT] {
         return false;
     }
-    if !cores_fit(state) {
+    if !cores_fit(desk) {
         return false;
     }
-    if !frames_fit(classes, state) {
+    if !frames_fit(classes, desk) {
         return false;
     }
-    if !marks_fit(k, state) {
+    if !marks_fit(k, desk) {
         return false;
     }
-    kinds_fit(matrix, size)
+    kinds_fit(sheet, size)
 }

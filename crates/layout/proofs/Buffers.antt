@@ -1,4 +1,4 @@
--- Cells of the matrix, and bytes that stay. Assumes nothing.
+-- Cells of the sheet, and bytes that stay. Assumes nothing.
 use mathlib.Core.Path.{_≡_, refl, _∙_}
 use mathlib.Core.List.{List}
 use Prim.Native.Nat.{ℕ, _+_, _*_, _<_, _≤_}

@@ -1,5 +1,5 @@
--- Document 01, "What lies on the bench": where each byte of the state buffer ("desk"), the dependency matrix ("sheet") and the report ("slip")
--- stands. Every other definition goes by these names; src/lib.rt has them once more for the code.
+-- Document 01, "What lies on the bench": where each byte of the desk, the sheet and the slip stands. Every other definition goes by these names;
+-- src/lib.rt has them once more for the code.
 use mathlib.Core.List.{List}
 use Prim.Native.Nat.{ℕ, _+_, _*_}
 use lib.ListN.{getD}
@@ -31,21 +31,24 @@ marksAt = depthsAt + frameCount
 abbrev pub heldAt : ℕ
 heldAt = marksAt + maxClasses
 
-abbrev pub stateSize : ℕ
-stateSize = heldAt + maxDepth * frameCount
+abbrev pub deskSize : ℕ
+deskSize = heldAt + maxDepth * frameCount
 
-abbrev pub matrixSize : ℕ → ℕ
-matrixSize K = K * K
+abbrev pub sheetSize : ℕ → ℕ
+sheetSize K = K * K
 
--- The report has a count, and an entry for each dependency of the cycle.
+-- The slip has a count, and an entry for each dependency of the cycle.
+abbrev pub countAt : ℕ
+countAt = 0
+
 abbrev pub entriesAt : ℕ
 entriesAt = 1
 
 abbrev pub entrySize : ℕ
 entrySize = 3
 
-abbrev pub reportSize : ℕ → ℕ
-reportSize K = entriesAt + entrySize * K
+abbrev pub slipSize : ℕ → ℕ
+slipSize K = entriesAt + entrySize * K
 
 -- The number of a core's frame: "core 0 task, soft, hard, then core 1 and so on".
 abbrev pub frameNumber : ℕ → Frame → ℕ
@@ -54,23 +57,26 @@ frameNumber core f = framesPerCore * core + f
 -- ---- The bytes by name.
 
 abbrev pub classesOf : List ℕ → ℕ
-classesOf state = getD state classesAt 0
+classesOf desk = getD desk classesAt 0
 
 abbrev pub closedOf : List ℕ → ℕ
-closedOf state = getD state closedAt 0
+closedOf desk = getD desk closedAt 0
 
 abbrev pub stateOf : List ℕ → ℕ → ℕ
-stateOf state core = getD state (statesAt + core) 0
+stateOf desk core = getD desk (statesAt + core) 0
 
 abbrev pub depthOf : List ℕ → ℕ → ℕ
-depthOf state frame = getD state (depthsAt + frame) 0
+depthOf desk frame = getD desk (depthsAt + frame) 0
 
 abbrev pub markOf : List ℕ → ℕ → ℕ
-markOf state class = getD state (marksAt + class) 0
+markOf desk class = getD desk (marksAt + class) 0
 
 -- Place p of a frame, the oldest first.
 abbrev pub heldOf : List ℕ → ℕ → ℕ → ℕ
-heldOf state frame p = getD state (heldAt + maxDepth * frame + p) 0
+heldOf desk frame p = getD desk (heldAt + maxDepth * frame + p) 0
 
 abbrev pub kindsOf : List ℕ → ℕ → ℕ → ℕ → ℕ
-kindsOf matrix K from to = getD matrix (from * K + to) 0
+kindsOf sheet K from to = getD sheet (from * K + to) 0
+
+abbrev pub countOf : List ℕ → ℕ
+countOf slip = getD slip countAt 0

@@ -1,3 +1,4 @@
 pub mod Layout
 pub mod Encoding
+pub mod Decoding
 pub mod Fit

@@ -6,6 +6,8 @@ pub const MAX_CLASSES: usize = 64;
 
 pub const MAX_DEPTH: usize = 20;
 
+pub const MODES: u8 = 3;
+
 pub const FRAMES_PER_CORE: usize = 3;
 
 pub const FRAMES: usize = FRAMES_PER_CORE * CORES;
@@ -22,9 +24,11 @@ pub const MARKS_AT: usize = DEPTHS_AT + FRAMES;
 
 pub const HELD_AT: usize = MARKS_AT + MAX_CLASSES;
 
-pub const STATE_SIZE: usize = HELD_AT + MAX_DEPTH * FRAMES;
+pub const DESK_SIZE: usize = HELD_AT + MAX_DEPTH * FRAMES;
 
-// The report: a count, and an entry for each dependency of the cycle.
+// The slip: a count, and an entry for each dependency of the cycle.
+pub const COUNT_AT: usize = 0;
+
 pub const ENTRIES_AT: usize = 1;
 
 pub const ENTRY_SIZE: usize = 3;

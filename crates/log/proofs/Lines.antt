@@ -11,30 +11,30 @@ use borrow.Author.Tests.{lt-ltb, le-ltb, ltb-true}
 use Rattle.rules.specs.Marks.{hardIrq, softIrq}
 use Rattle.rules.specs.Graph.{lock, irq, ER, EN, SR, SN}
 use Rattle.rules.specs.Cycle.{Entry, entryAt, following}
-use Rattle.search.specs.Trails.{kindOf}
-use Rattle.search.specs.Reports.{next}
-use Rattle.report.specs.Shown.{sourceBy, entryOf, entriesOf}
-use Rattle.report.proofs.Writing.{length-entries, entry-at}
+use Rattle.layout.specs.Layout.{countOf}
+use Rattle.layout.specs.Decoding.{kindOfByte, sourceOfByte, entryOf, entriesOf}
+use Rattle.search.specs.Reports.{nextPlace}
+use Rattle.rules.proofs.Closure.{length-tabulate, getD-tabulate}
 use Rattle.log.specs.Text.{digits, kindText, sourceText, entryText, faultText, lineSize, linesOf, Appended, EntryPut}
 use Rattle.log.proofs.Digits.{places-of-byte, places-of-word}
 use Rattle.log.proofs.Writing.{both, as-text}
 
 -- ---- Kinds and sources by their numbers.
 
-pub kind-1 : (k : ℕ) → k ≡ 1 → kindText (kindOf k) ≡ kindText ER
+pub kind-1 : (k : ℕ) → k ≡ 1 → kindText (kindOfByte k) ≡ kindText ER
 kind-1 k e = rw e refl
 
-pub kind-4 : (k : ℕ) → k ≡ 4 → kindText (kindOf k) ≡ kindText SR
+pub kind-4 : (k : ℕ) → k ≡ 4 → kindText (kindOfByte k) ≡ kindText SR
 kind-4 k e = rw e refl
 
-pub kind-low : (k : ℕ) → (k ≡ 1 → ⊥) → k < 4 → kindText (kindOf k) ≡ kindText EN
+pub kind-low : (k : ℕ) → (k ≡ 1 → ⊥) → k < 4 → kindText (kindOfByte k) ≡ kindText EN
 kind-low zero n h = refl
 kind-low (suc zero) n h = absurd (n refl)
 kind-low (suc (suc zero)) n h = refl
 kind-low (suc (suc (suc zero))) n h = refl
 kind-low (suc (suc (suc (suc k)))) n h = absurd (omega arith)
 
-pub kind-high : (k : ℕ) → (k ≡ 4 → ⊥) → 4 ≤ k → kindText (kindOf k) ≡ kindText SN
+pub kind-high : (k : ℕ) → (k ≡ 4 → ⊥) → 4 ≤ k → kindText (kindOfByte k) ≡ kindText SN
 kind-high zero n h = absurd (omega arith)
 kind-high (suc zero) n h = absurd (omega arith)
 kind-high (suc (suc zero)) n h = absurd (omega arith)
@@ -42,18 +42,18 @@ kind-high (suc (suc (suc zero))) n h = absurd (omega arith)
 kind-high (suc (suc (suc (suc zero)))) n h = absurd (n refl)
 kind-high (suc (suc (suc (suc (suc k))))) n h = refl
 
-pub source-0 : (s : ℕ) → s ≡ 0 → sourceText (sourceBy s) ≡ sourceText lock
+pub source-0 : (s : ℕ) → s ≡ 0 → sourceText (sourceOfByte s) ≡ sourceText lock
 source-0 s e = rw e refl
 
-pub source-1 : (s : ℕ) → s ≡ 1 → sourceText (sourceBy s) ≡ sourceText (irq hardIrq)
+pub source-1 : (s : ℕ) → s ≡ 1 → sourceText (sourceOfByte s) ≡ sourceText (irq hardIrq)
 source-1 s e = rw e refl
 
-pub source-more : (s : ℕ) → (s ≡ 0 → ⊥) → (s ≡ 1 → ⊥) → sourceText (sourceBy s) ≡ sourceText (irq softIrq)
+pub source-more : (s : ℕ) → (s ≡ 0 → ⊥) → (s ≡ 1 → ⊥) → sourceText (sourceOfByte s) ≡ sourceText (irq softIrq)
 source-more zero a b = absurd (a refl)
 source-more (suc zero) a b = absurd (b refl)
 source-more (suc (suc s)) a b = refl
 
-pub length-kind : (k : ℕ) → length (kindText (kindOf k)) ≡ 4
+pub length-kind : (k : ℕ) → length (kindText (kindOfByte k)) ≡ 4
 length-kind zero = refl
 length-kind (suc zero) = refl
 length-kind (suc (suc zero)) = refl
@@ -61,14 +61,14 @@ length-kind (suc (suc (suc zero))) = refl
 length-kind (suc (suc (suc (suc zero)))) = refl
 length-kind (suc (suc (suc (suc (suc k))))) = refl
 
-pub length-source : (s : ℕ) → length (sourceText (sourceBy s)) ≡ 6
+pub length-source : (s : ℕ) → length (sourceText (sourceOfByte s)) ≡ 6
 length-source zero = refl
 length-source (suc zero) = refl
 length-source (suc (suc s)) = refl
 
 -- The four parts of a line.
 pub entry-put : {b b₁ b₂ b₃ b₄ : List ℕ} {at e₁ e₂ e₃ e₄ class kind source to : ℕ} → class < 256 → to < 256 → Appended b at (digits class) b₁ e₁
-    → Appended b₁ e₁ (kindText (kindOf kind)) b₂ e₂ → Appended b₂ e₂ (digits to) b₃ e₃ → Appended b₃ e₃ (sourceText (sourceBy source)) b₄ e₄
+    → Appended b₁ e₁ (kindText (kindOfByte kind)) b₂ e₂ → Appended b₂ e₂ (digits to) b₃ e₃ → Appended b₃ e₃ (sourceText (sourceOfByte source)) b₄ e₄
     → EntryPut b at class kind source to b₄ e₄
 unfolding entryText
 entry-put {class = class} {kind = kind} {source = source} {to = to} h k p q r s =
@@ -79,42 +79,42 @@ entry-put {class = class} {kind = kind} {source = source} {to = to} h k p q r s 
 
 -- ---- The next place of a cycle.
 
-pub next-more : (n i : ℕ) → i + 1 < n → next n i ≡ i + 1
+pub next-more : (n i : ℕ) → i + 1 < n → nextPlace n i ≡ i + 1
 next-more n i h = rw (lt-ltb (suc i) n (omega arith)) (sym (add-one i))
 
-pub next-last : (n i : ℕ) → n ≤ i + 1 → next n i ≡ 0
+pub next-last : (n i : ℕ) → n ≤ i + 1 → nextPlace n i ≡ 0
 next-last n i h = rw (le-ltb (suc i) n (omega arith)) refl
 
 next-below-by : (n i : ℕ) (t : Bool) → ltb (suc i) n ≡ t → i < n → cond t (suc i) 0 < n
 next-below-by n i true e h = ltb-true (suc i) n e
 next-below-by n i false e h = omega arith
 
-pub next-below : (n i : ℕ) → i < n → next n i < n
+pub next-below : (n i : ℕ) → i < n → nextPlace n i < n
 next-below n i h = next-below-by n i (ltb (suc i) n) refl h
 
--- ---- The entries of a report.
+-- ---- The entries of a slip.
 
-module _ (report : List ℕ) where
-  pub long : length (entriesOf report) ≡ getD report 0 0
-  long = length-entries (getD report 0 0) (entryOf report)
+module _ (slip : List ℕ) where
+  pub long : length (entriesOf slip) ≡ countOf slip
+  long = length-tabulate (countOf slip) (entryOf slip)
 
   -- The line of entry i is that of its bytes and of the class of the next.
-  line-of : (i : ℕ) → i < getD report 0 0
-      → entryText (entryAt (entriesOf report) i) (following (entriesOf report) i .class)
-      ≡ entryText (entryOf report i) (getD report (1 + 3 * next (getD report 0 0) i) 0)
+  line-of : (i : ℕ) → i < countOf slip
+      → entryText (entryAt (entriesOf slip) i) (following (entriesOf slip) i .class)
+      ≡ entryText (entryOf slip i) (getD slip (1 + 3 * nextPlace (countOf slip) i) 0)
   line-of i h =
-      rw (long, entry-at (getD report 0 0) (entryOf report) i h, entry-at (getD report 0 0) (entryOf report) (next (getD report 0 0) i) (next-below _ i h))
+      rw (long, getD-tabulate (countOf slip) (entryOf slip) _ i h, getD-tabulate (countOf slip) (entryOf slip) _ (nextPlace (countOf slip) i) (next-below _ i h))
       refl
 
-  pub started : (b : List ℕ) (at : ℕ) → at ≤ length b → Appended b at (linesOf (entriesOf report) 0) b at
+  pub started : (b : List ℕ) (at : ℕ) → at ≤ length b → Appended b at (linesOf (entriesOf slip) 0) b at
   unfolding linesOf
   started b at h = record { end-is = omega arith; bytes = refl; inside = h }
 
   -- A turn of the loop.
-  pub turn : (b out after : List ℕ) (at end place end′ i : ℕ) → i < getD report 0 0 → place ≡ 1 + 3 * next (getD report 0 0) i
-      → Appended b at (linesOf (entriesOf report) i) out end
-      → EntryPut out end (getD report (1 + 3 * i) 0) (getD report (1 + 3 * i + 1) 0) (getD report (1 + 3 * i + 2) 0) (getD report place 0) after end′
-      → Appended b at (linesOf (entriesOf report) (i + 1)) after end′
+  pub turn : (b out after : List ℕ) (at end place end′ i : ℕ) → i < countOf slip → place ≡ 1 + 3 * nextPlace (countOf slip) i
+      → Appended b at (linesOf (entriesOf slip) i) out end
+      → EntryPut out end (getD slip (1 + 3 * i) 0) (getD slip (1 + 3 * i + 1) 0) (getD slip (1 + 3 * i + 2) 0) (getD slip place 0) after end′
+      → Appended b at (linesOf (entriesOf slip) (i + 1)) after end′
   unfolding linesOf
   turn b out after at end place end′ i h e p q =
       rw add-one

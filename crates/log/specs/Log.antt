@@ -27,10 +27,10 @@ unfoldable pub nextRecord : List ℕ → (ended : Bool) → List ℕ
 nextRecord bytes ended = cond (leb 6 (length bytes) || ended) (take 6 bytes) []
 
 -- The next record, if there is one, is validated by the step, and nothing else is.
-pub record ValidatedNext (state matrix report bytes : List ℕ) (ended : Bool) (taken answer : ℕ) (state′ matrix′ report′ : List ℕ) : Type 0 where
+pub record ValidatedNext (desk sheet slip bytes : List ℕ) (ended : Bool) (taken answer : ℕ) (desk′ sheet′ slip′ : List ℕ) : Type 0 where
   pub taken-is : taken ≡ length (nextRecord bytes ended)
-  pub none : taken ≡ 0 → (answer ≡ 0) × (state′ ≡ state) × (matrix′ ≡ matrix) × (report′ ≡ report)
-  pub some : 0 < taken → Stepped state matrix report (nextRecord bytes ended) answer state′ matrix′ report′
+  pub none : taken ≡ 0 → (answer ≡ 0) × (desk′ ≡ desk) × (sheet′ ≡ sheet) × (slip′ ≡ slip)
+  pub some : 0 < taken → Stepped desk sheet slip (nextRecord bytes ended) answer desk′ sheet′ slip′
 
 -- The bytes from `at` up to `until` stand at the front.
 pub record Kept (before : List ℕ) (at until : ℕ) (after : List ℕ) (n : ℕ) : Type 0 where

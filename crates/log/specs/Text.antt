@@ -9,9 +9,11 @@ use lib.Seq.{sets}
 use Rattle.rules.specs.HeldLocks.{First, Second, E, S, R, N}
 use Rattle.rules.specs.Marks.{hardIrq, softIrq}
 use Rattle.rules.specs.Graph.{Kind, Source, lock, irq}
-use Rattle.search.specs.Trails.{kindOf}
-use Rattle.report.specs.Shown.{sourceBy}
+use Rattle.layout.specs.Layout.{countOf}
+use Rattle.layout.specs.Decoding.{kindOfByte, sourceOfByte, entriesOf}
+use Rattle.rules.specs.Limits.{maxClasses}
 use Rattle.rules.specs.Cycle.{Entry, entryAt, following}
+use Rattle.log.specs.declared.Outcome.{Outcome}
 
 -- The decimal digits of n, in at most `most` places.
 unfoldable pub digitsIn : (most n : ℕ) → List ℕ
@@ -99,8 +101,32 @@ cycleSize = 1024
 
 -- The line of an entry whose bytes are given.
 abbrev pub entryOfBytes : (class kind source : ℕ) → Entry
-entryOfBytes class kind source = record { class = class; kind = kindOf kind; source = sourceBy source }
+entryOfBytes class kind source = record { class = class; kind = kindOfByte kind; source = sourceOfByte source }
 
 pub record EntryPut (before : List ℕ) (at class kind source to : ℕ) (after : List ℕ) (end : ℕ) : Type 0 where
   pub line : Appended before at (entryText (entryOfBytes class kind source) to) after end
   pub short : end ≤ at + entryLineSize
+
+-- "read failed"
+abbrev pub readFailedText : List ℕ
+readFailedText = 114 ∷ 101 ∷ 97 ∷ 100 ∷ 32 ∷ 102 ∷ 97 ∷ 105 ∷ 108 ∷ 101 ∷ 100 ∷ 10 ∷ []
+
+-- The whole text of what came of a log: what the program writes.
+abbrev pub textOf : Outcome → (slip : List ℕ) → List ℕ
+textOf (Outcome.Clean n) slip = cleanText n
+textOf (Outcome.Refused answer i) slip = refusedText answer i
+textOf (Outcome.Fault i) slip = faultText i ++ cycleText (entriesOf slip)
+textOf Outcome.Unread slip = readFailedText
+
+abbrev pub isAnswer : Outcome → Bool
+isAnswer (Outcome.Clean n) = true
+isAnswer (Outcome.Refused answer i) = true
+isAnswer (Outcome.Fault i) = true
+isAnswer Outcome.Unread = false
+
+-- The slip of a fault has a cycle of at most 64 dependencies.
+abbrev pub Showable : Outcome → (slip : List ℕ) → Type 0
+Showable (Outcome.Clean n) slip = Unit {0}
+Showable (Outcome.Refused answer i) slip = Unit {0}
+Showable (Outcome.Fault i) slip = countOf slip ≤ maxClasses
+Showable Outcome.Unread slip = Unit {0}

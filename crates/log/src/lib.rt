@@ -1,4 +1,5 @@
-// Document 01, "Logs for the bench": the header and the records of a log, and the text of the answers.
+// Document 01, "Logs for the bench": the header and the records of a log, what comes of a log, and its text.
+use layout::COUNT_AT;
 use layout::ENTRIES_AT;
 use layout::ENTRY_SIZE;
 use layout::MAX_CLASSES;
@@ -7,16 +8,29 @@ use validator::step;
 ghost use mathlib.Core.Path.{_≡_};
 ghost use mathlib.Core.List.{_++_};
 ghost use Prim.Native.Nat.{_+_, _*_, _<_, _≤_};
-ghost use lib.ListN.{length, getD};
+ghost use lib.ListN.{length};
 ghost use Rattle.rules.specs.Limits.{maxClasses};
-ghost use Rattle.layout.specs.Layout.{reportSize, entriesAt, entrySize};
-ghost use Rattle.search.specs.Reports.{next};
-ghost use Rattle.search.specs.Trails.{kindOf};
-ghost use Rattle.report.specs.Shown.{sourceBy, entriesOf};
+ghost use Rattle.layout.specs.Layout.{slipSize, entriesAt, entrySize, countOf};
+ghost use Rattle.search.specs.Reports.{nextPlace};
+ghost use Rattle.layout.specs.Decoding.{kindOfByte, sourceOfByte, entriesOf};
 ghost use Rattle.log.specs.Log.{headerClasses, nextRecord, ValidatedNext, Kept};
-ghost use Rattle.log.specs.Text.{digits, kindText, sourceText, entryText, cycleText, cleanText, refusedText, faultText, lineSize, entryLineSize, cycleSize, Appended, EntryPut};
+ghost use Rattle.log.specs.Text.{digits, kindText, sourceText, entryText, cycleText, cleanText, refusedText, faultText, lineSize, entryLineSize, cycleSize, Appended, EntryPut, Showable, textOf, isAnswer};
 
 pub const HEADER_SIZE: usize = 4;
+
+// Room for the longest text: a line, and a line for each entry of a cycle.
+pub const TEXT_SIZE: usize = 64 + 16 * MAX_CLASSES;
+
+// What came of a log.
+pub enum Outcome {
+    // So many records, each accepted and clean.
+    Clean(u64),
+    // The number of the refusal, and the record: 0 is the header.
+    Refused(u8, u64),
+    Fault(u64),
+    // A read failed.
+    Unread,
+}
 
 const MOST_CLASSES: u8 = MAX_CLASSES as u8;
 
@@ -69,13 +83,13 @@ pub struct Answered {
 
 // Validates the next record of the bytes that are left, if there is one.
 pub fn validate_next(
-    state: &mut [u8],
-    matrix: &mut [u8],
-    report: &mut [u8],
+    desk: &mut [u8],
+    sheet: &mut [u8],
+    slip: &mut [u8],
     bytes: &[u8],
     ended: bool,
 ) -> Answered
-    ensures { λ r. ⌜ ValidatedNext (now (state .entry)) (now (matrix .entry)) (now (report .entry)) (now (bytes .entry)) ended (r .taken) (r .answer) (now (state .exit)) (now (matrix .exit)) (now (report .exit)) ⌝ }
+    ensures { λ r. ⌜ ValidatedNext (now (desk .entry)) (now (sheet .entry)) (now (slip .entry)) (now (bytes .entry)) ended (r .taken) (r .answer) (now (desk .exit)) (now (sheet .exit)) (now (slip .exit)) ⌝ }
 {
     let next = next_record(bytes, ended);
     let taken = next.len();
@@ -85,7 +99,7 @@ pub fn validate_next(
             answer: 0,
         };
     }
-    let answer = step(state, matrix, report, next);
+    let answer = step(desk, sheet, slip, next);
     Answered {
         taken: taken,
         answer: answer,
@@ -119,7 +133,7 @@ fn put_word(out: &mut [u8], at: usize, word: &[u8]) -> usize
 }
 
 // A digit's character.
-fn digit(d: u64) -> u8
+fn numeral(d: u64) -> u8
     requires { ⌜ d < 10 ⌝ }
     ensures { λ r. ⌜ r ≡ 48 + d ⌝ }
 {
@@ -132,16 +146,16 @@ fn put_number(out: &mut [u8], at: usize, n: u64) -> usize
     ensures { λ r. ⌜ Appended (now (out .entry)) at (digits n) (now (out .exit)) r ⌝ }
 {
     if n < 10 {
-        out[at] = digit(n);
+        out[at] = numeral(n);
         return at + 1;
     }
     let end = put_number(out, at, n / 10);
-    out[end] = digit(n % 10);
+    out[end] = numeral(n % 10);
     end + 1
 }
 
 // "clean, N records"
-pub fn put_clean(out: &mut [u8], records: u64) -> usize
+fn put_clean(out: &mut [u8], records: u64) -> usize
     requires { ⌜ lineSize ≤ length (now out) ⌝ }
     ensures { λ r. ⌜ Appended (now (out .entry)) 0 (cleanText records) (now (out .exit)) r ⌝ }
 {
@@ -151,7 +165,7 @@ pub fn put_clean(out: &mut [u8], records: u64) -> usize
 }
 
 // "refused A at record I"
-pub fn put_refused(out: &mut [u8], answer: u8, at: u64) -> usize
+fn put_refused(out: &mut [u8], answer: u8, at: u64) -> usize
     requires { ⌜ lineSize ≤ length (now out) ⌝ }
     ensures { λ r. ⌜ Appended (now (out .entry)) 0 (refusedText answer at) (now (out .exit)) r ⌝ }
 {
@@ -175,7 +189,7 @@ fn put_fault(out: &mut [u8], at: u64) -> usize
 // The kind of a dependency, between spaces.
 fn put_kind(out: &mut [u8], at: usize, kind: u8) -> usize
     requires { ⌜ at + 4 ≤ length (now out) ⌝ }
-    ensures { λ r. ⌜ Appended (now (out .entry)) at (kindText (kindOf kind)) (now (out .exit)) r ⌝ }
+    ensures { λ r. ⌜ Appended (now (out .entry)) at (kindText (kindOfByte kind)) (now (out .exit)) r ⌝ }
 {
     if kind == 1 {
         return put_word(out, at, b" ER ");
@@ -192,7 +206,7 @@ fn put_kind(out: &mut [u8], at: usize, kind: u8) -> usize
 // The source of a dependency, at the end of its line.
 fn put_source(out: &mut [u8], at: usize, source: u8) -> usize
     requires { ⌜ at + 6 ≤ length (now out) ⌝ }
-    ensures { λ r. ⌜ Appended (now (out .entry)) at (sourceText (sourceBy source)) (now (out .exit)) r ⌝ }
+    ensures { λ r. ⌜ Appended (now (out .entry)) at (sourceText (sourceOfByte source)) (now (out .exit)) r ⌝ }
 {
     if source == 0 {
         return put_word(out, at, b" hold\n");
@@ -214,10 +228,10 @@ fn put_entry(out: &mut [u8], at: usize, class: u8, kind: u8, source: u8, to: u8)
     put_source(out, c, source)
 }
 
-// Where the entry after entry i of n begins in the report.
+// Where the entry after entry i of n begins in the slip.
 fn next_entry(n: usize, i: usize) -> usize
     requires { ⌜ (i < n) × (n ≤ maxClasses) ⌝ }
-    ensures { λ r. ⌜ r ≡ entriesAt + entrySize * next n i ⌝ }
+    ensures { λ r. ⌜ r ≡ entriesAt + entrySize * nextPlace n i ⌝ }
 {
     if i + 1 < n {
         return ENTRIES_AT + ENTRY_SIZE * (i + 1);
@@ -225,12 +239,12 @@ fn next_entry(n: usize, i: usize) -> usize
     ENTRIES_AT
 }
 
-// The cycle of a report, a line for each entry.
-fn put_cycle(out: &mut [u8], at: usize, report: &[u8]) -> usize
-    requires { ⌜ (at + cycleSize ≤ length (now out)) × (getD (now report) 0 0 ≤ maxClasses) × (reportSize maxClasses ≤ length (now report)) ⌝ }
-    ensures { λ r. ⌜ Appended (now (out .entry)) at (cycleText (entriesOf (now (report .entry)))) (now (out .exit)) r ⌝ }
+// The cycle of a slip, a line for each entry.
+fn put_cycle(out: &mut [u8], at: usize, slip: &[u8]) -> usize
+    requires { ⌜ (at + cycleSize ≤ length (now out)) × (countOf (now slip) ≤ maxClasses) × (slipSize maxClasses ≤ length (now slip)) ⌝ }
+    ensures { λ r. ⌜ Appended (now (out .entry)) at (cycleText (entriesOf (now (slip .entry)))) (now (out .exit)) r ⌝ }
 {
-    let n = report[0] as usize;
+    let n = slip[COUNT_AT] as usize;
     let mut end = at;
     let mut i = 0;
     while i < n {
@@ -239,21 +253,46 @@ fn put_cycle(out: &mut [u8], at: usize, report: &[u8]) -> usize
         end = put_entry(
             out,
             end,
-            report[entry],
-            report[entry + 1],
-            report[entry + 2],
-            report[to],
+            slip[entry],
+            slip[entry + 1],
+            slip[entry + 2],
+            slip[to],
         );
         i += 1;
     }
     end
 }
 
-// "fault at record I", and the cycle of the report.
-pub fn put_fault_report(out: &mut [u8], at: u64, report: &[u8]) -> usize
-    requires { ⌜ (lineSize + cycleSize ≤ length (now out)) × (getD (now report) 0 0 ≤ maxClasses) × (reportSize maxClasses ≤ length (now report)) ⌝ }
-    ensures { λ r. ⌜ Appended (now (out .entry)) 0 (faultText at ++ cycleText (entriesOf (now (report .entry)))) (now (out .exit)) r ⌝ }
+// "fault at record I", and the cycle of the slip.
+fn put_fault_cycle(out: &mut [u8], at: u64, slip: &[u8]) -> usize
+    requires { ⌜ (lineSize + cycleSize ≤ length (now out)) × (countOf (now slip) ≤ maxClasses) × (slipSize maxClasses ≤ length (now slip)) ⌝ }
+    ensures { λ r. ⌜ Appended (now (out .entry)) 0 (faultText at ++ cycleText (entriesOf (now (slip .entry)))) (now (out .exit)) r ⌝ }
 {
     let end = put_fault(out, at);
-    put_cycle(out, end, report)
+    put_cycle(out, end, slip)
+}
+
+// The text of what came of a log.
+pub fn put_text(out: &mut [u8], outcome: Outcome, slip: &[u8]) -> usize
+    requires { ⌜ (lineSize + cycleSize ≤ length (now out)) × (slipSize maxClasses ≤ length (now slip)) × Showable outcome (now slip) ⌝ }
+    ensures { λ r. ⌜ Appended (now (out .entry)) 0 (textOf outcome (now (slip .entry))) (now (out .exit)) r ⌝ }
+{
+    match outcome {
+        Outcome::Clean(records) => put_clean(out, records),
+        Outcome::Refused(answer, at) => put_refused(out, answer, at),
+        Outcome::Fault(at) => put_fault_cycle(out, at, slip),
+        Outcome::Unread => put_word(out, 0, b"read failed\n"),
+    }
+}
+
+// Whether the text is an answer, for standard output, or a complaint, for standard error.
+pub fn is_answer(outcome: Outcome) -> bool
+    ensures { λ r. ⌜ r ≡ isAnswer outcome ⌝ }
+{
+    match outcome {
+        Outcome::Clean(_records) => true,
+        Outcome::Refused(_answer, _at) => true,
+        Outcome::Fault(_at) => true,
+        Outcome::Unread => false,
+    }
 }

@@ -1,46 +1,64 @@
-// Document 01, "Opening": a fresh state buffer and an empty dependency matrix.
+// Document 01, "Opening": a fresh desk and an empty sheet.
 ghost use mathlib.Core.Path.{_≡_};
+ghost use Prim.Native.Nat.{ℕ, _<_, _≤_};
 ghost use lib.ListN.{length, replicate};
+ghost use Rattle.rules.specs.Limits.{coreCount};
+ghost use Rattle.rules.specs.Context.{taskBothOn};
+ghost use Rattle.layout.specs.Layout.{deskSize, stateOf};
 ghost use Rattle.opening.specs.Open.{Opened};
+use answers::BAD_OPENING;
+use answers::OK;
+use context::CoreState;
 use layout::CLASSES_AT;
+use layout::CORES;
+use layout::DESK_SIZE;
 use layout::MAX_CLASSES;
-use layout::STATE_SIZE;
+use layout::STATES_AT;
 
-const OPENED: u8 = 0;
-
-const REFUSED: u8 = 2;
-
-fn clear(bytes: &mut [u8])
-    ensures { λ _. ⌜ now (bytes .exit) ≡ replicate (length (now (bytes .entry))) 0 ⌝ }
+fn fill(bytes: &mut [u8], value: u8)
+    ensures { λ _. ⌜ now (bytes .exit) ≡ replicate (length (now (bytes .entry))) value ⌝ }
 {
     let mut i: usize = 0;
     while i < bytes.len() {
-        bytes[i] = 0;
+        bytes[i] = value;
+        i += 1;
+    }
+}
+
+// Every core of a zeroed desk is fresh: this changes no byte, since the fresh state is 0.
+fn seat_cores(desk: &mut [u8])
+    requires { ⌜ (deskSize ≤ length (now desk)) × ((i : ℕ) → i < coreCount → stateOf (now desk) i ≡ taskBothOn) ⌝ }
+    ensures { λ _. ⌜ now (desk .exit) ≡ now (desk .entry) ⌝ }
+{
+    let mut i: usize = 0;
+    while i < CORES {
+        desk[STATES_AT + i] = CoreState::fresh().0;
         i += 1;
     }
 }
 
 // The number of classes is wide, so that one past 255 is refused and not cut.
-pub fn open(classes: u64, state: &mut [u8], matrix: &mut [u8]) -> u8
-    ensures { λ r. ⌜ Opened classes (now (state .entry)) (now (matrix .entry)) r (now (state .exit)) (now (matrix .exit)) ⌝ }
+pub fn open(classes: u64, desk: &mut [u8], sheet: &mut [u8]) -> u8
+    ensures { λ r. ⌜ Opened classes (now (desk .entry)) (now (sheet .entry)) r (now (desk .exit)) (now (sheet .exit)) ⌝ }
 {
     let k = classes as usize;
     if k < 1 {
-        return REFUSED;
+        return BAD_OPENING;
     }
     if MAX_CLASSES < k {
-        return REFUSED;
+        return BAD_OPENING;
     }
-    if state.len() < STATE_SIZE {
-        return REFUSED;
+    if desk.len() < DESK_SIZE {
+        return BAD_OPENING;
     }
     let size = k * k;
-    let whole = matrix.len();
+    let whole = sheet.len();
     if whole < size {
-        return REFUSED;
+        return BAD_OPENING;
     }
-    clear(&mut state[0..STATE_SIZE]);
-    state[CLASSES_AT] = k as u8;
-    clear(&mut matrix[0..size]);
-    OPENED
+    fill(&mut desk[0..DESK_SIZE], 0);
+    seat_cores(desk);
+    desk[CLASSES_AT] = k as u8;
+    fill(&mut sheet[0..size], 0);
+    OK
 }

@@ -1,150 +1,163 @@
--- Demands 1 and 2 and the balance law of the calls, and that the step's contract settles every byte. Assumes nothing.
+-- The contracts settle every byte; demands 1 and 2 and the balance law of the calls. Assumes nothing.
 use mathlib.Core.Path.{_≡_, refl, sym, ap, _∙_, subst}
-use mathlib.Core.Bool.{Bool, true, false, _&&_, true≢false, false≢true}
-use mathlib.Core.List.{List, [], _∷_, _++_, map}
-use mathlib.Core.Logic.{_⊎_, inl, inr, _↔_}
-use Prim.Native.Nat.{ℕ, zero, suc, _+_, _*_, _%_, _<_, _≤_}
-use native.Mathlib.Nat.{le-of-suc-le-suc, not-suc-le-zero}
-use native.Mathlib.Decide.{ℕ-discrete}
+use mathlib.Core.Bool.{Bool, true, false}
+use mathlib.Core.List.{List, [], _∷_, _++_}
+use mathlib.Core.Logic.{_⊎_, _↔_}
+use Prim.Native.Nat.{ℕ, zero, suc, _+_, _%_, _<_, _≤_}
+use native.Mathlib.Decide.{ℕ-discrete, decLt}
 use native.Mathlib.Omega.{arith}
+use lib.Count.{ones}
 use lib.Dec.{eqb}
 use lib.ListN.{length, getD, take}
 use borrow.Author.Tests.{leb-true}
-use Rattle.words.specs.Pack.{flag}
-use Rattle.rules.specs.Limits.{coreCount, maxClasses, maxDepth}
+use Rattle.words.specs.Bits.{bit, flag}
+use Rattle.words.proofs.Words.{bit-two, bits-same}
 use Rattle.rules.specs.Record.{Bytes}
-use Rattle.rules.specs.Context.{Frame}
-use Rattle.rules.specs.HeldLocks.{HeldLock, current}
+use Rattle.rules.specs.HeldLocks.{HeldLock}
 use Rattle.rules.specs.Graph.{Graph, emptyGraph}
 use Rattle.rules.specs.StrongPath.{ClosedStrongPath}
-use Rattle.rules.specs.Verdict.{number, fault, clean, refused}
-use Rattle.rules.specs.Run.{State, Outcome, start, startingFrom, step, answers, run, graphAt}
-use Rattle.rules.specs.Balance.{acquires, releases, countIf, tally, standing}
+use Rattle.rules.specs.Verdict.{number}
+use Rattle.rules.specs.Run.{State, Result, start, step, run, graphAt}
+use Rattle.rules.specs.Balance.{countIf, standing}
 use Rattle.rules.proofs.Booleans.{and-cases}
-use Rattle.rules.proofs.Steps.{Stepped as RulesStepped, was-refused, was-clean, was-fault, stepped, refused-number, fault-exactly}
+use Rattle.rules.proofs.Steps.{StepCases, was-refused, was-clean, was-fault, stepped, refused-number, step-exactly}
 use Rattle.rules.proofs.Balanced.{balanced}
-use Rattle.validity.specs.Valid.{Valid}
-use Rattle.layout.specs.Layout.{framesPerCore, stateSize, matrixSize, frameNumber, classesOf, closedOf, depthOf, heldOf}
-use Rattle.layout.specs.Encoding.{heldByte, heldByteAt, StateBytes, Encodes, KeepsPast}
+use Rattle.validity.proofs.Kept.{valid-step}
+use Rattle.layout.specs.Layout.{slipSize, frameNumber, classesOf, closedOf, heldOf}
+use Rattle.layout.specs.Decoding.{view}
 use Rattle.layout.specs.Fit.{fits, fitsAll}
-use Rattle.fit.specs.View.{view}
 use Rattle.fit.proofs.Facts.{facts}
-use Rattle.fit.proofs.Fitting.{fit-encodes, fit-valid}
-use Rattle.fit.proofs.Settled.{settled-state-after, settled-matrix-after}
+use Rattle.fit.proofs.Fitting.{fit-valid}
+use Rattle.fit.proofs.Settled.{settled-desk-after, settled-sheet-after}
 use Rattle.update.proofs.Prefixes.{none as unheld, lock-at}
 use Rattle.update.proofs.Cores.{frame-bytes}
 use Rattle.action.proofs.Bytes.{small-classes}
-use Rattle.validator.specs.Step.{Reported, Validated, Stepped}
-use Rattle.plungerowl.specs.Runs.{Buffers, Ran, none, call, Opening}
-use Rattle.plungerowl.specs.Demands.{ClosedByFault, Drawn, Verdict, standingBelow, standingIn, Balanced}
-use Rattle.plungerowl.proofs.Runs.{Holds, held-fit, validated-by, step-holds, run-holds, run-answers, opening-holds}
+use Rattle.validator.specs.Step.{Validated}
+use Rattle.question.specs.Question.{Asked}
+use Rattle.plungerowl.specs.Runs.{Buffers, Called, Ran, Opening}
+use Rattle.plungerowl.specs.Demands.{SameStep, ClosedByFault, FaultExactly, DrawnFromRecords, standingBelow, standingIn, Balanced}
+use Rattle.plungerowl.proofs.Runs.{held-fit, validated-by, slip-long, run-holds, opening-holds}
 
--- ---- The contract settles the number and every byte.
+-- ---- The contracts settle the number and every byte, for every input.
 
--- A buffer of bytes.
-abbrev pub AllBytes : List ℕ → Type 0
-AllBytes l = (j : ℕ) → getD l j 0 < 256
-
-pub record Settled (answer answer′ : ℕ) (state state′ matrix matrix′ report report′ : List ℕ) : Type 0 where
-  pub number-is : answer ≡ answer′
-  pub state-is : state ≡ state′
-  pub matrix-is : matrix ≡ matrix′
-  pub report-is : (answer ≡ 1 → ⊥) → report ≡ report′
-
-module _ (state matrix report bytes : List ℕ) {a b : ℕ} {state₁ state₂ matrix₁ matrix₂ report₁ report₂ : List ℕ}
-    (p : Stepped state matrix report bytes a state₁ matrix₁ report₁) (q : Stepped state matrix report bytes b state₂ matrix₂ report₂) where
-  both-validated : {s : State} → fits state matrix ≡ true → Validated (classesOf state) s bytes state matrix report a state₁ matrix₁ report₁
-      → Validated (classesOf state) s bytes state matrix report b state₂ matrix₂ report₂ → Settled a b state₁ state₂ matrix₁ matrix₂ report₁ report₂
-  both-validated {s} f x y =
-      let o = step (classesOf state) s bytes .state in
-      let e : a ≡ b = x .number-is ∙ sym (y .number-is) in
+module _ {b b₁ b₂ : Buffers} {r : Bytes} {x y : ℕ} (p : Called b r x b₁) (q : Called b r y b₂) where
+  both-validated : fits (b .desk) (b .sheet) ≡ true → fitsAll (b .desk) (b .sheet) (b .slip) ≡ true → SameStep x y b₁ b₂
+  both-validated f e =
+      let K = classesOf (b .desk) in
+      let u = p .validated e in
+      let v = q .validated e in
+      let o = step K (view (b .desk) (b .sheet)) r .state in
+      let n : x ≡ y = u .number-is ∙ sym (v .number-is) in
       record {
-        number-is = e;
-        state-is = settled-state-after (classesOf state) (o .is-closed) (o .cores) (o .graph .marks) state₁ state₂ (x .encodes .in-state) (y .encodes .in-state)
-            state (x .keeps-state) (y .keeps-state);
-        matrix-is = settled-matrix-after (classesOf state) (facts state matrix f .some) (o .graph .locks) matrix₁ matrix₂ (x .encodes .in-matrix)
-            (y .encodes .in-matrix) matrix (x .keeps-matrix) (y .keeps-matrix);
-        report-is = λ n. x .unreported n ∙ sym (y .unreported (λ z. n (e ∙ z)));
+        number-is = n;
+        desk-is = settled-desk-after K (o .is-closed) (o .cores) (o .graph .marks) (b₁ .desk) (b₂ .desk) (u .encodes .in-desk) (v .encodes .in-desk)
+            (b .desk) (u .keeps-desk) (v .keeps-desk);
+        sheet-is = settled-sheet-after K (facts (b .desk) (b .sheet) f .some) (o .graph .locks) (b₁ .sheet) (b₂ .sheet) (u .encodes .in-sheet)
+            (v .encodes .in-sheet) (b .sheet) (u .keeps-sheet) (v .keeps-sheet);
+        slip-is = λ h. u .unreported h ∙ sym (v .unreported (λ z. h (n ∙ z)));
       }
 
-  pub step-settles : AllBytes state → Settled a b state₁ state₂ matrix₁ matrix₂ report₁ report₂
+  pub step-settles : SameStep x y b₁ b₂
   unfolding fitsAll
-  step-settles bytes-small = by (fitsAll state matrix report) refl
+  step-settles = by (fitsAll (b .desk) (b .sheet) (b .slip)) refl
     where
-      by : (t : Bool) → fitsAll state matrix report ≡ t → Settled a b state₁ state₂ matrix₁ matrix₂ report₁ report₂
-      by true e =
-          let f : fits state matrix ≡ true = and-cases (fits state matrix) _ e .0 in
-          let v = fit-valid state matrix f in
-          let c = fit-encodes state matrix f bytes-small in
-          both-validated f (p .validated e (view state matrix) v c) (q .validated e (view state matrix) v c)
+      by : (t : Bool) → fitsAll (b .desk) (b .sheet) (b .slip) ≡ t → SameStep x y b₁ b₂
+      by true e = both-validated (and-cases (fits (b .desk) (b .sheet)) _ e .0) e
       by false e =
-          let x = p .unfit e in
-          let y = q .unfit e in
+          let u = p .is-unfit e in
+          let v = q .is-unfit e in
           record {
-            number-is = x .0 ∙ sym (y .0);
-            state-is = x .1 ∙ sym (y .1);
-            matrix-is = x .2 ∙ sym (y .2);
-            report-is = λ n. x .3 ∙ sym (y .3);
+            number-is = u .0 ∙ sym (v .0);
+            desk-is = u .1 ∙ sym (v .1);
+            sheet-is = u .2 ∙ sym (v .2);
+            slip-is = λ h. u .3 ∙ sym (v .3);
           }
 
--- ---- Fit buffers, from wherever they come.
+-- A digit is 0 or 1, so digits that are 1 together are the same.
+same-bit : (x y : ℕ) → x < 2 → y < 2 → (x ≡ 1 → y ≡ 1) → (y ≡ 1 → x ≡ 1) → x ≡ y
+same-bit x y l m p q =
+    elim (ℕ-discrete x 1) [ yes e ↦ e ∙ sym (p e) | no n ↦ elim (ℕ-discrete y 1) [ yes e ↦ absurd (n (q e)) | no o ↦ omega arith ] ]
 
--- They hold the state that they encode, and are taken as they stand.
-pub fit-holds : (b : Buffers) → AllBytes (b .state) → fitsAll (b .state) (b .matrix) (b .report) ≡ true
-    → Holds (classesOf (b .state)) (view (b .state) (b .matrix)) b
-unfolding fitsAll
-fit-holds b small e =
-    let p = and-cases (fits (b .state) (b .matrix)) _ e in
-    let f = facts (b .state) (b .matrix) (p .0) in
+pub ask-settles : {desk sheet : List ℕ} {class a word count a′ word′ count′ : ℕ} → Asked desk sheet class a word count
+    → Asked desk sheet class a′ word′ count′ → (a ≡ a′) × (word ≡ word′) × (count ≡ count′)
+ask-settles {desk} {sheet} {class} {a} {word} {count} {a′} {word′} {count′} p q = by (fits desk sheet) refl
+  where
+    three : {x y z : ℕ} → (a ≡ x) × (word ≡ y) × (count ≡ z) → (a′ ≡ x) × (word′ ≡ y) × (count′ ≡ z) → (a ≡ a′) × (word ≡ word′) × (count ≡ count′)
+    three u v = (u .0 ∙ sym (v .0), u .1 ∙ sym (v .1), u .2 ∙ sym (v .2))
+
+    by : (t : Bool) → fits desk sheet ≡ t → (a ≡ a′) × (word ≡ word′) × (count ≡ count′)
+    by false e = three (p .is-unfit e) (q .is-unfit e)
+    by true e = elim (decLt class (classesOf desk)) [
+      | yes l ↦
+          let u = p .answered e l in
+          let v = q .answered e l in
+          let w : word ≡ word′ =
+          bits-same (word + word′) word word′ (omega arith) (omega arith)
+          (λ t. same-bit (bit word t) (bit word′ t) (bit-two word t) (bit-two word′ t) (λ h. v .1 t .1 (u .1 t .0 h)) (λ h. u .1 t .1 (v .1 t .0 h))) in
+          (u .0 ∙ sym (v .0), w, u .2 ∙ ap ones w ∙ sym (v .2))
+      | no n ↦ three (p .no-class e (omega arith)) (q .no-class e (omega arith))
+    ]
+
+-- Demand 2, of a validated record.
+validated-verdict : {K : ℕ} {s : State} {r desk sheet slip desk′ sheet′ slip′ : List ℕ} {answer : ℕ}
+    → Validated K s r desk sheet slip answer desk′ sheet′ slip′ → FaultExactly K (step K s r .state .graph) answer slip slip′
+validated-verdict {K} {s} {r} j =
     record {
-      some = f .some;
-      few = f .few;
-      valid = fit-valid (b .state) (b .matrix) (p .0);
-      encodes = fit-encodes (b .state) (b .matrix) (p .0) small;
-      room = leb-true _ _ (p .1);
+      exactly = subst (λ (n : ℕ). (n ≡ 0) ⊎ (n ≡ 1) → (n ≡ 1) ↔ ClosedStrongPath K (step K s r .state .graph)) (sym (j .number-is)) (step-exactly K s r);
+      cycle = j .reported;
     }
 
--- A step keeps fit buffers fit.
-pub fit-kept : {b b′ : Buffers} {r : Bytes} {answer : ℕ} → AllBytes (b .state) → fitsAll (b .state) (b .matrix) (b .report) ≡ true
-    → Stepped (b .state) (b .matrix) (b .report) r answer (b′ .state) (b′ .matrix) (b′ .report)
-    → fitsAll (b′ .state) (b′ .matrix) (b′ .report) ≡ true
-fit-kept {b} {b′} small e t = let h = fit-holds b small e in held-fit (step-holds {b′ = b′} h (validated-by h {b′ = b′} t))
+-- ---- Fit buffers, from wherever they come, are taken as they stand.
+
+module _ {b b′ : Buffers} {r : Bytes} {answer : ℕ} (e : fitsAll (b .desk) (b .sheet) (b .slip) ≡ true) (t : Called b r answer b′) where
+  -- A step keeps them fit.
+  pub fit-kept : fitsAll (b′ .desk) (b′ .sheet) (b′ .slip) ≡ true
+  unfolding fitsAll
+  fit-kept =
+      let p = and-cases (fits (b .desk) (b .sheet)) _ e in
+      let f = facts (b .desk) (b .sheet) (p .0) in
+      let s = view (b .desk) (b .sheet) in
+      let j = t .validated e in
+      let l = slip-long j in
+      let room = leb-true (slipSize (classesOf (b .desk))) (length (b .slip)) (p .1) in
+      held-fit {b = b′}
+      (record {
+        some = f .some;
+        few = f .few;
+        valid = valid-step (classesOf (b .desk)) s r (fit-valid (b .desk) (b .sheet) (p .0));
+        encodes = j .encodes;
+        room = omega arith;
+      })
+
+  -- Demand 2: a fault exactly when the graph then has a closed strong path.
+  pub step-verdict : FaultExactly (classesOf (b .desk)) (step (classesOf (b .desk)) (view (b .desk) (b .sheet)) r .state .graph) answer (b .slip) (b′ .slip)
+  step-verdict = validated-verdict (t .validated e)
 
 -- ---- Demand 1.
 
 -- Of the rules: an open state is closed exactly by a fault.
-closed-by : {K : ℕ} {s : State} {r : Bytes} {o : Outcome} → RulesStepped K s r o → s .is-closed ≡ false
+closed-by : {K : ℕ} {s : State} {r : Bytes} {o : Result} → StepCases K s r o → s .is-closed ≡ false
     → (flag (o .state .is-closed) ≡ 1) ↔ (number (o .answer) ≡ 1)
 closed-by (was-refused x e) h = (λ z. absurd (let w : flag false ≡ 1 = ap flag (sym h) ∙ z in omega arith), λ z. absurd (let n = refused-number x in omega arith))
 closed-by (was-clean e c) h = (λ z. absurd (let w : flag false ≡ 1 = ap flag (sym h) ∙ z in omega arith), λ z. absurd (omega arith))
 closed-by (was-fault e c) h = (λ z. refl, λ z. refl)
 
-open-flag : (b : Bool) → flag b ≡ 0 → b ≡ false
-open-flag true e = absurd (omega arith)
-open-flag false e = refl
-
-pub closed-by-fault : (state matrix report bytes : List ℕ) {answer : ℕ} {state′ matrix′ report′ : List ℕ} → AllBytes state
-    → Stepped state matrix report bytes answer state′ matrix′ report′ → ClosedByFault state answer state′
-unfolding fitsAll
-closed-by-fault state matrix report bytes {answer} {state′} small t = record { exactly = λ open-state. by open-state (fitsAll state matrix report) refl }
+pub closed-by-fault : {b b′ : Buffers} {r : Bytes} {answer : ℕ} → Called b r answer b′ → ClosedByFault (b .desk) answer (b′ .desk)
+closed-by-fault {b} {b′} {r} {answer} t = record { exactly = λ z. by z (fitsAll (b .desk) (b .sheet) (b .slip)) refl }
   where
-    by : closedOf state ≡ 0 → (b : Bool) → fitsAll state matrix report ≡ b → (closedOf state′ ≡ 1) ↔ (answer ≡ 1)
+    by : closedOf (b .desk) ≡ 0 → (u : Bool) → fitsAll (b .desk) (b .sheet) (b .slip) ≡ u → (closedOf (b′ .desk) ≡ 1) ↔ (answer ≡ 1)
     by z true e =
-        let K = classesOf state in
-        let s = view state matrix in
-        let f : fits state matrix ≡ true = and-cases (fits state matrix) _ e .0 in
-        let c = fit-encodes state matrix f small in
-        let j = t .validated e s (fit-valid state matrix f) c in
-        let w = closed-by (stepped K s bytes) (open-flag (s .is-closed) (sym (c .in-state .closed) ∙ z)) in
-        (λ q. j .number-is ∙ w .0 (sym (j .encodes .in-state .closed) ∙ q), λ q. j .encodes .in-state .closed ∙ w .1 (sym (j .number-is) ∙ q))
+        let j = t .validated e in
+        let w = closed-by (stepped (classesOf (b .desk)) (view (b .desk) (b .sheet)) r) (rw z refl) in
+        (λ q. j .number-is ∙ w .0 (sym (j .encodes .in-desk .closed) ∙ q), λ q. j .encodes .in-desk .closed ∙ w .1 (sym (j .number-is) ∙ q))
     by z false e =
-        let u = t .unfit e in
-        let same : closedOf state′ ≡ 0 = ap closedOf (u .1) ∙ z in
+        let u = t .is-unfit e in
+        let same : closedOf (b′ .desk) ≡ 0 = ap closedOf (u .1) ∙ z in
         (λ q. absurd (omega arith), λ q. absurd (let n = u .0 in omega arith))
 
--- ---- Demand 2.
+-- ---- Demand 2, of runs from opening.
 
-pub run-drawn : {K : ℕ} {b b′ : Buffers} {rs : List Bytes} {given : List ℕ} → Opening K b → Ran b rs given b′ → Drawn K rs b′
+pub run-drawn : {K : ℕ} {b b′ : Buffers} {rs : List Bytes} {given : List ℕ} → Opening K b → Ran b rs given b′ → DrawnFromRecords K rs b′
 run-drawn o w = let h = run-holds (opening-holds o) w in record { encodes = h .encodes; stays-fit = held-fit h }
 
 -- The last record of a list, in the rules.
@@ -156,28 +169,12 @@ run-last : (K : ℕ) (s : State) (rs : List Bytes) (r : Bytes) → run K s (rs +
 run-last K s [] r = refl
 run-last K s (x ∷ rs) r = run-last K (step K s x .state) rs r
 
-answer-last : (K : ℕ) (s : State) (rs : List Bytes) (r : Bytes)
-    → getD (answers K s (rs ++ (r ∷ []))) (length rs) 0 ≡ number (step K (run K s rs) r .answer)
-answer-last K s [] r = refl
-answer-last K s (x ∷ rs) r = answer-last K (step K s x .state) rs r
-
-inside-last : (rs : List Bytes) (r : Bytes) → length rs < length (rs ++ (r ∷ []))
-inside-last [] r = omega arith
-inside-last (x ∷ rs) r = let h = inside-last rs r in omega arith
-
 pub run-verdict : {K : ℕ} {b b′ b″ : Buffers} {rs : List Bytes} {given : List ℕ} {r : Bytes} {answer : ℕ} → Opening K b → Ran b rs given b′
-    → Stepped (b′ .state) (b′ .matrix) (b′ .report) r answer (b″ .state) (b″ .matrix) (b″ .report)
-    → Verdict K (rs ++ (r ∷ [])) (length rs) answer (b′ .report) (b″ .report)
+    → Called b′ r answer b″ → FaultExactly K (graphAt K emptyGraph (rs ++ (r ∷ [])) (length rs)) answer (b′ .slip) (b″ .slip)
 run-verdict {K} {b′} {b″} {rs} {r} {answer} o w t =
-    let j = validated-by (run-holds (opening-holds o) w) {b′ = b″} t in
-    let e : getD (answers K start (rs ++ (r ∷ []))) (length rs) 0 ≡ answer = answer-last K start rs r ∙ sym (j .number-is) in
-    let g : step K (run K start rs) r .state .graph ≡ graphAt K emptyGraph (rs ++ (r ∷ [])) (length rs) =
-    ap (λ (s : State). s .graph) (sym (run-last K start rs r)) ∙ ap (λ (l : List Bytes). run K start l .graph) (sym (take-all rs r)) in
-    record {
-      fault-exactly = subst (λ (a : ℕ). (a ≡ 0) ⊎ (a ≡ 1) → (a ≡ 1) ↔ ClosedStrongPath K (graphAt K emptyGraph (rs ++ (r ∷ [])) (length rs))) e
-          (fault-exactly K emptyGraph (rs ++ (r ∷ [])) (length rs) (inside-last rs r));
-      cycle = λ q. subst (λ (x : Graph). Reported K x (b′ .report) (b″ .report)) g (j .reported q);
-    }
+    subst (λ (g : Graph). FaultExactly K g answer (b′ .slip) (b″ .slip))
+    (ap (λ (s : State). s .graph) (sym (run-last K start rs r)) ∙ ap (λ (l : List Bytes). run K start l .graph) (sym (take-all rs r)))
+    (validated-verdict (validated-by (run-holds (opening-holds o) w) {b′ = b″} t))
 
 -- ---- The balance law of the bytes.
 
@@ -213,13 +210,13 @@ run-balanced {K} {b′} {rs} o w =
           let hs = s .cores core .held f in
           let n = frameNumber core f in
           let v = h .valid .cores core in
-          let F = frame-bytes (h .encodes .in-state) core f lc lf in
+          let F = frame-bytes (h .encodes .in-desk) core f lc lf in
           let d = F .depth in
           let few = v .depths f in
-          let e : standingIn (b′ .state) n class ≡ standing class hs =
-          ap (standingBelow (λ p. eqb class (heldOf (b′ .state) n p % 64))) d
-          ∙ below-same (λ p. eqb class (heldOf (b′ .state) n p % 64)) (λ p. eqb class (getD hs p unheld .class)) (length hs)
-          (λ p l. ap (eqb class) (lock-at (b′ .state) n hs F (small-classes (h .few) (s .cores core) v f) p l (omega arith) .class))
+          let e : standingIn (b′ .desk) n class ≡ standing class hs =
+          ap (standingBelow (λ p. eqb class (heldOf (b′ .desk) n p % 64))) d
+          ∙ below-same (λ p. eqb class (heldOf (b′ .desk) n p % 64)) (λ p. eqb class (getD hs p unheld .class)) (length hs)
+          (λ p l. ap (eqb class) (lock-at (b′ .desk) n hs F (small-classes (h .few) (s .cores core) v f) p l (omega arith) .class))
           ∙ standing-list class hs in
           let q = balanced K emptyGraph rs core f class .balance in
           omega arith;

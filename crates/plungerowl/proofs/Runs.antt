@@ -19,47 +19,46 @@ use Rattle.rules.proofs.Booleans.{and-cases, and-both}
 use Rattle.rules.proofs.MoreEvidence.{more-evidence}
 use Rattle.validity.specs.Valid.{Valid}
 use Rattle.validity.proofs.Kept.{valid-start, valid-step}
-use Rattle.layout.specs.Layout.{stateSize, matrixSize, reportSize, classesOf, closedOf}
+use Rattle.layout.specs.Layout.{deskSize, sheetSize, slipSize, classesOf, closedOf}
 use Rattle.layout.specs.Encoding.{Encodes, KeepsPast}
 use Rattle.layout.specs.Fit.{classesFit, fits, fitsAll}
-use Rattle.fit.proofs.Fitting.{encodes-fit}
-use Rattle.opening.specs.Open.{opens, answerBy, bytesBy, openedState, openedMatrix, Opened}
+use Rattle.fit.proofs.Fitting.{encodes-fit, view-is}
+use Rattle.opening.specs.Open.{opens, answerBy, bytesBy, openedDesk, openedSheet, Opened}
 use Rattle.opening.proofs.Opens.{open-encodes}
-use Rattle.validator.specs.Step.{Validated, Stepped}
-use Rattle.plungerowl.specs.Runs.{Buffers, Ran, none, call, Opening}
+use Rattle.validator.specs.Step.{Validated}
+use Rattle.plungerowl.specs.Runs.{Buffers, Called, Ran, none, call, Opening}
 
 -- The buffers encode a state of the rules, and the step will not find them unfit.
 pub record Holds (K : ℕ) (s : State) (b : Buffers) : Type 0 where
   pub some : 1 ≤ K
   pub few : K ≤ maxClasses
   pub valid : Valid K s
-  pub encodes : Encodes K s (b .state) (b .matrix)
-  pub room : reportSize K ≤ length (b .report)
+  pub encodes : Encodes K s (b .desk) (b .sheet)
+  pub room : slipSize K ≤ length (b .slip)
 
 module _ {K : ℕ} {s : State} {b : Buffers} (h : Holds K s b) where
-  pub held-fit : fitsAll (b .state) (b .matrix) (b .report) ≡ true
+  pub held-fit : fitsAll (b .desk) (b .sheet) (b .slip) ≡ true
   unfolding fitsAll
   held-fit =
-      let e = h .encodes .in-state .classes in
-      and-both (encodes-fit K s (b .state) (b .matrix) (h .some) (h .few) (h .valid) (h .encodes))
-      (rw e (le-leb (reportSize K) (length (b .report)) (h .room)))
+      let e = h .encodes .in-desk .classes in
+      and-both (encodes-fit K s (b .desk) (b .sheet) (h .some) (h .few) (h .valid) (h .encodes))
+      (rw e (le-leb (slipSize K) (length (b .slip)) (h .room)))
 
-  pub validated-by : {r : Bytes} {answer : ℕ} {b′ : Buffers}
-      → Stepped (b .state) (b .matrix) (b .report) r answer (b′ .state) (b′ .matrix) (b′ .report)
-      → Validated K s r (b .state) (b .matrix) (b .report) answer (b′ .state) (b′ .matrix) (b′ .report)
+  pub validated-by : {r : Bytes} {answer : ℕ} {b′ : Buffers} → Called b r answer b′
+      → Validated K s r (b .desk) (b .sheet) (b .slip) answer (b′ .desk) (b′ .sheet) (b′ .slip)
   validated-by {r} {answer} {b′} t =
-      subst (λ (k : ℕ). Valid k s → Encodes k s (b .state) (b .matrix) → Validated k s r (b .state) (b .matrix) (b .report) answer (b′ .state) (b′ .matrix) (b′ .report))
-      (h .encodes .in-state .classes) (t .validated held-fit s) (h .valid) (h .encodes)
+      subst₂ (λ (k : ℕ) (s : State). Validated k s r (b .desk) (b .sheet) (b .slip) answer (b′ .desk) (b′ .sheet) (b′ .slip))
+      (h .encodes .in-desk .classes) (view-is K s (b .desk) (b .sheet) (h .some) (h .few) (h .valid) (h .encodes)) (t .validated held-fit)
 
-report-long : {K : ℕ} {s : State} {r : Bytes} {state matrix report state′ matrix′ report′ : List ℕ} {answer : ℕ}
-    → Validated K s r state matrix report answer state′ matrix′ report′ → length report′ ≡ length report
-report-long {answer} j =
+pub slip-long : {K : ℕ} {s : State} {r : Bytes} {desk sheet slip desk′ sheet′ slip′ : List ℕ} {answer : ℕ}
+    → Validated K s r desk sheet slip answer desk′ sheet′ slip′ → length slip′ ≡ length slip
+slip-long {answer} j =
     elim (ℕ-discrete answer 1) [ yes e ↦ j .reported e .keeps .long | no n ↦ ap length (j .unreported n) ]
 
 pub step-holds : {K : ℕ} {s : State} {b b′ : Buffers} {r : Bytes} {answer : ℕ} → Holds K s b
-    → Validated K s r (b .state) (b .matrix) (b .report) answer (b′ .state) (b′ .matrix) (b′ .report) → Holds K (step K s r .state) b′
+    → Validated K s r (b .desk) (b .sheet) (b .slip) answer (b′ .desk) (b′ .sheet) (b′ .slip) → Holds K (step K s r .state) b′
 step-holds {K} {s} {r} h j =
-    let l = report-long j in
+    let l = slip-long j in
     let m = h .room in
     record { some = h .some; few = h .few; valid = valid-step K s r (h .valid); encodes = j .encodes; room = omega arith }
 
@@ -73,10 +72,10 @@ run-answers h (call t w) =
     let j = validated-by h t in
     ap₂ {C = List ℕ} _∷_ (j .number-is) (run-answers (step-holds h j) w)
 
-opened-true : {K : ℕ} {state matrix state′ matrix′ : List ℕ} → Opened K state matrix 0 state′ matrix′ → opens K state matrix ≡ true
-opened-true {K} {state} {matrix} o = by (opens K state matrix) refl
+opened-true : {K : ℕ} {desk sheet desk′ sheet′ : List ℕ} → Opened K desk sheet 0 desk′ sheet′ → opens K desk sheet ≡ true
+opened-true {K} {desk} {sheet} o = by (opens K desk sheet) refl
   where
-    by : (b : Bool) → opens K state matrix ≡ b → opens K state matrix ≡ true
+    by : (b : Bool) → opens K desk sheet ≡ b → opens K desk sheet ≡ true
     by true e = e
     by false e = absurd (let z : 0 ≡ answerBy false = o .answer ∙ ap answerBy e in omega arith)
 
@@ -84,15 +83,15 @@ pub opening-holds : {K : ℕ} {b : Buffers} → Opening K b → Holds K start b
 unfolding opens
 opening-holds {K} {b} o =
     let e = opened-true (o .opened) in
-    let f = open-encodes K (o .state-before) (o .matrix-before) e in
+    let f = open-encodes K (o .desk-before) (o .sheet-before) e in
     let c = and-cases (leb 1 K) (leb K maxClasses) (and-cases (classesFit K) _ e .0) in
     record {
       some = leb-true 1 K (c .0);
       few = leb-true K maxClasses (c .1);
       valid = valid-start K;
       encodes = subst₂ (λ (x y : List ℕ). Encodes K start x y)
-          (sym (o .opened .state ∙ ap (λ (t : Bool). bytesBy t (openedState K (o .state-before)) (o .state-before)) e))
-          (sym (o .opened .matrix ∙ ap (λ (t : Bool). bytesBy t (openedMatrix K (o .matrix-before)) (o .matrix-before)) e))
+          (sym (o .opened .desk ∙ ap (λ (t : Bool). bytesBy t (openedDesk K (o .desk-before)) (o .desk-before)) e))
+          (sym (o .opened .sheet ∙ ap (λ (t : Bool). bytesBy t (openedSheet K (o .sheet-before)) (o .sheet-before)) e))
           (f .encodes);
       room = o .room;
     }

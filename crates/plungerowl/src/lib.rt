@@ -6,7 +6,7 @@ ghost use Rattle.opening.specs.Open.{Opened};
 ghost use Rattle.question.specs.Question.{Asked};
 ghost use Rattle.validator.specs.Step.{Stepped};
 
-// Opens the state buffer ("desk") and the dependency matrix ("sheet") for a number of lock classes.
+// Opens desk and sheet for a number of lock classes.
 #[no_mangle]
 pub extern "C" fn plungerowl_open(classes: u64, desk: &mut [u8], sheet: &mut [u8]) -> u8
     ensures { λ r. ⌜ Opened classes (now (desk .entry)) (now (sheet .entry)) r (now (desk .exit)) (now (sheet .exit)) ⌝ }
@@ -14,7 +14,7 @@ pub extern "C" fn plungerowl_open(classes: u64, desk: &mut [u8], sheet: &mut [u8
     open(classes, desk, sheet)
 }
 
-// Validates one record. With a fault the cycle stands in the report ("slip").
+// Validates one record. With a fault the cycle stands in the slip.
 #[no_mangle]
 pub extern "C" fn plungerowl_step(
     desk: &mut [u8],

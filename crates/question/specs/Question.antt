@@ -7,17 +7,17 @@ use Prim.Native.Nat.{ℕ, _<_, _≤_}
 use lib.Count.{ones}
 use Rattle.words.specs.Bits.{bit}
 use Rattle.rules.specs.StrongPath.{Reaches}
-use Rattle.rules.specs.Run.{State}
+use Rattle.rules.specs.Verdict.{unfit, noClass, refusalNumber}
 use Rattle.layout.specs.Layout.{classesOf}
-use Rattle.layout.specs.Encoding.{Encodes}
+use Rattle.layout.specs.Decoding.{view}
 use Rattle.layout.specs.Fit.{fits}
 
 -- The question. "Refused with 11, then 4; word and count are then 0"; "Answered, its number is 0": the word has bit t when and only when
--- class t ends a strong path from the class, and the count is its number of ones. An open and a closed state buffer are asked alike.
-pub record Asked (state matrix : List ℕ) (class answer word count : ℕ) : Type 0 where
-  pub unfit : fits state matrix ≡ false → (answer ≡ 11) × (word ≡ 0) × (count ≡ 0)
-  pub no-class : fits state matrix ≡ true → classesOf state ≤ class → (answer ≡ 4) × (word ≡ 0) × (count ≡ 0)
-  pub answered : fits state matrix ≡ true → class < classesOf state
+-- class t ends a strong path from the class, and the count is its number of ones. An open and a closed desk are asked alike.
+pub record Asked (desk sheet : List ℕ) (class answer word count : ℕ) : Type 0 where
+  pub is-unfit : fits desk sheet ≡ false → (answer ≡ unfit) × (word ≡ 0) × (count ≡ 0)
+  pub no-class : fits desk sheet ≡ true → classesOf desk ≤ class → (answer ≡ refusalNumber noClass) × (word ≡ 0) × (count ≡ 0)
+  pub answered : fits desk sheet ≡ true → class < classesOf desk
       → (answer ≡ 0)
-      × ((s : State) → Encodes (classesOf state) s state matrix → (t : ℕ) → (bit word t ≡ 1) ↔ Reaches (classesOf state) (s .graph) class t)
+      × ((t : ℕ) → (bit word t ≡ 1) ↔ Reaches (classesOf desk) (view desk sheet .graph) class t)
       × (count ≡ ones word)

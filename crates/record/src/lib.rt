@@ -1,4 +1,6 @@
 // A record of the log: six bytes, the mark 4C 4B, core, kind, class, mode.
+use layout::CORES;
+use layout::MODES;
 ghost use mathlib.Core.Path.{_≡_};
 ghost use Rattle.rules.specs.Record.{isMalformed, strayByte};
 
@@ -12,23 +14,28 @@ pub const CLASS_AT: usize = 4;
 
 pub const MODE_AT: usize = 5;
 
-pub const CORES: u8 = 8;
+// Kinds: an acquire, a release, and from FIRST_EVENT on the interrupt events.
+pub const ACQUIRE: u8 = 0;
 
-pub const KINDS: u8 = 10;
+pub const RELEASE: u8 = 1;
 
-pub const MODES: u8 = 3;
+pub const FIRST_EVENT: u8 = 2;
+
+pub const RECORD_KINDS: u8 = 10;
+
+const MOST_CORES: u8 = CORES as u8;
 
 // A byte that should be 0 is not: the mode of a release, class and mode of an interrupt event.
 fn stray_byte(kind: u8, class: u8, mode: u8) -> bool
     ensures { λ r. ⌜ r ≡ strayByte kind class mode ⌝ }
 {
-    if kind == 0 {
+    if kind == ACQUIRE {
         return false;
     }
     if mode != 0 {
         return true;
     }
-    if kind == 1 {
+    if kind == RELEASE {
         return false;
     }
     class != 0
@@ -47,10 +54,10 @@ pub fn is_malformed(bytes: &[u8]) -> bool
     if bytes[1] != 0x4B {
         return true;
     }
-    if CORES <= bytes[CORE_AT] {
+    if MOST_CORES <= bytes[CORE_AT] {
         return true;
     }
-    if KINDS <= bytes[KIND_AT] {
+    if RECORD_KINDS <= bytes[KIND_AT] {
         return true;
     }
     if MODES <= bytes[MODE_AT] {

@@ -10,20 +10,20 @@ use lib.Seq.{length-take-le}
 use borrow.Author.Tests.{leb-true, leb-false}
 use Rattle.rules.specs.Limits.{maxClasses}
 use Rattle.rules.specs.Record.{Bytes}
-use Rattle.layout.specs.Layout.{reportSize}
+use Rattle.layout.specs.Layout.{slipSize, countOf}
 use Rattle.layout.specs.Fit.{classesFit}
 use Rattle.opening.specs.Open.{Opened, opens, answerBy}
 use Rattle.validator.specs.Step.{Stepped}
 use Rattle.rules.proofs.Booleans.{and-cases}
-use Rattle.plungerowl.specs.Runs.{Buffers, Ran, none, call, Opening}
+use Rattle.plungerowl.specs.Runs.{Buffers, Called, Ran, none, call, Opening}
 use Rattle.plungerowl.proofs.Runs.{opening-holds, run-holds, validated-by}
+use Rattle.log.specs.Text.{Showable}
 use Rattle.log.specs.Log.{nextRecord, ValidatedNext}
-use Rattle.replay.specs.declared.Outcome.{Outcome}
-use Rattle.replay.specs.Outcomes.{buffers, Passed, Stopped, Came, Replayed, unread, bad-header, validated, Showable}
+use Rattle.log.specs.declared.Outcome.{Outcome}
+use Rattle.replay.specs.Outcomes.{buffers, Passed, Stopped, Came, Replayed, unread, bad-header, validated}
 
 ran-more : {b b′ b″ : Buffers} {rs : List Bytes} {answers : List ℕ} {r : Bytes} {answer : ℕ} → Ran b rs answers b′
-    → Stepped (b′ .state) (b′ .matrix) (b′ .report) r answer (b″ .state) (b″ .matrix) (b″ .report)
-    → Ran b (rs ++ r ∷ []) (answers ++ answer ∷ []) b″
+    → Called b′ r answer b″ → Ran b (rs ++ r ∷ []) (answers ++ answer ∷ []) b″
 ran-more none t = call t none
 ran-more (call u w) t = call u (ran-more w t)
 
@@ -31,7 +31,7 @@ pub none-passed : (b : Buffers) → Passed b 0 b
 none-passed b = record { records = []; count = refl; ran = none }
 
 pub one-passed : {b b′ b″ : Buffers} {n : ℕ} (r : Bytes) → Passed b n b′
-    → Stepped (b′ .state) (b′ .matrix) (b′ .report) r 0 (b″ .state) (b″ .matrix) (b″ .report) → Passed b (n + 1) b″
+    → Called b′ r 0 b″ → Passed b (n + 1) b″
 one-passed {b} {b″ = b″} {n} r p t =
     record {
       records = p .records ++ r ∷ [];
@@ -66,27 +66,27 @@ length-part buf at until h = length-take-le (until - at) (drop at buf) (simp len
 
 -- ---- A turn of the loop.
 
-module _ {b : Buffers} {n : ℕ} {state matrix report bytes state′ matrix′ report′ : List ℕ} {ended : Bool} {taken answer : ℕ}
-    (p : Passed b n (buffers state matrix report)) (j : ValidatedNext state matrix report bytes ended taken answer state′ matrix′ report′) where
-  pub same-passed : taken ≡ 0 → Passed b n (buffers state′ matrix′ report′)
+module _ {b : Buffers} {n : ℕ} {desk sheet slip bytes desk′ sheet′ slip′ : List ℕ} {ended : Bool} {taken answer : ℕ}
+    (p : Passed b n (buffers desk sheet slip)) (j : ValidatedNext desk sheet slip bytes ended taken answer desk′ sheet′ slip′) where
+  pub same-passed : taken ≡ 0 → Passed b n (buffers desk′ sheet′ slip′)
   same-passed e = let z = j .none e in rw (z .1, z .2, z .3) p
 
-  pub stopped : (taken ≡ 0 → ⊥) → Stopped b (n + 1) answer (buffers state′ matrix′ report′)
+  pub stopped : (taken ≡ 0 → ⊥) → Stopped b (n + 1) answer (buffers desk′ sheet′ slip′)
   stopped e =
       record {
         passed = n;
         place = refl;
-        between = buffers state matrix report;
+        between = buffers desk sheet slip;
         before = p;
         last = nextRecord bytes ended;
         stepped = j .some (omega arith);
       }
 
-  pub more-passed : (taken ≡ 0 → ⊥) → answer ≡ 0 → Passed b (n + 1) (buffers state′ matrix′ report′)
-  more-passed e z = one-passed (nextRecord bytes ended) p (subst (λ (a : ℕ). Stepped state matrix report (nextRecord bytes ended) a state′ matrix′ report′) z (j .some (omega arith)))
+  pub more-passed : (taken ≡ 0 → ⊥) → answer ≡ 0 → Passed b (n + 1) (buffers desk′ sheet′ slip′)
+  more-passed e z = one-passed (nextRecord bytes ended) p (subst (λ (a : ℕ). Stepped desk sheet slip (nextRecord bytes ended) a desk′ sheet′ slip′) z (j .some (omega arith)))
 
-module _ (buf : List ℕ) (at until : ℕ) {state matrix report state′ matrix′ report′ : List ℕ} {ended : Bool} {taken answer : ℕ}
-    (h : until ≤ length buf) (j : ValidatedNext state matrix report (take (until - at) (drop at buf)) ended taken answer state′ matrix′ report′) where
+module _ (buf : List ℕ) (at until : ℕ) {desk sheet slip desk′ sheet′ slip′ : List ℕ} {ended : Bool} {taken answer : ℕ}
+    (h : until ≤ length buf) (j : ValidatedNext desk sheet slip (take (until - at) (drop at buf)) ended taken answer desk′ sheet′ slip′) where
   pub taken-within : taken ≤ until - at
   taken-within = omega (arith, j .taken-is, next-within (take (until - at) (drop at buf)) ended, length-part buf at until h)
 
@@ -101,36 +101,36 @@ opens-by : (t : Bool) → 0 ≡ answerBy t → t ≡ true
 opens-by true e = refl
 opens-by false e = absurd (omega arith)
 
-room-of : {K : ℕ} {state matrix state′ matrix′ : List ℕ} (report : List ℕ) → Opened K state matrix 0 state′ matrix′ → reportSize maxClasses ≤ length report
-    → reportSize K ≤ length report
+room-of : {K : ℕ} {desk sheet desk′ sheet′ : List ℕ} (slip : List ℕ) → Opened K desk sheet 0 desk′ sheet′ → slipSize maxClasses ≤ length slip
+    → slipSize K ≤ length slip
 unfolding opens
-room-of {K} {state} {matrix} report p h =
-    let e = opens-by (opens K state matrix) (p .answer) in
+room-of {K} {desk} {sheet} slip p h =
+    let e = opens-by (opens K desk sheet) (p .answer) in
     let few : K ≤ maxClasses = leb-true K maxClasses (and-cases (leb 1 K) (leb K maxClasses) (and-cases (classesFit K) _ e .0) .1) in
     omega arith
 
-pub replayed : {K answer : ℕ} {state matrix state′ matrix′ : List ℕ} (report : List ℕ) (o : Outcome) (b : Buffers) → Opened K state matrix answer state′ matrix′
-    → answer ≡ 0 → reportSize maxClasses ≤ length report → Came (buffers state′ matrix′ report) o b → Replayed o b
-replayed {K} {state = state} {matrix} {state′} {matrix′} report o b p e h w =
-    let q : Opened K state matrix 0 state′ matrix′ = subst (λ (a : ℕ). Opened K state matrix a state′ matrix′) e p in
+pub replayed : {K answer : ℕ} {desk sheet desk′ sheet′ : List ℕ} (slip : List ℕ) (o : Outcome) (b : Buffers) → Opened K desk sheet answer desk′ sheet′
+    → answer ≡ 0 → slipSize maxClasses ≤ length slip → Came (buffers desk′ sheet′ slip) o b → Replayed o b
+replayed {K} {desk = desk} {sheet} {desk′} {sheet′} slip o b p e h w =
+    let q : Opened K desk sheet 0 desk′ sheet′ = subst (λ (a : ℕ). Opened K desk sheet a desk′ sheet′) e p in
     validated
-    (record { state-before = state; matrix-before = matrix; opened = q; room = room-of report q h })
+    (record { desk-before = desk; sheet-before = sheet; opened = q; room = room-of slip q h })
     w
 
 -- A cycle has at most as many dependencies as there are classes.
-stopped-shown : {K i : ℕ} {b b′ : Buffers} → Opening K b → Stopped b i 1 b′ → getD (b′ .report) 0 0 ≤ maxClasses
+stopped-shown : {K i : ℕ} {b b′ : Buffers} → Opening K b → Stopped b i 1 b′ → countOf (b′ .slip) ≤ maxClasses
 stopped-shown {b′ = b′} o w =
     let h = run-holds (opening-holds o) (w .before .ran) in
     let r = validated-by h {b′ = b′} (w .stepped) .reported refl in
     omega (arith, r .bytes .count, r .cycle .at-most, h .few)
 
-came-shown : {K : ℕ} {b : Buffers} (o : Outcome) (b′ : Buffers) → Opening K b → Came b o b′ → Showable o (b′ .report)
+came-shown : {K : ℕ} {b : Buffers} (o : Outcome) (b′ : Buffers) → Opening K b → Came b o b′ → Showable o (b′ .slip)
 came-shown (Outcome.Clean n) b′ p w = tt
 came-shown (Outcome.Refused a i) b′ p w = tt
 came-shown (Outcome.Fault i) b′ p w = stopped-shown p w
 came-shown Outcome.Unread b′ p w = tt
 
-pub shown : {o : Outcome} {b : Buffers} → Replayed o b → Showable o (b .report)
+pub shown : {o : Outcome} {b : Buffers} → Replayed o b → Showable o (b .slip)
 shown unread = tt
 shown bad-header = tt
 shown (validated {b′ = b′} {o} p w) = came-shown o b′ p w

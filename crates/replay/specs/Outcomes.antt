@@ -2,15 +2,14 @@
 use mathlib.Core.Path.{_≡_}
 use mathlib.Core.List.{List}
 use Prim.Native.Nat.{ℕ, _+_, _<_, _≤_}
-use lib.ListN.{length, getD, replicate}
-use Rattle.rules.specs.Limits.{maxClasses}
+use lib.ListN.{length, replicate}
 use Rattle.rules.specs.Record.{Bytes}
-use Rattle.validator.specs.Step.{Stepped}
-use Rattle.plungerowl.specs.Runs.{Buffers, Ran, Opening}
-use Rattle.replay.specs.declared.Outcome.{Outcome}
+use Rattle.rules.specs.Verdict.{badOpening}
+use Rattle.plungerowl.specs.Runs.{Buffers, Called, Ran, Opening}
+use Rattle.log.specs.declared.Outcome.{Outcome}
 
-abbrev pub buffers : (state matrix report : List ℕ) → Buffers
-buffers state matrix report = record { state = state; matrix = matrix; report = report }
+abbrev pub buffers : (desk sheet slip : List ℕ) → Buffers
+buffers desk sheet slip = record { desk = desk; sheet = sheet; slip = slip }
 
 -- n records were handed to the step, in order, and each was answered 0.
 pub record Passed (b : Buffers) (n : ℕ) (b′ : Buffers) : Type 0 where
@@ -25,7 +24,7 @@ pub record Stopped (b : Buffers) (i answer : ℕ) (b′ : Buffers) : Type 0 wher
   pub between : Buffers
   pub before : Passed b passed between
   pub last : Bytes
-  pub stepped : Stepped (between .state) (between .matrix) (between .report) last answer (b′ .state) (b′ .matrix) (b′ .report)
+  pub stepped : Called between last answer b′
 
 -- "stops at the first answer but 0"
 abbrev pub Came : Buffers → Outcome → Buffers → Type 0
@@ -34,15 +33,8 @@ Came b (Outcome.Refused answer i) b′ = (1 < answer) × Stopped b i answer b′
 Came b (Outcome.Fault i) b′ = Stopped b i 1 b′
 Came b Outcome.Unread b′ = Unit {0}
 
--- The whole log: a bad or short header is refused with 2 at record 0; behind a good one the records are validated from a fresh state.
+-- The whole log: a bad or short header is refused with 2 at record 0; behind a good one the records are validated from an opened desk.
 pub data Replayed : Outcome → Buffers → Type 0 where
   unread : {b : Buffers} → Replayed Outcome.Unread b
-  bad-header : {b : Buffers} → Replayed (Outcome.Refused 2 0) b
+  bad-header : {b : Buffers} → Replayed (Outcome.Refused badOpening 0) b
   validated : {K : ℕ} {b b′ : Buffers} {o : Outcome} → Opening K b → Came b o b′ → Replayed o b′
-
--- The report of a fault has a cycle of at most 64 dependencies.
-abbrev pub Showable : Outcome → (report : List ℕ) → Type 0
-Showable (Outcome.Clean n) report = Unit {0}
-Showable (Outcome.Refused answer i) report = Unit {0}
-Showable (Outcome.Fault i) report = getD report 0 0 ≤ maxClasses
-Showable Outcome.Unread report = Unit {0}

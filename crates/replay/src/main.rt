@@ -1,44 +1,40 @@
 // Document 01, "Logs for the bench": validates a log from standard input, and writes what came of it to standard output.
 //
-// The log is read piece by piece into a fixed buffer. What a piece says is validated by `log` and `validator`, whose contracts say how.
+// The log is read piece by piece into a fixed buffer. What a piece says is validated by `log` and `validator`, whose contracts say how; the text
+// written is `log::put_text`'s.
+use answers::BAD_OPENING;
+use answers::FAULT;
+use answers::OK;
+use layout::DESK_SIZE;
 use layout::ENTRIES_AT;
 use layout::ENTRY_SIZE;
 use layout::MAX_CLASSES;
-use layout::STATE_SIZE;
 use libc::STDERR_FILENO;
 use libc::STDIN_FILENO;
 use libc::STDOUT_FILENO;
 use log::HEADER_SIZE;
+use log::Outcome;
+use log::TEXT_SIZE;
 ghost use mathlib.Core.Path.{_≡_};
 ghost use Prim.Native.Nat.{_<_, _≤_};
 ghost use lib.ListN.{length};
 ghost use Rattle.rules.specs.Limits.{maxClasses};
-ghost use Rattle.layout.specs.Layout.{reportSize};
+ghost use Rattle.layout.specs.Layout.{slipSize};
 ghost use Rattle.replay.specs.Input.{ReadTo};
-ghost use Rattle.replay.specs.Outcomes.{buffers, Came, Replayed, Showable};
-
-const FAULT: u8 = 1;
-
-const BAD_HEADER: u8 = 2;
+ghost use Rattle.replay.specs.Outcomes.{buffers, Came, Replayed};
 
 // The buffers of the largest number of classes.
-const MATRIX_SIZE: usize = MAX_CLASSES * MAX_CLASSES;
+const SHEET_SIZE: usize = MAX_CLASSES * MAX_CLASSES;
 
-const REPORT_SIZE: usize = ENTRIES_AT + ENTRY_SIZE * MAX_CLASSES;
+const SLIP_SIZE: usize = ENTRIES_AT + ENTRY_SIZE * MAX_CLASSES;
+
+// The bytes of a log that are held at a time.
+const BUF_SIZE: usize = 4096;
 
 // What came of a read: up to where the buffer is filled, which is as before at the end of the input.
 struct Input {
     failed: bool,
     until: usize,
-}
-
-// What came of a log.
-enum Outcome {
-    Clean(u64),
-    Refused(u8, u64),
-    Fault(u64),
-    // A read failed, or the log was not ended when the turns were used up.
-    Unread,
 }
 
 // One read, behind the bytes that stand in the buffer.
@@ -86,14 +82,14 @@ fn read_header(buf: &mut [u8]) -> Input
 // Validates the records behind the header, up to the first answer but 0. A proved loop has to end, and nothing says that a log does: the turns,
 // one for each record and each read, are counted down from a number that no run uses up.
 fn validate(
-    state: &mut [u8],
-    matrix: &mut [u8],
-    report: &mut [u8],
+    desk: &mut [u8],
+    sheet: &mut [u8],
+    slip: &mut [u8],
     buf: &mut [u8],
     filled: usize,
 ) -> Outcome
     requires { ⌜ (4 ≤ filled) × (filled ≤ length (now buf)) × (6 ≤ length (now buf)) ⌝ }
-    ensures { λ r. ⌜ Came (buffers (now (state .entry)) (now (matrix .entry)) (now (report .entry))) r (buffers (now (state .exit)) (now (matrix .exit)) (now (report .exit))) ⌝ }
+    ensures { λ r. ⌜ Came (buffers (now (desk .entry)) (now (sheet .entry)) (now (slip .entry))) r (buffers (now (desk .exit)) (now (sheet .exit)) (now (slip .exit))) ⌝ }
 {
     let mut at = HEADER_SIZE;
     let mut until = filled;
@@ -102,7 +98,7 @@ fn validate(
     let mut turns = u64::MAX;
     while turns > 0 {
         turns -= 1;
-        let validated = log::validate_next(state, matrix, report, &buf[at..until], ended);
+        let validated = log::validate_next(desk, sheet, slip, &buf[at..until], ended);
         let taken = validated.taken;
         let answer = validated.answer;
         if taken == 0 {
@@ -124,7 +120,7 @@ fn validate(
         if answer == FAULT {
             return Outcome::Fault(records);
         }
-        if answer != 0 {
+        if answer != OK {
             return Outcome::Refused(answer, records);
         }
     }
@@ -132,9 +128,9 @@ fn validate(
 }
 
 // Validates the whole log.
-fn replay(state: &mut [u8], matrix: &mut [u8], report: &mut [u8], buf: &mut [u8]) -> Outcome
-    requires { ⌜ (6 ≤ length (now buf)) × (reportSize maxClasses ≤ length (now report)) ⌝ }
-    ensures { λ r. ⌜ Replayed r (buffers (now (state .exit)) (now (matrix .exit)) (now (report .exit))) ⌝ }
+fn replay(desk: &mut [u8], sheet: &mut [u8], slip: &mut [u8], buf: &mut [u8]) -> Outcome
+    requires { ⌜ (6 ≤ length (now buf)) × (slipSize maxClasses ≤ length (now slip)) ⌝ }
+    ensures { λ r. ⌜ Replayed r (buffers (now (desk .exit)) (now (sheet .exit)) (now (slip .exit))) ⌝ }
 {
     let input = read_header(buf);
     if input.failed {
@@ -142,52 +138,34 @@ fn replay(state: &mut [u8], matrix: &mut [u8], report: &mut [u8], buf: &mut [u8]
     }
     let filled = input.until;
     if filled < HEADER_SIZE {
-        return Outcome::Refused(BAD_HEADER, 0);
+        return Outcome::Refused(BAD_OPENING, 0);
     }
     let classes = log::header_classes(&buf[..HEADER_SIZE]);
-    let opened = opening::open(classes, state, matrix);
-    if opened != 0 {
-        return Outcome::Refused(BAD_HEADER, 0);
+    let opened = opening::open(classes, desk, sheet);
+    if opened != OK {
+        return Outcome::Refused(BAD_OPENING, 0);
     }
-    validate(state, matrix, report, buf, filled)
+    validate(desk, sheet, slip, buf, filled)
 }
 
-// Writes a text to standard output, all at once.
-fn print(text: &[u8]) {
+// Writes a text, all at once.
+fn print(answer: bool, text: &[u8]) {
+    if !answer {
+        io::write_all(STDERR_FILENO, text);
+        return;
+    }
     if !io::write_all(STDOUT_FILENO, text) {
         io::write_all(STDERR_FILENO, b"write failed\n");
     }
 }
 
 fn main() {
-    let mut state = [0u8; STATE_SIZE];
-    let mut matrix = [0u8; MATRIX_SIZE];
-    let mut report = [0u8; REPORT_SIZE];
-    let mut buf = [0u8; 4096];
-    let outcome = replay(&mut state, &mut matrix, &mut report, &mut buf);
-    show(outcome, &report);
-}
-
-// Writes what came of a log.
-fn show(outcome: Outcome, report: &[u8; REPORT_SIZE])
-    requires { ⌜ Showable outcome (now report) ⌝ }
-{
-    let mut out = [0u8; 1088];
-    match outcome {
-        Outcome::Clean(records) => {
-            let n = log::put_clean(&mut out, records);
-            print(&out[..n]);
-        }
-        Outcome::Refused(answer, at) => {
-            let n = log::put_refused(&mut out, answer, at);
-            print(&out[..n]);
-        }
-        Outcome::Fault(at) => {
-            let n = log::put_fault_report(&mut out, at, report);
-            print(&out[..n]);
-        }
-        Outcome::Unread => {
-            io::write_all(STDERR_FILENO, b"read failed\n");
-        }
-    }
+    let mut desk = [0u8; DESK_SIZE];
+    let mut sheet = [0u8; SHEET_SIZE];
+    let mut slip = [0u8; SLIP_SIZE];
+    let mut buf = [0u8; BUF_SIZE];
+    let outcome = replay(&mut desk, &mut sheet, &mut slip, &mut buf);
+    let mut out = [0u8; TEXT_SIZE];
+    let n = log::put_text(&mut out, outcome, &slip);
+    print(log::is_answer(outcome), &out[..n]);
 }

@@ -1,4 +1,5 @@
-// The report of a cycle: byte 0 is the number of its dependencies, and each has three bytes: class, kind, source.
+// A cycle in the slip: byte 0 is the number of its dependencies, and each has three bytes: class, kind, source.
+use layout::COUNT_AT;
 use layout::ENTRIES_AT;
 use layout::ENTRY_SIZE;
 use layout::MARKS_AT;
@@ -7,10 +8,10 @@ ghost use mathlib.Core.Path.{_≡_};
 ghost use Prim.Native.Nat.{_+_, _*_, _/_, _%_, _<_, _≤_};
 ghost use lib.ListN.{length};
 ghost use Rattle.rules.specs.Marks.{hardIrq, safe, unsafe, markBit};
-ghost use Rattle.layout.specs.Layout.{stateSize, matrixSize, reportSize};
-ghost use Rattle.search.specs.Trails.{kindOf};
-ghost use Rattle.search.specs.Reports.{next};
-ghost use Rattle.report.specs.Shown.{IsKind, InRange, SourceOf, Writable, Written, Shown};
+ghost use Rattle.layout.specs.Layout.{deskSize, sheetSize, slipSize};
+ghost use Rattle.layout.specs.Decoding.{kindOfByte};
+ghost use Rattle.search.specs.Reports.{nextPlace};
+ghost use Rattle.report.specs.Shown.{IsKind, InRange, SourceOf, Writable, EntryWritten, Shown};
 
 // Bits of a mark byte.
 const HARD_SAFE_N: u8 = 1;
@@ -22,7 +23,7 @@ const HARD_UNSAFE_E: u8 = 4;
 const HARD_UNSAFE_S: u8 = 8;
 
 // The digit of a byte at a power of two.
-fn digit(byte: u8, bit: u8) -> u8
+fn bit_of(byte: u8, bit: u8) -> u8
     requires { ⌜ 0 < bit ⌝ }
     ensures { λ r. ⌜ r ≡ byte / bit % 2 ⌝ }
 {
@@ -32,7 +33,7 @@ fn digit(byte: u8, bit: u8) -> u8
 // The hard-unsafe mark of the kind's first letter.
 fn unsafe_bit(kind: u8) -> u8
     requires { ⌜ IsKind kind ⌝ }
-    ensures { λ r. ⌜ r ≡ markBit hardIrq (unsafe (kindOf kind .first)) ⌝ }
+    ensures { λ r. ⌜ r ≡ markBit hardIrq (unsafe (kindOfByte kind .first)) ⌝ }
 {
     if kind < 4 {
         return HARD_UNSAFE_E;
@@ -43,7 +44,7 @@ fn unsafe_bit(kind: u8) -> u8
 // The hard-safe mark of the kind's second letter.
 fn safe_bit(kind: u8) -> u8
     requires { ⌜ IsKind kind ⌝ }
-    ensures { λ r. ⌜ r ≡ markBit hardIrq (safe (kindOf kind .second)) ⌝ }
+    ensures { λ r. ⌜ r ≡ markBit hardIrq (safe (kindOfByte kind .second)) ⌝ }
 {
     if kind == 1 {
         return HARD_SAFE_R;
@@ -55,17 +56,17 @@ fn safe_bit(kind: u8) -> u8
 }
 
 // The source of a dependency: 0 lock dependency, 1 hard interrupt, 2 soft interrupt.
-fn source_of(state: &[u8], matrix: &[u8], k: usize, from: usize, to: usize, kind: u8) -> u8
-    requires { ⌜ InRange k (now state) (now matrix) from to kind ⌝ }
-    ensures { λ r. ⌜ SourceOf k (now (state .entry)) (now (matrix .entry)) from to kind r ⌝ }
+fn source_of(desk: &[u8], sheet: &[u8], k: usize, from: usize, to: usize, kind: u8) -> u8
+    requires { ⌜ InRange k (now desk) (now sheet) from to kind ⌝ }
+    ensures { λ r. ⌜ SourceOf k (now (desk .entry)) (now (sheet .entry)) from to kind r ⌝ }
 {
-    if digit(matrix[from * k + to], kind) == 1 {
+    if bit_of(sheet[from * k + to], kind) == 1 {
         return 0;
     }
-    if digit(state[MARKS_AT + to], safe_bit(kind)) == 0 {
+    if bit_of(desk[MARKS_AT + to], safe_bit(kind)) == 0 {
         return 2;
     }
-    if digit(state[MARKS_AT + from], unsafe_bit(kind)) == 0 {
+    if bit_of(desk[MARKS_AT + from], unsafe_bit(kind)) == 0 {
         return 2;
     }
     1
@@ -74,7 +75,7 @@ fn source_of(state: &[u8], matrix: &[u8], k: usize, from: usize, to: usize, kind
 // The place after i in a cycle of n dependencies.
 fn next_place(n: usize, i: usize) -> usize
     requires { ⌜ i < n ⌝ }
-    ensures { λ r. ⌜ r ≡ next n i ⌝ }
+    ensures { λ r. ⌜ r ≡ nextPlace n i ⌝ }
 {
     if i + 1 < n {
         return i + 1;
@@ -82,14 +83,14 @@ fn next_place(n: usize, i: usize) -> usize
     0
 }
 
-fn put(report: &mut [u8], i: usize, class: u8, kind: u8, source: u8)
-    requires { ⌜ (i < 64) × (1 + 3 * i + 3 ≤ length (now report)) ⌝ }
-    ensures { λ _. ⌜ Written (now (report .entry)) i class kind source (now (report .exit)) ⌝ }
+fn write_entry(slip: &mut [u8], i: usize, class: u8, kind: u8, source: u8)
+    requires { ⌜ (i < 64) × (1 + 3 * i + 3 ≤ length (now slip)) ⌝ }
+    ensures { λ _. ⌜ EntryWritten (now (slip .entry)) i class kind source (now (slip .exit)) ⌝ }
 {
     let at = ENTRIES_AT + ENTRY_SIZE * i;
-    report[at] = class;
-    report[at + 1] = kind;
-    report[at + 2] = source;
+    slip[at] = class;
+    slip[at + 1] = kind;
+    slip[at + 2] = source;
 }
 
 // The number of dependencies as a byte.
@@ -101,21 +102,21 @@ fn count_byte(n: usize) -> u8
 }
 
 // Writes the cycle that the search found.
-pub fn show(state: &[u8], matrix: &[u8], report: &mut [u8], k: usize, found: Found)
-    requires { ⌜ (stateSize ≤ length (now state)) × (k ≤ 64) × (matrixSize k ≤ length (now matrix)) × (reportSize k ≤ length (now report)) × Writable k found ⌝ }
-    ensures { λ _. ⌜ Shown k (now (state .entry)) (now (matrix .entry)) found (now (report .entry)) (now (report .exit)) ⌝ }
+pub fn show(desk: &[u8], sheet: &[u8], slip: &mut [u8], k: usize, found: Found)
+    requires { ⌜ (deskSize ≤ length (now desk)) × (k ≤ 64) × (sheetSize k ≤ length (now sheet)) × (slipSize k ≤ length (now slip)) × Writable k found ⌝ }
+    ensures { λ _. ⌜ Shown k (now (desk .entry)) (now (sheet .entry)) found (now (slip .entry)) (now (slip .exit)) ⌝ }
 {
     let n = found.n;
     let classes = found.classes;
     let kinds = found.kinds;
-    report[0] = count_byte(n);
+    slip[COUNT_AT] = count_byte(n);
     let mut i = 0;
     while i < n {
         let from = classes[i];
         let to = classes[next_place(n, i)];
         let kind = kinds[i];
-        let source = source_of(state, matrix, k, from as usize, to as usize, kind);
-        put(report, i, from, kind, source);
+        let source = source_of(desk, sheet, k, from as usize, to as usize, kind);
+        write_entry(slip, i, from, kind, source);
         i += 1;
     }
 }

@@ -13,9 +13,9 @@ use Rattle.rules.specs.Context.{Frame, frameOf}
 use Rattle.rules.specs.HeldLocks.{HeldLock, isHeld, releaseNewest, Core, current, afterEvent}
 use Rattle.rules.specs.Graph.{Graph}
 use Rattle.rules.specs.Verdict.{notHeld, refusal, releaseMissing}
-use Rattle.rules.specs.Run.{State, startingFrom, situation, accept, Outcome, step, run}
+use Rattle.rules.specs.Run.{State, startingFrom, situation, accept, Result, step, run}
 use Rattle.rules.specs.Balance.{acquires, releases, isAccepted, countIf, concerns, tally, standing, Balance}
-use Rattle.rules.proofs.Steps.{Stepped, was-refused, was-clean, was-fault, stepped, accepted-passes}
+use Rattle.rules.proofs.Steps.{StepCases, was-refused, was-clean, was-fault, stepped, accepted-passes}
 
 count-add : (b : Bool) (n : ℕ) → countIf b n ≡ countIf b 0 + n
 count-add true n = omega arith
@@ -84,7 +84,7 @@ module _ (K : ℕ) (i : ℕ) (f : Frame) (c : ℕ) where
           rw (eqb-true i (coreOf r) e) (core-balance c f (s .cores (coreOf r)) (eventOf r) (accepted-passes (situation K s r) notHeld h))
       by false e = refl
 
-  step-balance : {s : State} {r : Bytes} {o : Outcome} → Stepped K s r o
+  step-balance : {s : State} {r : Bytes} {o : Result} → StepCases K s r o
       → standing c (o .state .cores i .held f) + countIf (isAccepted (o .answer) && concerns i f (releases c) s r) 0
       ≡ standing c (s .cores i .held f) + countIf (isAccepted (o .answer) && concerns i f (acquires c) s r) 0
   step-balance (was-refused x e) = refl

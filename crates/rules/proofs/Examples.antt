@@ -7,14 +7,14 @@ use native.Mathlib.Omega.{arith}
 use Rattle.rules.specs.Record.{isMalformed}
 use Rattle.rules.specs.Decision.{cyclic, reaches}
 use Rattle.rules.specs.Verdict.{refusal}
-use Rattle.rules.specs.HeldLocks.{releaseNewest}
+use Rattle.rules.specs.HeldLocks.{exclusive, read, recursive, releaseNewest}
 use Rattle.rules.specs.Graph.{EN, emptyGraph, lock, dependency}
 use Rattle.rules.specs.Cycle.{Cycle, entryAt}
 use Rattle.rules.specs.Run.{start, answers, run, graphAt}
-use Rattle.rules.specs.Examples.{E, r, R, heldLock, Drawing, drawing, drawings, Example, p2Cycle, table, example, p2, p6, clean, ends, fault-at, takes, releases, hardOn, hardOff, softOn, softOff, enterSoft, exitSoft, enterHard, exitHard, says}
+use Rattle.rules.specs.Examples.{lockOf, DrawnCase, drawnCase, drawnCases, Example, p2Cycle, table, example, p2, p6, allClean, endsWith, faultAt, takes, frees, does, says}
 
 pub table-holds : map (λ (e : Example). answers 8 start (e .log)) table ≡ map (λ (e : Example). e .given) table
-unfolding table example p2 p6 clean ends fault-at takes releases hardOn hardOff softOn softOff enterSoft exitSoft enterHard exitHard says isMalformed refusal dependency cyclic
+unfolding table example p2 p6 allClean endsWith faultAt takes frees does says isMalformed refusal dependency cyclic
 table-holds = refl
 
 of-two : (P : ℕ → Type 0) → P 0 → P 1 → (i : ℕ) → i < 2 → P i
@@ -23,7 +23,7 @@ of-two P a b (suc zero) l = b
 of-two P a b (suc (suc i)) l = absurd (omega arith)
 
 pub p2-cycle : Cycle 8 (graphAt 8 emptyGraph p2 5) p2Cycle
-unfolding p2 takes releases says isMalformed refusal dependency cyclic
+unfolding p2 takes frees says isMalformed refusal dependency cyclic
 p2-cycle =
     record {
       not-empty = omega arith;
@@ -40,11 +40,11 @@ p2-cycle =
     }
 
 -- Two rules that show in no answer from opening: no dependency crosses frames, and a release takes the newest.
-pub draws : map (λ (e : Drawing). run 8 start (e .log) .graph .locks (e .from) (e .to) EN) drawings ≡ map (λ (e : Drawing). e .drawn) drawings
-unfolding drawings drawing takes enterHard says isMalformed refusal dependency cyclic
+pub draws : map (λ (e : DrawnCase). run 8 start (e .log) .graph .locks (e .from) (e .to) EN) drawnCases ≡ map (λ (e : DrawnCase). e .drawn) drawnCases
+unfolding drawnCases drawnCase takes does says isMalformed refusal dependency cyclic
 draws = refl
 
-pub newest-released : releaseNewest 0 (heldLock 0 r ∷ heldLock 1 E ∷ heldLock 0 R ∷ []) ≡ heldLock 0 r ∷ heldLock 1 E ∷ []
+pub newest-released : releaseNewest 0 (lockOf 0 read ∷ lockOf 1 exclusive ∷ lockOf 0 recursive ∷ []) ≡ lockOf 0 read ∷ lockOf 1 exclusive ∷ []
 newest-released = refl
 
 -- The question is not the fault test: after P6, which is clean, class 0 reaches itself.

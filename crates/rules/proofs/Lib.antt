@@ -1,4 +1,5 @@
 pub mod Booleans
+pub mod Formed
 pub mod Closure
 pub mod Decided
 pub mod Monotone
@@ -6,4 +7,7 @@ pub mod Steps
 pub mod MoreEvidence
 pub mod Balanced
 pub mod Cycles
+pub mod Pigeons
+pub mod Rounds
+pub mod CycleExists
 pub mod Examples

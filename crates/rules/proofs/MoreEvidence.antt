@@ -18,7 +18,7 @@ use Rattle.rules.specs.Graph.{Graph, drawnBy}
 use Rattle.rules.specs.StrongPath.{ClosedStrongPath}
 use Rattle.rules.specs.Decision.{cyclic}
 use Rattle.rules.specs.Verdict.{Refusal, malformed, number, Situation, refusal}
-use Rattle.rules.specs.Run.{State, startingFrom, situation, acceptOn, accept, Outcome, decided, settled, step, answers, graphAt}
+use Rattle.rules.specs.Run.{State, startingFrom, situation, acceptOn, accept, Result, decided, settled, step, answers, graphAt}
 use Rattle.rules.specs.TwoRuns.{NamedIn, Foreign, Interleaved, done, keep, insert, place, FaultBy, MoreEvidence}
 use Rattle.rules.proofs.Decided.{cyclic-sound}
 use Rattle.rules.proofs.Monotone.{Within, within-self, within-more, within-both, cyclic-mono}
@@ -36,7 +36,7 @@ module _ (K : ℕ) (whole : List Bytes) where
 
   -- ---- A record of the first list, in both runs.
 
-  data Together (o₁ o₂ : Outcome) : Type 0 where
+  data Together (o₁ o₂ : Result) : Type 0 where
     alike : number (o₂ .answer) ≡ number (o₁ .answer) → Along (o₁ .state) (o₂ .state) → Together o₁ o₂
     faulted : number (o₂ .answer) ≡ 1 → o₂ .state .is-closed ≡ true → (number (o₁ .answer) ≡ 0) ⊎ (number (o₁ .answer) ≡ 1) → Together o₁ o₂
 
@@ -80,7 +80,7 @@ module _ (K : ℕ) (whole : List Bytes) where
 
   -- ---- A foreign record, in the second run only.
 
-  data Aside (s₁ : State) (o₂ : Outcome) : Type 0 where
+  data Aside (s₁ : State) (o₂ : Result) : Type 0 where
     apart : Along s₁ (o₂ .state) → Aside s₁ o₂
     faulted : number (o₂ .answer) ≡ 1 → o₂ .state .is-closed ≡ true → Aside s₁ o₂
 
@@ -122,7 +122,7 @@ module _ (K : ℕ) (whole : List Bytes) where
   at-once : (n : ℕ) (given : List ℕ) (j : ℕ) → n ≡ 1 → FaultBy (n ∷ given) j
   at-once n given j h = record { at = 0; by = zero-le; is-fault = h }
 
-  keep-pair : {xs ys : List Bytes} {e : Interleaved whole xs ys} (r : Bytes) {o₁ o₂ : Outcome} → Together o₁ o₂
+  keep-pair : {xs ys : List Bytes} {e : Interleaved whole xs ys} (r : Bytes) {o₁ o₂ : Result} → Together o₁ o₂
       → (Along (o₁ .state) (o₂ .state) → Pair e (answers K (o₁ .state) xs) (answers K (o₂ .state) ys))
       → Pair (keep {r = r} e) (number (o₁ .answer) ∷ answers K (o₁ .state) xs) (number (o₂ .answer) ∷ answers K (o₂ .state) ys)
   keep-pair r {o₁} {o₂} (alike q a) rest =
@@ -137,7 +137,7 @@ module _ (K : ℕ) (whole : List Bytes) where
         old = λ i. elim i [ zero ↦ λ l k. z | suc i ↦ λ l k. absurd (closed-no-fault K (o₂ .state) ys (place e i) c k) ];
       }
 
-  insert-pair : {xs ys : List Bytes} {e : Interleaved whole xs ys} {r : Bytes} (f : Foreign whole r) {s₁ : State} {o₂ : Outcome} → Aside s₁ o₂
+  insert-pair : {xs ys : List Bytes} {e : Interleaved whole xs ys} {r : Bytes} (f : Foreign whole r) {s₁ : State} {o₂ : Result} → Aside s₁ o₂
       → (Along s₁ (o₂ .state) → Pair e (answers K s₁ xs) (answers K (o₂ .state) ys))
       → Pair (insert {r = r} f e) (answers K s₁ xs) (number (o₂ .answer) ∷ answers K (o₂ .state) ys)
   insert-pair f {o₂} (apart a) rest =

@@ -12,29 +12,28 @@ use Rattle.rules.specs.Record.{Bytes}
 use Rattle.rules.specs.Graph.{Graph}
 use Rattle.rules.specs.StrongPath.{ClosedStrongPath}
 use Rattle.rules.specs.Decision.{cyclic}
-use Rattle.rules.specs.Verdict.{Refusal, unfit, closed, malformed, noClass, noTransition, stillHeld, notHeld, tooDeep, Answer, clean, fault, refused, refusalNumber, number, order, Situation, applies, firstThatApplies, refusal}
-use Rattle.rules.specs.Run.{State, startingFrom, situation, accept, close, Outcome, settled, decided, step, answers, run, graphAt}
+use Rattle.rules.specs.Verdict.{Refusal, closed, malformed, noClass, noTransition, stillHeld, notHeld, tooDeep, Answer, clean, fault, refused, refusalNumber, number, order, Situation, applies, firstThatApplies, refusal}
+use Rattle.rules.specs.Run.{State, startingFrom, situation, accept, close, Result, settled, decided, step, answers, run, graphAt}
 use Rattle.rules.specs.TwoRuns.{FaultBy}
 use Rattle.rules.proofs.Decided.{cyclic-sound, cyclic-complete}
 
 -- The three things that a step can come to.
-pub data Stepped (K : ℕ) (s : State) (r : Bytes) : Outcome → Type 0 where
-  was-refused : (x : Refusal) → refusal (situation K s r) ≡ some x → Stepped K s r (record { answer = refused x; state = s })
-  was-clean : refusal (situation K s r) ≡ none → cyclic K (accept s r .graph) ≡ false → Stepped K s r (record { answer = clean; state = accept s r })
+pub data StepCases (K : ℕ) (s : State) (r : Bytes) : Result → Type 0 where
+  was-refused : (x : Refusal) → refusal (situation K s r) ≡ some x → StepCases K s r (record { answer = refused x; state = s })
+  was-clean : refusal (situation K s r) ≡ none → cyclic K (accept s r .graph) ≡ false → StepCases K s r (record { answer = clean; state = accept s r })
   was-fault : refusal (situation K s r) ≡ none → cyclic K (accept s r .graph) ≡ true
-      → Stepped K s r (record { answer = fault; state = close (accept s r) })
+      → StepCases K s r (record { answer = fault; state = close (accept s r) })
 
-pub stepped : (K : ℕ) (s : State) (r : Bytes) → Stepped K s r (step K s r)
+pub stepped : (K : ℕ) (s : State) (r : Bytes) → StepCases K s r (step K s r)
 stepped K s r = by (refusal (situation K s r)) refl (cyclic K (accept s r .graph)) refl
   where
-    by : (x : Option Refusal) → refusal (situation K s r) ≡ x → (b : Bool) → cyclic K (accept s r .graph) ≡ b → Stepped K s r (settled K s r x)
+    by : (x : Option Refusal) → refusal (situation K s r) ≡ x → (b : Bool) → cyclic K (accept s r .graph) ≡ b → StepCases K s r (settled K s r x)
     by (some x) e b c = was-refused x e
     by none e true c = rw c (was-fault e c)
     by none e false c = rw c (was-clean e c)
 
 -- The number of a refusal is neither 0 nor 1.
 pub refused-number : (x : Refusal) → 1 < refusalNumber x
-refused-number unfit = omega arith
 refused-number closed = omega arith
 refused-number malformed = omega arith
 refused-number noClass = omega arith
@@ -44,11 +43,11 @@ refused-number notHeld = omega arith
 refused-number tooDeep = omega arith
 
 -- A fault closes the validator, and the graph then has a cycle.
-pub record Faulted (K : ℕ) (o : Outcome) : Type 0 where
+pub record Faulted (K : ℕ) (o : Result) : Type 0 where
   pub shut : o .state .is-closed ≡ true
   pub cycle : cyclic K (o .state .graph) ≡ true
 
-faulted-by : {K : ℕ} {s : State} {r : Bytes} {o : Outcome} → Stepped K s r o → number (o .answer) ≡ 1 → Faulted K o
+faulted-by : {K : ℕ} {s : State} {r : Bytes} {o : Result} → StepCases K s r o → number (o .answer) ≡ 1 → Faulted K o
 faulted-by (was-refused x e) h = absurd (let n = refused-number x in omega arith)
 faulted-by (was-clean e c) h = absurd (omega arith)
 faulted-by (was-fault e c) h = record { shut = refl; cycle = c }
@@ -64,7 +63,7 @@ closed-step K s r h = rw h
 pub closed-answers : (K : ℕ) (s : State) (rs : List Bytes) → s .is-closed ≡ true → answers K s rs ≡ replicate (length rs) 10
 closed-answers K s [] h = refl
 closed-answers K s (r ∷ rs) h =
-    ap {B = List ℕ} (λ (o : Outcome). number (o .answer) ∷ answers K (o .state) rs) (closed-step K s r h)
+    ap {B = List ℕ} (λ (o : Result). number (o .answer) ∷ answers K (o .state) rs) (closed-step K s r h)
     ∙ ap {B = List ℕ} (λ (l : List ℕ). 10 ∷ l) (closed-answers K s rs h)
 
 no-fault-in : (n j : ℕ) → getD (replicate {A = ℕ} n 10) j 0 ≡ 1 → ⊥
@@ -77,7 +76,7 @@ closed-no-fault K s rs j c h = no-fault-in (length rs) j (rw (closed-answers K s
 
 -- ---- Demand 1: a refusal changes nothing; an open validator is closed by its first fault and by nothing else.
 
-refused-by : {K : ℕ} {s : State} {r : Bytes} {o : Outcome} (x : Refusal) → Stepped K s r o → o .answer ≡ refused x → o .state ≡ s
+refused-by : {K : ℕ} {s : State} {r : Bytes} {o : Result} (x : Refusal) → StepCases K s r o → o .answer ≡ refused x → o .state ≡ s
 refused-by x (was-refused y e) h = refl
 refused-by x (was-clean e c) h = let z : _≡_ {A = ℕ} 0 1 = cc in absurd (omega arith)
 refused-by x (was-fault e c) h = let z : _≡_ {A = ℕ} 0 1 = cc in absurd (omega arith)
@@ -85,7 +84,7 @@ refused-by x (was-fault e c) h = let z : _≡_ {A = ℕ} 0 1 = cc in absurd (ome
 pub refusal-changes-nothing : (K : ℕ) (s : State) (r : Bytes) (x : Refusal) → step K s r .answer ≡ refused x → step K s r .state ≡ s
 refusal-changes-nothing K s r x h = refused-by x (stepped K s r) h
 
-step-closes : {K : ℕ} {s : State} {r : Bytes} {o : Outcome} → Stepped K s r o → s .is-closed ≡ false → o .state .is-closed ≡ true
+step-closes : {K : ℕ} {s : State} {r : Bytes} {o : Result} → StepCases K s r o → s .is-closed ≡ false → o .state .is-closed ≡ true
     → number (o .answer) ≡ 1
 step-closes (was-refused x e) h c = absurd (false≢true (sym h ∙ c))
 step-closes (was-clean e q) h c = absurd (false≢true (sym h ∙ c))
@@ -93,7 +92,7 @@ step-closes (was-fault e q) h c = refl
 
 closed-run : (K : ℕ) (s : State) (rs : List Bytes) → s .is-closed ≡ true → run K s rs ≡ s
 closed-run K s [] h = refl
-closed-run K s (r ∷ rs) h = ap (λ (o : Outcome). run K (o .state) rs) (closed-step K s r h) ∙ closed-run K s rs h
+closed-run K s (r ∷ rs) h = ap (λ (o : Result). run K (o .state) rs) (closed-step K s r h) ∙ closed-run K s rs h
 
 pub closed-by-fault : (K : ℕ) (s : State) (rs : List Bytes) → s .is-closed ≡ false → run K s rs .is-closed ≡ true
     → FaultBy (answers K s rs) (length rs)
@@ -138,10 +137,18 @@ fault-cycle K s (r ∷ rs) (suc j) h = fault-cycle K (step K s r .state) rs j h
 
 -- ---- Demand 2: of an accepted record the answer is a fault exactly when the graph then has a closed strong path.
 
-clean-by : {K : ℕ} {s : State} {r : Bytes} {o : Outcome} → Stepped K s r o → number (o .answer) ≡ 0 → cyclic K (o .state .graph) ≡ false
+clean-by : {K : ℕ} {s : State} {r : Bytes} {o : Result} → StepCases K s r o → number (o .answer) ≡ 0 → cyclic K (o .state .graph) ≡ false
 clean-by (was-refused x e) h = absurd (let n = refused-number x in omega arith)
 clean-by (was-clean e c) h = c
 clean-by (was-fault e c) h = absurd (omega arith)
+
+-- Of one record, in any state.
+pub step-exactly : (K : ℕ) (s : State) (r : Bytes) → (number (step K s r .answer) ≡ 0) ⊎ (number (step K s r .answer) ≡ 1)
+    → (number (step K s r .answer) ≡ 1) ↔ ClosedStrongPath K (step K s r .state .graph)
+step-exactly K s r (inl z) =
+    let none-there = clean-by (stepped K s r) z in
+    (λ h. absurd (omega arith), λ p. absurd (false≢true (sym none-there ∙ cyclic-complete K (step K s r .state .graph) p)))
+step-exactly K s r (inr z) = (λ h. cyclic-sound K (step K s r .state .graph) (faulted K s r h .cycle), λ p. z)
 
 clean-acyclic : (K : ℕ) (s : State) (rs : List Bytes) (j : ℕ) → j < length rs → getD (answers K s rs) j 0 ≡ 0
     → cyclic K (run K s (take (suc j) rs) .graph) ≡ false
@@ -160,8 +167,7 @@ fault-exactly K g rs i l (inr z) = (λ h. cyclic-sound K (graphAt K g rs i) (fau
 -- ---- What an accepted record has passed.
 
 in-order : (x : Refusal) → List·Memᴰ x order
-in-order unfit = List·Memᴰ·head refl
-in-order closed = search (List·Memᴰ·head, List·Memᴰ·tail) depth 10
+in-order closed = List·Memᴰ·head refl
 in-order malformed = search (List·Memᴰ·head, List·Memᴰ·tail) depth 10
 in-order noClass = search (List·Memᴰ·head, List·Memᴰ·tail) depth 10
 in-order noTransition = search (List·Memᴰ·head, List·Memᴰ·tail) depth 10

@@ -4,7 +4,7 @@ use mathlib.Core.List.{List, [], _∷_, _++_}
 use Prim.Native.Nat.{ℕ, zero, suc, _+_}
 use lib.Dec.{eqb}
 use Rattle.rules.specs.Record.{Event, acquire, release, interrupt}
-use Rattle.rules.specs.Context.{CoreState, Frame, nextState, frameOf}
+use Rattle.rules.specs.Context.{CoreState, taskBothOn, Frame, nextState, frameOf}
 
 -- The letters of document 001. E is an exclusive holder, S a shared one (either read).
 -- R is a recursive reader who waits, N anyone else who waits.
@@ -26,7 +26,16 @@ sameSecond R N = false
 sameSecond N R = false
 sameSecond N N = true
 
--- Modes: 0 exclusive, 1 non-recursive read, 2 recursive read.
+-- "Modes of a take: 0 exclusive, 1 non-recursive read, 2 recursive read."
+abbrev pub exclusive : ℕ
+exclusive = 0
+
+abbrev pub read : ℕ
+read = 1
+
+abbrev pub recursive : ℕ
+recursive = 2
+
 pub record HeldLock : Type 0 where
   pub class : ℕ
   pub mode : ℕ
@@ -68,7 +77,7 @@ pub record Core : Type 0 where
 
 -- "a fresh core is in state 0", with no lock held
 abbrev pub freshCore : Core
-freshCore = record { state = 0; held = λ f. [] }
+freshCore = record { state = taskBothOn; held = λ f. [] }
 
 abbrev pub current : Core → List HeldLock
 current c = c .held (frameOf (c .state))

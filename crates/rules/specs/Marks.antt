@@ -3,7 +3,7 @@ use mathlib.Core.Bool.{Bool, true, false, _&&_, _||_}
 use mathlib.Core.List.{List}
 use Prim.Native.Nat.{ℕ}
 use lib.Dec.{leb, eqb}
-use Rattle.rules.specs.Context.{CoreState, taskBothOn, taskSoftOff, softHardOn, softHardOff, hardOverBothOn}
+use Rattle.rules.specs.Context.{CoreState, taskBothOn, taskSoftOff, softHardOn, softHardOff, mayHoldHard}
 use Rattle.rules.specs.HeldLocks.{First, Second, E, S, R, N, sameFirst, sameSecond, HeldLock, firstOf, secondOf, someHeld, Core, current}
 
 -- Hard or soft interrupts.
@@ -17,7 +17,7 @@ pub data Usage : Type 0 where
 
 -- "Hard-safe in 6-8; soft-safe in 4-5; hard-unsafe in 0, 1, 4; soft-unsafe in 0 only"
 abbrev pub setIn : Level → Usage → CoreState → Bool
-setIn hardIrq (safe b) s = leb hardOverBothOn s
+setIn hardIrq (safe b) s = mayHoldHard s
 setIn softIrq (safe b) s = eqb s softHardOn || eqb s softHardOff
 setIn hardIrq (unsafe a) s = eqb s taskBothOn || eqb s taskSoftOff || eqb s softHardOn
 setIn softIrq (unsafe a) s = eqb s taskBothOn

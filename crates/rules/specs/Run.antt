@@ -27,7 +27,7 @@ start = startingFrom emptyGraph
 
 abbrev pub situation : ℕ → State → Bytes → Situation
 situation K s r =
-    record { is-unfit = false; is-closed = s .is-closed; classes = K; core = s .cores (coreOf r); bytes = r }
+    record { is-closed = s .is-closed; classes = K; core = s .cores (coreOf r); bytes = r }
 
 -- What an accepted record does, where its core stands as `core`: it draws lock dependencies from the core as it stood and sets marks from
 -- the core as it then stands.
@@ -46,20 +46,20 @@ accept s r = acceptOn (s .cores (coreOf r)) s r
 abbrev pub close : State → State
 close s = record { is-closed = true; cores = s .cores; graph = s .graph }
 
-pub record Outcome : Type 0 where
+pub record Result : Type 0 where
   pub answer : Answer
   pub state : State
 
 -- "accepted, a closed strong path exists": the answer is a fault and the validator is closed.
-abbrev pub decided : Bool → State → Outcome
+abbrev pub decided : Bool → State → Result
 decided true s = record { answer = fault; state = close s }
 decided false s = record { answer = clean; state = s }
 
-abbrev pub settled : ℕ → State → Bytes → Option Refusal → Outcome
-settled K s r (some x) = record { answer = refused x; state = s }
+abbrev pub settled : ℕ → State → Bytes → Option Refusal → Result
+settled K s r (some why) = record { answer = refused why; state = s }
 settled K s r none = let t = accept s r in decided (cyclic K (t .graph)) t
 
-abbrev pub step : ℕ → State → Bytes → Outcome
+abbrev pub step : ℕ → State → Bytes → Result
 step K s r = settled K s r (refusal (situation K s r))
 
 -- The answers' numbers for a list of records, refused ones included, one record a call.

@@ -7,11 +7,11 @@ use lib.Dec.{leb, eqb}
 use lib.ListN.{length}
 use Rattle.rules.specs.Limits.{maxDepth}
 use Rattle.rules.specs.Record.{Bytes, Event, acquire, release, interrupt, eventOf, isMalformed}
-use Rattle.rules.specs.Context.{nextState, leavesHandler, x}
+use Rattle.rules.specs.Context.{noState, nextState, leavesHandler}
 use Rattle.rules.specs.HeldLocks.{Core, current, isHeld, HeldLock}
 
 pub data Refusal : Type 0 where
-  unfit closed malformed noClass noTransition stillHeld notHeld tooDeep : Refusal
+  closed malformed noClass noTransition stillHeld notHeld tooDeep : Refusal
 
 -- What a step answers. Opening answers 0 or 2.
 pub data Answer : Type 0 where
@@ -19,7 +19,6 @@ pub data Answer : Type 0 where
   refused : Refusal → Answer
 
 abbrev pub refusalNumber : Refusal → ℕ
-refusalNumber unfit = 11
 refusalNumber closed = 10
 refusalNumber malformed = 3
 refusalNumber noClass = 4
@@ -33,14 +32,20 @@ number clean = 0
 number fault = 1
 number (refused r) = refusalNumber r
 
--- "Order: 11, 10, 3, 4, 6, 7, 5, 8."
-abbrev pub order : List Refusal
-order = unfit ∷ closed ∷ malformed ∷ noClass ∷ noTransition ∷ stillHeld ∷ notHeld ∷ tooDeep ∷ []
+-- 2 and 11 are about the lent buffers, of which the rules know nothing. Opening gives 2 (crates/opening/specs); the step and the question give 11
+-- before anything below is looked at (crates/validator/specs, crates/question/specs).
+abbrev pub badOpening : ℕ
+badOpening = 2
 
--- What the conditions read: whether the buffers are unfit (a fact about bytes, and false of the rules alone), whether the validator is closed,
--- K, the core as it stands, and the record.
+abbrev pub unfit : ℕ
+unfit = 11
+
+-- "Order: 11, 10, 3, 4, 6, 7, 5, 8", from 10 on.
+abbrev pub order : List Refusal
+order = closed ∷ malformed ∷ noClass ∷ noTransition ∷ stillHeld ∷ notHeld ∷ tooDeep ∷ []
+
+-- What the conditions read: whether the validator is closed, K, the core as it stands, and the record.
 pub record Situation : Type 0 where
-  pub is-unfit : Bool
   pub is-closed : Bool
   pub classes : ℕ
   pub core : Core
@@ -56,7 +61,7 @@ classMissing K (interrupt e) = false
 abbrev pub transitionMissing : Core → Event → Bool
 transitionMissing core (acquire c m) = false
 transitionMissing core (release c) = false
-transitionMissing core (interrupt e) = eqb (nextState (core .state) e) x
+transitionMissing core (interrupt e) = eqb (nextState (core .state) e) noState
 
 abbrev pub someLock : List HeldLock → Bool
 someLock [] = false
@@ -66,7 +71,7 @@ someLock (h ∷ hs) = true
 abbrev pub leavesLocked : Core → Event → Bool
 leavesLocked core (acquire c m) = false
 leavesLocked core (release c) = false
-leavesLocked core (interrupt e) = leavesHandler e && not (eqb (nextState (core .state) e) x) && someLock (current core)
+leavesLocked core (interrupt e) = leavesHandler e && not (eqb (nextState (core .state) e) noState) && someLock (current core)
 
 -- "release, class not held in this frame"
 abbrev pub releaseMissing : Core → Event → Bool
@@ -81,7 +86,6 @@ frameFull core (release c) = false
 frameFull core (interrupt e) = false
 
 abbrev pub applies : Refusal → Situation → Bool
-applies unfit s = s .is-unfit
 applies closed s = s .is-closed
 applies malformed s = isMalformed (s .bytes)
 applies noClass s = classMissing (s .classes) (eventOf (s .bytes))

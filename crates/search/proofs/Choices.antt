@@ -1,4 +1,4 @@
--- Laws of sets of states and of the choice of a dependency. Assumes nothing.
+-- Laws of sets of arrivals and of the choice of a dependency. Assumes nothing.
 use mathlib.Core.Path.{_≡_, refl, sym, ap, _∙_, subst}
 use mathlib.Core.Logic.{_⊎_, inl, inr, ⊎-elim}
 use mathlib.Core.List.{List}
@@ -12,13 +12,13 @@ use Rattle.words.proofs.Words.{bit-zero, bit-cases, bit-two, bit-or, ones-mono,
 use Rattle.rules.specs.HeldLocks.{First, Second, E, S, R, N}
 use Rattle.rules.specs.Graph.{kindBitBy}
 use Rattle.search.specs.Rows.{firstIndex, firstAt, rowAt, Successor}
-use Rattle.search.specs.States.{wordOf, In, size, Fits, Put, kindBy, byLetter, Chosen, Wanted, Closing, Undone, Union, Onward}
-use Rattle.search.specs.Trails.{Pushed}
-use Rattle.search.specs.declared.States.{States}
+use Rattle.search.specs.Arrivals.{wordBy, In, size, Fits, Put, kindBy, byLetter, Chosen, Wanted, Closing, Undone, Union, Onward}
+use Rattle.search.specs.Trails.{Stacked}
+use Rattle.search.specs.declared.Arrivals.{Arrivals}
 use Rattle.search.specs.declared.Stack.{Stack}
 use Rattle.search.specs.declared.Choice.{Choice}
 
--- ---- Words and sets of states.
+-- ---- Words and sets of arrivals.
 
 pub not-in : (w j : ℕ) → (bit w j ≡ 1 → ⊥) → bit w j ≡ 0
 not-in w j n = ⊎-elim (λ y. absurd (n y)) (λ y. y) (bit-cases w j)
@@ -26,11 +26,11 @@ not-in w j n = ⊎-elim (λ y. absurd (n y)) (λ y. y) (bit-cases w j)
 pub empty : {w : ℕ} (j : ℕ) → w ≡ 0 → bit w j ≡ 1 → ⊥
 empty {w} j e h = let z : bit w j ≡ 0 = rw e (bit-zero j) in omega arith
 
-pub no-state : (j : ℕ) (b : Second) → In (record { r = 0; n = 0 }) j b → ⊥
-no-state j R h = empty j refl h
-no-state j N h = empty j refl h
+pub no-arrival : (j : ℕ) (b : Second) → In (record { r = 0; n = 0 }) j b → ⊥
+no-arrival j R h = empty j refl h
+no-arrival j N h = empty j refl h
 
-pub put-r : {s : States} {c x : ℕ} → Fits (record { r = x; n = s .n }) → With (s .r) c x → Put c R s (record { r = x; n = s .n })
+pub put-r : {s : Arrivals} {c x : ℕ} → Fits (record { r = x; n = s .n }) → With (s .r) c x → Put c R s (record { r = x; n = s .n })
 put-r f w =
     record {
       there = w .there;
@@ -40,7 +40,7 @@ put-r f w =
       fits = f;
     }
 
-pub put-n : {s : States} {c x : ℕ} → Fits (record { r = s .r; n = x }) → With (s .n) c x → Put c N s (record { r = s .r; n = x })
+pub put-n : {s : Arrivals} {c x : ℕ} → Fits (record { r = s .r; n = x }) → With (s .n) c x → Put c N s (record { r = s .r; n = x })
 put-n f w =
     record {
       there = w .there;
@@ -50,11 +50,11 @@ put-n f w =
       fits = f;
     }
 
-pub size-bound : {s : States} → Fits s → size s ≤ 128
+pub size-bound : {s : Arrivals} → Fits s → size s ≤ 128
 size-bound {s} f = omega (arith, ones-le 64 (s .r) (f .r), ones-le 64 (s .n) (f .n))
 
 -- A new member makes a set larger.
-pub grows : {s : States} (t : States) {c : ℕ} (a : Second) → Fits s → c < 64 → ((j : ℕ) (b : Second) → In s j b → In t j b) → bit (wordOf s a) c ≡ 0 → In t c a
+pub grows : {s : Arrivals} (t : Arrivals) {c : ℕ} (a : Second) → Fits s → c < 64 → ((j : ℕ) (b : Second) → In s j b → In t j b) → bit (wordBy s a) c ≡ 0 → In t c a
     → size s + 1 ≤ size t
 grows {s} t {c} R f l k o m =
     omega (arith, ones-more (s .r) (t .r) c (f .r) l (λ j h. k j R h) o m, ones-mono 64 (s .n) (t .n) (f .n) (λ j h. k j N h))
@@ -71,13 +71,13 @@ union-law w v =
 
 -- ---- The stack.
 
-pub pushed-e : {k : Stack} {x on e : ℕ} → With (k .on) x on → With (k .e) x e → Pushed E k x (record { on = on; e = e })
+pub pushed-e : {k : Stack} {x on e : ℕ} → With (k .on) x on → With (k .e) x e → Stacked E k x (record { on = on; e = e })
 pushed-e w v = record { on = w; kept = v .kept; only = λ j h. ⊎-elim (λ o. inl o) (λ q. inr (q, refl)) (v .only j h); there = λ q. v .there }
 
 pub S-not-E : _≡_ {A = First} S E → ⊥
 S-not-E q = let z : _≡_ {A = ℕ} 2 0 = ap firstIndex q in omega arith
 
-pub pushed-s : {k : Stack} {x on : ℕ} → With (k .on) x on → Pushed S k x (record { on = on; e = k .e })
+pub pushed-s : {k : Stack} {x on : ℕ} → With (k .on) x on → Stacked S k x (record { on = on; e = k .e })
 pushed-s w = record { on = w; kept = λ j h. h; only = λ j h. inl h; there = λ q. absurd (S-not-E q) }
 
 -- ---- Choices.
@@ -157,7 +157,7 @@ module _ (rows : List ℕ) (x first : ℕ) (e : first ≡ firstIndex (firstAt fi
       (λ b. elim b [ R ↦ λ j s m. (r .left j m, r .right j m) | N ↦ λ j s m. (n .left j m, n .right j m) ])
       (λ b. elim b [ R ↦ r .all | N ↦ n .all ])
 
-  pub undone-law : {s : States} {to-r to-n : ℕ} {c : Choice} → Without (getD rows (4 * x + first) 0) (s .r) to-r
+  pub undone-law : {s : Arrivals} {to-r to-n : ℕ} {c : Choice} → Without (getD rows (4 * x + first) 0) (s .r) to-r
       → Without (getD rows (4 * x + first + 1) 0) (s .n) to-n → Chosen (firstAt first) to-r to-n c → Undone rows x (firstAt first) s c
   undone-law r n h =
       let r = rw row-r at r in
@@ -166,7 +166,7 @@ module _ (rows : List ℕ) (x first : ℕ) (e : first ≡ firstIndex (firstAt fi
       (λ b. elim b [ R ↦ λ j s m. (r .from j m, (s, r .out j m)) | N ↦ λ j s m. (n .from j m, (s, n .out j m)) ])
       (λ b. elim b [ R ↦ λ j m p. r .all j (p .0) m (p .1) | N ↦ λ j m p. n .all j (p .0) m (p .1) ])
 
-  pub onward-law : {s t : States} → Union (s .r) (getD rows (4 * x + first) 0) (t .r) → Union (s .n) (getD rows (4 * x + first + 1) 0) (t .n)
+  pub onward-law : {s t : Arrivals} → Union (s .r) (getD rows (4 * x + first) 0) (t .r) → Union (s .n) (getD rows (4 * x + first + 1) 0) (t .n)
       → Onward rows x (firstAt first) s t
   onward-law r n =
       let r = rw row-r at r in

@@ -9,8 +9,8 @@ use lib.ListN.{getD}
 use borrow.Author.Tests.{lt-ltb, le-ltb}
 use Rattle.rules.specs.StrongPath.{Joint}
 use Rattle.search.specs.Rows.{Successor}
-use Rattle.search.specs.Trails.{trailClass, trailByte, trailKind, Closed, LowestAt, Place, Written, Copied, InOrder}
-use Rattle.search.specs.Reports.{classAt, kindAt, next, Searched}
+use Rattle.search.specs.Trails.{trailClass, trailByte, trailKind, Closed, LowestAt, Place, Placed, Copied, InOrder}
+use Rattle.search.specs.Reports.{foundClass, foundKind, nextPlace, Searched}
 use Rattle.search.specs.declared.Trail.{Trail}
 use Rattle.search.specs.declared.Found.{Found}
 
@@ -34,7 +34,7 @@ pub place-round : (q n m at : ℕ) → at ≡ 0 → m < n → q < n → Place q 
 place-round q n m at z h hq (inl e) = inr (omega arith, omega arith)
 place-round q n m at z h hq (inr e) = absurd (omega arith)
 
-pub copied-more : {u : Trail} {q m at : ℕ} {f g : Found} → Copied u q m f → at < u .n → Place q (u .n) m at → Written f m (trailClass u at) (trailByte u at) g
+pub copied-more : {u : Trail} {q m at : ℕ} {f g : Found} → Copied u q m f → at < u .n → Place q (u .n) m at → Placed f m (trailClass u at) (trailByte u at) g
     → Copied u q (m + 1) g
 copied-more {u} {q} {m} {at} {f} {g} c h p w =
     let here : (i : ℕ) → i < u .n → Place q (u .n) m i → at ≡ i = λ i hi y. same-place q (u .n) m at i h hi p y in
@@ -84,7 +84,7 @@ module _ {rows : List ℕ} {K : ℕ} {u : Trail} {f : Found} (h : Closed rows K 
   at : (m : ℕ) → m < u .n → At (t .from) (u .n) m
   at m l = at-place (t .from) (u .n) m (t .lowest .within) l
 
-  class-is : {m : ℕ} (l : m < u .n) (p : At (t .from) (u .n) m) → classAt f m ≡ trailClass u (p .at)
+  class-is : {m : ℕ} (l : m < u .n) (p : At (t .from) (u .n) m) → foundClass f m ≡ trailClass u (p .at)
   class-is {m} l p = t .copied .classes m (p .at) l (p .less) (p .place)
 
   byte-is : {m : ℕ} (l : m < u .n) (p : At (t .from) (u .n) m) → getD (f .kinds) m 0 ≡ trailByte u (p .at)
@@ -92,7 +92,7 @@ module _ {rows : List ℕ} {K : ℕ} {u : Trail} {f : Found} (h : Closed rows K 
 
   -- One dependency and the next.
   abbrev Step : ℕ → ℕ → Type 0
-  Step m o = Successor rows (classAt f m) (kindAt f m) (classAt f o) × Joint (kindAt f m) (kindAt f o)
+  Step m o = Successor rows (foundClass f m) (foundKind f m) (foundClass f o) × Joint (foundKind f m) (foundKind f o)
 
   step-down : (i j : ℕ) → i < u .n → Down (u .n) i j → Successor rows (trailClass u i) (trailKind u i) (trailClass u j) × Joint (trailKind u i) (trailKind u j)
   step-down i j l (inl e) = rw e ((h .linked .drawn j (omega arith), h .linked .strong j (omega arith)))
@@ -104,7 +104,7 @@ module _ {rows : List ℕ} {K : ℕ} {u : Trail} {f : Found} (h : Closed rows K 
       let q = at o k in
       rw (class-is l p, class-is k q, byte-is l p, byte-is k q) (step-down (p .at) (q .at) (p .less) (d p q))
 
-  step-next : (m : ℕ) → m < u .n → Step m (next (f .n) m)
+  step-next : (m : ℕ) → m < u .n → Step m (nextPlace (f .n) m)
   step-next m l =
       rw (t .copied .n)
       (elim (decLt (suc m) (u .n)) [
@@ -134,7 +134,7 @@ module _ {rows : List ℕ} {K : ℕ} {u : Trail} {f : Found} (h : Closed rows K 
       record {
         none = λ z. absurd (omega (arith, h .linked .some));
         some = λ _ g r. record {
-          drawn = λ i l. r .sound (classAt f i) (kindAt f i) (classAt f (next (f .n) i)) (inside i (rw n at l)) (step-next i (rw n at l) .0);
+          drawn = λ i l. r .sound (foundClass f i) (foundKind f i) (foundClass f (nextPlace (f .n) i)) (inside i (rw n at l)) (step-next i (rw n at l) .0);
           strong = λ i l. step-next i (rw n at l) .1;
         };
         few = rw n (h .few);
@@ -149,9 +149,9 @@ module _ {rows : List ℕ} {K : ℕ} {u : Trail} {f : Found} (h : Closed rows K 
         lowest-first = λ i l.
             let k : i < u .n = rw n at l in
             let p = at i k in
-            let e : classAt f 0 ≡ trailClass u (t .from) = t .copied .classes 0 (t .from) (h .linked .some) (t .lowest .within) (inl (omega arith)) in
+            let e : foundClass f 0 ≡ trailClass u (t .from) = t .copied .classes 0 (t .from) (h .linked .some) (t .lowest .within) (inl (omega arith)) in
             rw (e, class-is k p) (t .lowest .least (p .at) (p .less));
       }
     where
-      inside : (i : ℕ) → i < u .n → classAt f i < K
+      inside : (i : ℕ) → i < u .n → foundClass f i < K
       inside i l = let p = at i l in rw (class-is l p) (h .linked .inside (p .at) (p .less))

@@ -14,13 +14,13 @@ use Rattle.rules.specs.StrongPath.{strongJoint, Dependency, Joint, StrongPath, 
 use Rattle.rules.specs.Decision.{cyclic}
 use Rattle.rules.proofs.Decided.{in-range, cyclic-sound}
 use Rattle.search.specs.Rows.{Successor, Rows, Ranged, Reached}
-use Rattle.search.specs.States.{wordOf, In, size, Fits, Put, kindBy, Union, Onward}
-use Rattle.search.specs.Trails.{Ends, ends, Closed, Settled, Given, Visited}
+use Rattle.search.specs.Arrivals.{wordBy, In, size, Fits, Put, kindBy, Union, Onward}
+use Rattle.search.specs.Trails.{Ends, ends, Closed, Exhausted, Given, Visited}
 use Rattle.search.specs.Reports.{Searched}
-use Rattle.search.specs.declared.States.{States}
+use Rattle.search.specs.declared.Arrivals.{Arrivals}
 use Rattle.search.specs.declared.Trail.{Trail}
 use Rattle.search.specs.declared.Found.{Found}
-use Rattle.search.proofs.Choices.{empty, no-state, size-bound}
+use Rattle.search.proofs.Choices.{empty, no-arrival, size-bound}
 use Rattle.search.proofs.Visits.{after-N, weaken}
 
 module _ {K : ℕ} {g : Graph} where
@@ -54,11 +54,11 @@ module _ {K : ℕ} {g : Graph} where
             let c = cyclic-sound K g e in
             absurd (no-closed (by-any (c .ends .second) (h (c .at) (starts-in (c .path)))) (c .path) refl (c .closing .strong))
 
-pub fresh-settled : {rows : List ℕ} → Settled rows (record { r = 0; n = 0 }) (record { r = 0; n = 0 })
-fresh-settled = record { kept = λ j b h. h; over = λ j b h. absurd (no-state j b h); fits = record { r = omega arith; n = omega arith } }
+pub fresh-settled : {rows : List ℕ} → Exhausted rows (record { r = 0; n = 0 }) (record { r = 0; n = 0 })
+fresh-settled = record { kept = λ j b h. h; over = λ j b h. absurd (no-arrival j b h); fits = record { r = omega arith; n = omega arith } }
 
 module _ {rows : List ℕ} {K : ℕ} where
-  pub none-law : {s : States} {f : Found} → f .n ≡ 0 → Settled rows s s → ((j : ℕ) → j < K → In s j N) → Searched K rows f
+  pub none-law : {s : Arrivals} {f : Found} → f .n ≡ 0 → Exhausted rows s s → ((j : ℕ) → j < K → In s j N) → Searched K rows f
   none-law z c all =
       record {
         none = λ _ g r. not-cyclic r (λ j l. c .over j N (all j l));
@@ -70,7 +70,7 @@ module _ {rows : List ℕ} {K : ℕ} where
         lowest-first = λ i l. absurd (omega arith);
       }
 
-  pub root : {c : ℕ} {s : States} → Ranged K rows → c < K → Settled rows s s → Given rows K c (record { on = 0; e = 0 }) s K
+  pub root : {c : ℕ} {s : Arrivals} → Ranged K rows → c < K → Exhausted rows s s → Given rows K c (record { on = 0; e = 0 }) s K
   root {c} ranged l settled =
       record {
         ranged = ranged;
@@ -85,7 +85,7 @@ module _ {rows : List ℕ} {K : ℕ} where
       }
 
   -- No class is on the stack, so a trail that is found is a cycle.
-  pub root-closed : {c : ℕ} {s : States} {u : Trail} → Visited rows K c N (record { on = 0; e = 0 }) K s u → (u .found ≡ 0 → ⊥) → Closed rows K u
+  pub root-closed : {c : ℕ} {s : Arrivals} {u : Trail} → Visited rows K c N (record { on = 0; e = 0 }) K s u → (u .found ≡ 0 → ⊥) → Closed rows K u
   root-closed {u = u} v n =
       let not-open : u .found ≡ 1 → ⊥ = λ e. empty (u .target) refl (v .open′ e .known) in
       v .closed (omega (arith, v .cases))
@@ -99,13 +99,13 @@ pub record Arrives (K : ℕ) (g : Graph) (c t : ℕ) (a : Second) : Type 0 where
   pub path : StrongPath K g c begins t ends-by
   pub arrival : ends-by .second ≡ a
 
--- t is s with the states that follow x, arrived at by a.
-pub record After (rows : List ℕ) (x : ℕ) (a : Second) (s t : States) : Type 0 where
+-- t is s with the arrivals that follow x, arrived at by a.
+pub record After (rows : List ℕ) (x : ℕ) (a : Second) (s t : Arrivals) : Type 0 where
   pub kept : (j : ℕ) (b : Second) → In s j b → In t j b
   pub all : (j : ℕ) (f : First) (b : Second) → strongJoint a f ≡ true → Successor rows x (kindBy f b) j → In t j b
   pub only : (j : ℕ) (b : Second) → In t j b → In s j b ⊎ ((f : First) × (strongJoint a f ≡ true) × Successor rows x (kindBy f b) j)
 
-pub after-r : {rows : List ℕ} {x : ℕ} {s t : States} → Onward rows x E s t → After rows x R s t
+pub after-r : {rows : List ℕ} {x : ℕ} {s t : Arrivals} → Onward rows x E s t → After rows x R s t
 after-r o =
     record {
       kept = o .kept;
@@ -113,7 +113,7 @@ after-r o =
       only = λ j b h. ⊎-elim (λ y. inl y) (λ m. inr (E, refl, m)) (o .only j b h);
     }
 
-pub after-n : {rows : List ℕ} {x : ℕ} {s t u : States} → Onward rows x E s t → Onward rows x S t u → After rows x N s u
+pub after-n : {rows : List ℕ} {x : ℕ} {s t u : Arrivals} → Onward rows x E s t → Onward rows x S t u → After rows x N s u
 after-n o p =
     record {
       kept = λ j b h. p .kept j b (o .kept j b h);
@@ -122,32 +122,32 @@ after-n o p =
     }
 
 -- What is reached from class c so far, and what of it is expanded.
-pub record Progress (rows : List ℕ) (K c : ℕ) (s e : States) : Type 0 where
+pub record Progress (rows : List ℕ) (K c : ℕ) (s e : Arrivals) : Type 0 where
   pub inside : (j : ℕ) (b : Second) → In s j b → j < K
   pub sound : (g : Graph) → Rows K g rows → (j : ℕ) (b : Second) → In s j b → Arrives K g c j b
   pub first : (j : ℕ) (f : First) (b : Second) → Successor rows c (kindBy f b) j → In s j b
-  pub next : (i : ℕ) (a : Second) → In e i a → (j : ℕ) (f : First) (b : Second) → strongJoint a f ≡ true → Successor rows i (kindBy f b) j → In s j b
+  pub nextPlace : (i : ℕ) (a : Second) → In e i a → (j : ℕ) (f : First) (b : Second) → strongJoint a f ≡ true → Successor rows i (kindBy f b) j → In s j b
   pub fits : Fits e
 
-pub progress-less : {e d : States} {i : ℕ} (a : Second) → Put i a e d → bit (wordOf e a) i ≡ 0 → 128 - size d < 128 - size e
+pub progress-less : {e d : Arrivals} {i : ℕ} (a : Second) → Put i a e d → bit (wordBy e a) i ≡ 0 → 128 - size d < 128 - size e
 progress-less a p z = omega (arith, p .more z, size-bound (p .fits))
 
 module _ {rows : List ℕ} {K c : ℕ} (ranged : Ranged K rows) (less : c < K) where
-  pub progress-none : {s : States} → After rows c N (record { r = 0; n = 0 }) s → Progress rows K c s (record { r = 0; n = 0 })
+  pub progress-none : {s : Arrivals} → After rows c N (record { r = 0; n = 0 }) s → Progress rows K c s (record { r = 0; n = 0 })
   progress-none {s} o =
       record {
         inside = λ j b h. let m = new j b h in ranged .inside c (kindBy (m .0) b) j less (m .2);
         sound = λ g r j b h. let m = new j b h in
             record { begins = kindBy (m .0) b; ends-by = kindBy (m .0) b; path = one record { drawn = r .sound c (kindBy (m .0) b) j less (m .2) }; arrival = refl };
         first = λ j f b. o .all j f b (after-N f);
-        next = λ i a h. absurd (no-state i a h);
+        nextPlace = λ i a h. absurd (no-arrival i a h);
         fits = record { r = omega arith; n = omega arith };
       }
     where
       new : (j : ℕ) (b : Second) → In s j b → (f : First) × (strongJoint N f ≡ true) × Successor rows c (kindBy f b) j
-      new j b h = ⊎-elim (λ z. absurd (no-state j b z)) (λ m. m) (o .only j b h)
+      new j b h = ⊎-elim (λ z. absurd (no-arrival j b z)) (λ m. m) (o .only j b h)
 
-  pub progress-more : {s e t d : States} {i : ℕ} (a : Second) → Progress rows K c s e → In s i a → Put i a e d → After rows i a s t → Progress rows K c t d
+  pub progress-more : {s e t d : Arrivals} {i : ℕ} (a : Second) → Progress rows K c s e → In s i a → Put i a e d → After rows i a s t → Progress rows K c t d
   progress-more {s} {e} {t} {d} {i} a p h put o =
       record {
         inside = λ j b m. ⊎-elim (λ y. p .inside j b y) (λ n. ranged .inside i (kindBy (n .0) b) j (p .inside i a h) (n .2)) (o .only j b m);
@@ -161,7 +161,7 @@ module _ {rows : List ℕ} {K c : ℕ} (ranged : Ranged K rows) (less : c < K) w
             })
             (o .only j b m);
         first = λ j f b m. o .kept j b (p .first j f b m);
-        next = λ x b m j f v z n. ⊎-elim (λ y. o .kept j v (p .next x b y j f v z n))
+        nextPlace = λ x b m j f v z n. ⊎-elim (λ y. o .kept j v (p .nextPlace x b y j f v z n))
             (λ q. o .all j f v (subst (λ (w : Second). strongJoint w f ≡ true) (q .1) z) (subst (λ (w : ℕ). Successor rows w (kindBy f v) j) (q .0) n)) (put .only x b m);
         fits = put .fits;
       }
@@ -170,7 +170,7 @@ none-left : {w v r : ℕ} → Without w v r → r ≡ 0 → (j : ℕ) → j < 64
 none-left {v = v} wo e j l m = ⊎-elim (λ y. y) (λ y. absurd (empty j e (wo .all j l m y))) (bit-cases v j)
 
 module _ {rows : List ℕ} {K c : ℕ} where
-  pub reached-law : {s e : States} {w r n : ℕ} → Ranged K rows → Progress rows K c s e → Without (s .r) (e .r) r → r ≡ 0 → Without (s .n) (e .n) n → n ≡ 0
+  pub reached-law : {s e : Arrivals} {w r n : ℕ} → Ranged K rows → Progress rows K c s e → Without (s .r) (e .r) r → r ≡ 0 → Without (s .n) (e .n) n → n ≡ 0
       → Union (s .r) (s .n) w → Reached K rows c w
   reached-law {s} {e} {w} ranged p wr zr wn zn u =
       record {
@@ -196,4 +196,4 @@ module _ {rows : List ℕ} {K c : ℕ} where
       along g r (more {f = x} {m = m} {k = k} {k′ = k′} d i q) h =
           let b = k .second in
           let y = all m b (h m b (r .complete x k m (d .drawn))) in
-          along g r q (λ j v n. p .next m b y j (k′ .first) v (i .strong) n)
+          along g r q (λ j v n. p .nextPlace m b y j (k′ .first) v (i .strong) n)

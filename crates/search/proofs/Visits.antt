@@ -13,9 +13,10 @@ use Rattle.rules.specs.HeldLocks.{First, Second, E, S, R, N}
 use Rattle.rules.specs.Graph.{Kind, kindBit, kindBitBy}
 use Rattle.rules.specs.StrongPath.{strongJoint}
 use Rattle.search.specs.Rows.{Successor, Ranged, secondIndex}
-use Rattle.search.specs.States.{wordOf, In, size, Put, kindBy, stackOf, Closing, Undone}
-use Rattle.search.specs.Trails.{kindOf, trailClass, trailByte, trailKind, Ends, ends, Linked, Open, Closed, Settled, Given, Visited, Pushed, Finished, Extends, Follows, Starts}
-use Rattle.search.specs.declared.States.{States}
+use Rattle.search.specs.Arrivals.{wordBy, In, size, Put, kindBy, stackOf, Closing, Undone}
+use Rattle.layout.specs.Decoding.{kindOfByte}
+use Rattle.search.specs.Trails.{trailClass, trailByte, trailKind, Ends, ends, Linked, Open, Closed, Exhausted, Given, Visited, Stacked, Finished, Extends, Follows, Starts}
+use Rattle.search.specs.declared.Arrivals.{Arrivals}
 use Rattle.search.specs.declared.Stack.{Stack}
 use Rattle.search.specs.declared.Choice.{Choice}
 use Rattle.search.specs.declared.Trail.{Trail}
@@ -32,7 +33,7 @@ started-law {u} {v} {x} {m} e h =
       open′ = h .open′;
     }
 
-kind-of : (f : First) (b : Second) → kindOf (kindBitBy f b) ≡ kindBy f b
+kind-of : (f : First) (b : Second) → kindOfByte (kindBitBy f b) ≡ kindBy f b
 kind-of E R = refl
 kind-of E N = refl
 kind-of S R = refl
@@ -53,7 +54,7 @@ pub weaken : (f : First) → strongJoint R f ≡ true → strongJoint N f ≡ tr
 weaken f h = after-N f
 
 -- What holds while x, arrived at by a, is on the stack and is left by the first letter f.
-pub record Frame (rows : List ℕ) (K : ℕ) (f : First) (x : ℕ) (a : Second) (k l : Stack) (left : ℕ) (s : States) : Type 0 where
+pub record Visiting (rows : List ℕ) (K : ℕ) (f : First) (x : ℕ) (a : Second) (k l : Stack) (left : ℕ) (s : Arrivals) : Type 0 where
   pub ranged : Ranged K rows
   pub class : x < K
   pub fresh : bit (k .on) x ≡ 0
@@ -63,33 +64,33 @@ pub record Frame (rows : List ℕ) (K : ℕ) (f : First) (x : ℕ) (a : Second) 
   pub enough : K ≤ left - 1 + ones (l .on)
   pub some : 1 ≤ left
   pub least : left ≤ K
-  pub pushed : Pushed f k x l
+  pub pushed : Stacked f k x l
   pub left-by : bit (l .e) x ≡ 1 → f ≡ E
   pub goes : strongJoint a f ≡ true
 
--- A turn of the loop: c leads from class x to a state that is not done, if it is not 0.
-pub record Turn (rows : List ℕ) (K : ℕ) (f : First) (x : ℕ) (a : Second) (k l : Stack) (left : ℕ) (s₀ u : States) (c : Choice) : Type 0 where
-  pub frame : Frame rows K f x a k l left s₀
+-- A turn of the loop: c leads from class x to a arrival that is not done, if it is not 0.
+pub record Turn (rows : List ℕ) (K : ℕ) (f : First) (x : ℕ) (a : Second) (k l : Stack) (left : ℕ) (s₀ u : Arrivals) (c : Choice) : Type 0 where
+  pub frame : Visiting rows K f x a k l left s₀
   pub none-back : (b : Second) (j : ℕ) → Successor rows x (kindBy f b) j → bit (stackOf l b) j ≡ 1 → ⊥
-  pub settled : Settled rows s₀ u
+  pub settled : Exhausted rows s₀ u
   pub undone : Undone rows x f u c
 
 module _ {rows : List ℕ} where
-  pub settled-self : {s t : States} → Settled rows s t → Settled rows t t
+  pub settled-self : {s t : Arrivals} → Exhausted rows s t → Exhausted rows t t
   settled-self c = record { kept = λ j b h. h; over = c .over; fits = c .fits }
 
-  pub settled-trans : {s t u : States} → Settled rows s t → Settled rows t u → Settled rows s u
+  pub settled-trans : {s t u : Arrivals} → Exhausted rows s t → Exhausted rows t u → Exhausted rows s u
   settled-trans c d = record { kept = λ j b h. d .kept j b (c .kept j b h); over = d .over; fits = d .fits }
 
   again : {x : ℕ} {a : Second} → Ends rows x a → (j : ℕ) (k : Kind) → strongJoint a (k .first) ≡ true → Successor rows x k j → Ends rows j (k .second)
   again (ends g) = g
 
 module _ {rows : List ℕ} {K : ℕ} where
-  pub small : {x left : ℕ} {k : Stack} {s : States} → Given rows K x k s left → x < 64
+  pub small : {x left : ℕ} {k : Stack} {s : Arrivals} → Given rows K x k s left → x < 64
   small g = omega (arith, g .ranged .few, g .class)
 
-  pub frame : {f : First} {x left : ℕ} {a : Second} {k l : Stack} {s t : States} → Given rows K x k s left → Pushed f k x l → strongJoint a f ≡ true
-      → Settled rows s t → (f ≡ E) ⊎ In t x R → Frame rows K f x a k l left t
+  pub frame : {f : First} {x left : ℕ} {a : Second} {k l : Stack} {s t : Arrivals} → Given rows K x k s left → Stacked f k x l → strongJoint a f ≡ true
+      → Exhausted rows s t → (f ≡ E) ⊎ In t x R → Visiting rows K f x a k l left t
   frame {x = x} {k = k} {l} {s} {t} g p j c by =
       let more = p .on .more (g .fresh) in
       let inside = p .on .within K (g .inside) (g .class) in
@@ -112,24 +113,24 @@ module _ {rows : List ℕ} {K : ℕ} where
 
   -- ---- The outcomes.
 
-  module _ {x left : ℕ} {a : Second} {k : Stack} {s : States} where
+  module _ {x left : ℕ} {a : Second} {k : Stack} {s : Arrivals} where
     visited-closed : {u : Trail} → u .found ≡ 2 → Closed rows K u → Visited rows K x a k left s u
     visited-closed e h = record { cases = omega arith; settled = λ z. absurd (omega arith); open′ = λ z. absurd (omega arith); closed = λ z. h }
 
     visited-open : {u : Trail} → u .found ≡ 1 → Open rows K x a k left u → Visited rows K x a k left s u
     visited-open e h = record { cases = omega arith; settled = λ z. absurd (omega arith); open′ = λ z. h; closed = λ z. absurd (omega arith) }
 
-    visited-settled : {t : States} {u : Trail} → Finished t u → Settled rows s t → In t x a → Visited rows K x a k left s u
+    visited-settled : {t : Arrivals} {u : Trail} → Finished t u → Exhausted rows s t → In t x a → Visited rows K x a k left s u
     visited-settled {t} {u} e c m =
         record {
           cases = omega (arith, e .found);
-          settled = λ z. subst (λ (o : States). Settled rows s o × In o x a) (sym (e .done)) (c, m);
+          settled = λ z. subst (λ (o : Arrivals). Exhausted rows s o × In o x a) (sym (e .done)) (c, m);
           open′ = λ z. absurd (omega (arith, e .found));
           closed = λ z. absurd (omega (arith, e .found));
         }
 
   -- A visit as after R is the first part of one as after N.
-  pub found-n : {x left : ℕ} {k : Stack} {s : States} {u : Trail} → Visited rows K x R k left s u → (u .found ≡ 0 → ⊥) → Visited rows K x N k left s u
+  pub found-n : {x left : ℕ} {k : Stack} {s : Arrivals} {u : Trail} → Visited rows K x R k left s u → (u .found ≡ 0 → ⊥) → Visited rows K x N k left s u
   found-n {u = u} v n =
       record {
         cases = v .cases;
@@ -150,7 +151,7 @@ module _ {rows : List ℕ} {K : ℕ} where
 
   -- ---- Trails of class x, which is left by a dependency of the first letter f.
 
-  module _ {f : First} {x left : ℕ} {a : Second} {k l : Stack} {s₀ : States} (fr : Frame rows K f x a k l left s₀) where
+  module _ {f : First} {x left : ℕ} {a : Second} {k l : Stack} {s₀ : Arrivals} (fr : Visiting rows K f x a k l left s₀) where
     -- How a trail comes back to y: it may go on from there.
     comes-back : (y : ℕ) (b : Second) → bit (stackOf l b) y ≡ 1 → (bit (l .on) y ≡ 1) × (b ≡ R → bit (l .e) y ≡ 1)
     comes-back y R h = (fr .e-on y h, λ _. h)
@@ -166,7 +167,7 @@ module _ {rows : List ℕ} {K : ℕ} where
     e-below : {y : ℕ} → bit (l .e) y ≡ 1 → (y ≡ x → ⊥) → bit (k .e) y ≡ 1
     e-below {y} h n = ⊎-elim (λ o. o) (λ e. absurd (n (e .0))) (fr .pushed .only y h)
 
-    start-by : {y : ℕ} {s : States} {u : Trail} (b : Second) → Successor rows x (kindBy f b) y → bit (stackOf l b) y ≡ 1 → Starts x (kindBitBy f b) y u
+    start-by : {y : ℕ} {s : Arrivals} {u : Trail} (b : Second) → Successor rows x (kindBy f b) y → bit (stackOf l b) y ≡ 1 → Starts x (kindBitBy f b) y u
         → Visited rows K x a k left s u
     start-by {y} {s} {u} b su on st =
         elim (ℕ-discrete y x) [ yes e ↦ visited-closed (st .closed e) (closed e) | no n ↦ visited-open (st .open′ n) (opened n) ]
@@ -178,7 +179,7 @@ module _ {rows : List ℕ} {K : ℕ} where
         last = omega (arith, st .n)
 
         kind-is : trailKind u 0 ≡ kindBy f b
-        kind-is = ap kindOf (st .kind) ∙ kind-of f b
+        kind-is = ap kindOfByte (st .kind) ∙ kind-of f b
 
         at-0 : (i : ℕ) → i < u .n → i ≡ 0
         at-0 i h = omega (arith, st .n)
@@ -216,13 +217,13 @@ module _ {rows : List ℕ} {K : ℕ} where
               off = λ i h. rw (at-0 i h, st .class) (fr .fresh);
             }
 
-    pub start-law : {s : States} {u : Trail} {c : Choice} → Closing rows x f l c → (c .kind ≡ 0 → ⊥) → Starts x (c .kind) (c .to) u → Visited rows K x a k left s u
+    pub start-law : {s : Arrivals} {u : Trail} {c : Choice} → Closing rows x f l c → (c .kind ≡ 0 → ⊥) → Starts x (c .kind) (c .to) u → Visited rows K x a k left s u
     start-law {s} {u} {c} cl n st = elim (ℕ-discrete (c .kind) (kindBitBy f N)) [ yes e ↦ go N e | no q ↦ go R (cl .either n q) ]
       where
         go : (b : Second) → c .kind ≡ kindBitBy f b → Visited rows K x a k left s u
         go b e = let w = cl .by b e in start-by b (w .0) (w .1) (rw e at st)
 
-    follow-law : {y : ℕ} {s : States} {v w : Trail} (b : Second) → Successor rows x (kindBy f b) y → Open rows K y b l (left - 1) v → Extends v x (kindBitBy f b) w
+    follow-law : {y : ℕ} {s : Arrivals} {v w : Trail} (b : Second) → Successor rows x (kindBy f b) y → Open rows K y b l (left - 1) v → Extends v x (kindBitBy f b) w
         → Visited rows K x a k left s w
     follow-law {y} {s} {v} {w} b su o ex =
         elim (ℕ-discrete (v .target) x) [ yes e ↦ visited-closed (ex .closed e) (closed e) | no n ↦ visited-open (ex .open′ n) (opened n) ]
@@ -234,10 +235,10 @@ module _ {rows : List ℕ} {K : ℕ} where
         last = omega (arith, ex .n)
 
         kind-is : trailKind w (v .n) ≡ kindBy f b
-        kind-is = ap kindOf (ex .kind) ∙ kind-of f b
+        kind-is = ap kindOfByte (ex .kind) ∙ kind-of f b
 
         kind-old : (i : ℕ) → i < v .n → trailKind w i ≡ trailKind v i
-        kind-old i h = ap kindOf (ex .kinds i h)
+        kind-old i h = ap kindOfByte (ex .kinds i h)
 
         at-end : (i : ℕ) → i + 1 ≡ v .n → i ≡ v .n - 1
         at-end i e = omega arith
@@ -301,7 +302,7 @@ module _ {rows : List ℕ} {K : ℕ} where
 
   -- ---- A call along the dependency that was chosen.
 
-  module _ {f : First} {x left : ℕ} {a : Second} {k l : Stack} {s₀ u : States} {c : Choice} (tu : Turn rows K f x a k l left s₀ u c) where
+  module _ {f : First} {x left : ℕ} {a : Second} {k l : Stack} {s₀ u : Arrivals} {c : Choice} (tu : Turn rows K f x a k l left s₀ u c) where
     pub call-room : {y : ℕ} {b : Second} {v : Trail} → Visited rows K y b l (left - 1) u v → (x < 64) × (v .found ≡ 1 → v .n < 64)
     call-room vi =
         let fr = tu .frame in
@@ -332,7 +333,7 @@ module _ {rows : List ℕ} {K : ℕ} where
             let w = tu .undone .by R e in
             not-in (l .on) (c .to) (λ h. ⊎-elim (λ m. tu .none-back R (c .to) (w .0) m) (λ m. omega (arith, w .1 .1)) (on-e (c .to) h))
 
-    pub call-found : {s : States} {v w : Trail} (b : Second) → c .kind ≡ kindBitBy f b → Visited rows K (c .to) b l (left - 1) u v
+    pub call-found : {s : Arrivals} {v w : Trail} (b : Second) → c .kind ≡ kindBitBy f b → Visited rows K (c .to) b l (left - 1) u v
         → Follows v x (kindBitBy f b) w → (v .found ≡ 0 → ⊥) → Visited rows K x a k left s w
     call-found {s} {v} {w} b e vi fo n =
         elim (ℕ-discrete (v .found) 1) [
@@ -341,7 +342,7 @@ module _ {rows : List ℕ} {K : ℕ} where
               subst (λ (o : Trail). Visited rows K x a k left s o) (sym (fo .else q)) (visited-closed z (vi .closed z))
         ]
 
-    pub call-less : {w : States} (b : Second) → c .kind ≡ kindBitBy f b → Settled rows u w × In w (c .to) b → 128 - size w < 128 - size u
+    pub call-less : {w : Arrivals} (b : Second) → c .kind ≡ kindBitBy f b → Exhausted rows u w × In w (c .to) b → 128 - size w < 128 - size u
     call-less {w} b e q =
         let p = tu .undone .by b e .1 in
         omega (arith, grows w b (tu .settled .fits) (p .0) (q .0 .kept) (p .1) (q .1), size-bound (q .0 .fits))
@@ -351,9 +352,9 @@ module _ {rows : List ℕ} {K : ℕ} where
     all-done z j b h =
         let r = tu .frame .ranged in
         let l : j < 64 = omega (arith, r .inside x (kindBy f b) j (tu .frame .class) h, r .few) in
-        tu .settled .over j b (⊎-elim (λ y. y) (λ y. absurd (tu .undone .none z b j h (l, y))) (bit-cases (wordOf u b) j))
+        tu .settled .over j b (⊎-elim (λ y. y) (λ y. absurd (tu .undone .none z b j h (l, y))) (bit-cases (wordBy u b) j))
 
-    finish : {s t : States} {v : Trail} → Settled rows s s₀ → Ends rows x a → Put x a u t → Finished t v → Visited rows K x a k left s v
+    finish : {s t : Arrivals} {v : Trail} → Exhausted rows s s₀ → Ends rows x a → Put x a u t → Finished t v → Visited rows K x a k left s v
     finish c over p fi =
         visited-settled fi
         record {
@@ -364,7 +365,7 @@ module _ {rows : List ℕ} {K : ℕ} where
         }
         (p .there)
 
-  pub finish-r : {x left : ℕ} {k l : Stack} {s u t : States} {c : Choice} {v : Trail} → Turn rows K E x R k l left s u c → Settled rows s s → c .kind ≡ 0
+  pub finish-r : {x left : ℕ} {k l : Stack} {s u t : Arrivals} {c : Choice} {v : Trail} → Turn rows K E x R k l left s u c → Exhausted rows s s → c .kind ≡ 0
       → Put x R u t → Finished t v → Visited rows K x R k left s v
   finish-r {x} tu se z = finish tu se (ends (λ j k. go j (k .first) (k .second)))
     where
@@ -372,8 +373,8 @@ module _ {rows : List ℕ} {K : ℕ} where
       go j E b h m = all-done tu z j b m
       go j S b h m = absurd (false≢true h)
 
-  pub finish-n : {x left : ℕ} {k l : Stack} {s s₀ u t : States} {c : Choice} {v : Trail} → Turn rows K S x N k l left s₀ u c
-      → Settled rows s s₀ × In s₀ x R → c .kind ≡ 0 → Put x N u t → Finished t v → Visited rows K x N k left s v
+  pub finish-n : {x left : ℕ} {k l : Stack} {s s₀ u t : Arrivals} {c : Choice} {v : Trail} → Turn rows K S x N k l left s₀ u c
+      → Exhausted rows s s₀ × In s₀ x R → c .kind ≡ 0 → Put x N u t → Finished t v → Visited rows K x N k left s v
   finish-n {x} tu se z = finish tu (se .0) (ends (λ j k. go j (k .first) (k .second)))
     where
       go : (j : ℕ) (f : First) (b : Second) → strongJoint N f ≡ true → Successor rows x (kindBy f b) j → Ends rows j b

@@ -1,4 +1,4 @@
 pub mod Rows
-pub mod States
+pub mod Arrivals
 pub mod Trails
 pub mod Reports

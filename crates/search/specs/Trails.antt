@@ -10,21 +10,13 @@ use Rattle.words.specs.Bits.{bit, With}
 use Rattle.rules.specs.HeldLocks.{First, Second, E, R}
 use Rattle.rules.specs.Graph.{Kind, ER, EN, SR, SN, kindBit}
 use Rattle.rules.specs.StrongPath.{strongJoint, Joint}
+use Rattle.layout.specs.Decoding.{kindOfByte}
 use Rattle.search.specs.Rows.{Successor, Ranged}
-use Rattle.search.specs.States.{In, Fits}
-use Rattle.search.specs.declared.States.{States}
+use Rattle.search.specs.Arrivals.{In, Fits}
+use Rattle.search.specs.declared.Arrivals.{Arrivals}
 use Rattle.search.specs.declared.Stack.{Stack}
 use Rattle.search.specs.declared.Trail.{Trail}
 use Rattle.search.specs.declared.Found.{Found}
-
--- The kind of a byte.
-abbrev pub kindOf : ℕ → Kind
-kindOf zero = EN
-kindOf (suc zero) = ER
-kindOf (suc (suc zero)) = EN
-kindOf (suc (suc (suc zero))) = EN
-kindOf (suc (suc (suc (suc zero)))) = SR
-kindOf (suc (suc (suc (suc (suc n))))) = SN
 
 abbrev pub trailClass : Trail → ℕ → ℕ
 trailClass u i = getD (u .classes) i 0
@@ -33,7 +25,7 @@ abbrev pub trailByte : Trail → ℕ → ℕ
 trailByte u i = getD (u .kinds) i 0
 
 abbrev pub trailKind : Trail → ℕ → Kind
-trailKind u i = kindOf (trailByte u i)
+trailKind u i = kindOfByte (trailByte u i)
 
 -- Every strong path on from class i, arrived at by a, ends.
 pub data Ends (rows : List ℕ) : ℕ → Second → Type 0 where
@@ -67,13 +59,13 @@ pub record Closed (rows : List ℕ) (K : ℕ) (u : Trail) : Type 0 where
   pub joint : Joint (trailKind u 0) (trailKind u (u .n - 1))
 
 -- What was done stays, and the strong paths of all that is done end.
-pub record Settled (rows : List ℕ) (s t : States) : Type 0 where
+pub record Exhausted (rows : List ℕ) (s t : Arrivals) : Type 0 where
   pub kept : (j : ℕ) (b : Second) → In s j b → In t j b
   pub over : (j : ℕ) (b : Second) → In t j b → Ends rows j b
   pub fits : Fits t
 
 -- What a visit of class x is given.
-pub record Given (rows : List ℕ) (K x : ℕ) (k : Stack) (s : States) (left : ℕ) : Type 0 where
+pub record Given (rows : List ℕ) (K x : ℕ) (k : Stack) (s : Arrivals) (left : ℕ) : Type 0 where
   pub ranged : Ranged K rows
   pub class : x < K
   pub fresh : bit (k .on) x ≡ 0
@@ -82,23 +74,23 @@ pub record Given (rows : List ℕ) (K x : ℕ) (k : Stack) (s : States) (left : 
   pub on-e : (j : ℕ) → bit (k .on) j ≡ 1 → (bit (k .e) j ≡ 1) ⊎ (bit (s .r) j ≡ 1)
   pub enough : K ≤ left + ones (k .on)
   pub least : left ≤ K
-  pub settled : Settled rows s s
+  pub settled : Exhausted rows s s
 
 -- What a visit of class x, arrived at by a, gives.
-pub record Visited (rows : List ℕ) (K x : ℕ) (a : Second) (k : Stack) (left : ℕ) (s : States) (u : Trail) : Type 0 where
+pub record Visited (rows : List ℕ) (K x : ℕ) (a : Second) (k : Stack) (left : ℕ) (s : Arrivals) (u : Trail) : Type 0 where
   pub cases : u .found ≤ 2
-  pub settled : u .found ≡ 0 → Settled rows s (u .done) × In (u .done) x a
+  pub settled : u .found ≡ 0 → Exhausted rows s (u .done) × In (u .done) x a
   pub open′ : u .found ≡ 1 → Open rows K x a k left u
   pub closed : u .found ≡ 2 → Closed rows K u
 
 -- l is the stack k with x on it, which is left by a dependency with the first letter f.
-pub record Pushed (f : First) (k : Stack) (x : ℕ) (l : Stack) : Type 0 where
+pub record Stacked (f : First) (k : Stack) (x : ℕ) (l : Stack) : Type 0 where
   pub on : With (k .on) x (l .on)
   pub kept : (j : ℕ) → bit (k .e) j ≡ 1 → bit (l .e) j ≡ 1
   pub only : (j : ℕ) → bit (l .e) j ≡ 1 → (bit (k .e) j ≡ 1) ⊎ ((j ≡ x) × (f ≡ E))
   pub there : f ≡ E → bit (l .e) x ≡ 1
 
-pub record Finished (s : States) (u : Trail) : Type 0 where
+pub record Finished (s : Arrivals) (u : Trail) : Type 0 where
   pub found : u .found ≡ 0
   pub done : u .done ≡ s
   pub n : u .n ≡ 0
@@ -135,7 +127,7 @@ abbrev pub Place : ℕ → ℕ → ℕ → ℕ → Type 0
 Place q n m i = (i + m ≡ q) ⊎ ((i + m ≡ q + n) × (i < n))
 
 -- g is f with the class and the kind at place m.
-pub record Written (f : Found) (m class kind : ℕ) (g : Found) : Type 0 where
+pub record Placed (f : Found) (m class kind : ℕ) (g : Found) : Type 0 where
   pub n : g .n ≡ f .n
   pub class-at : getD (g .classes) m 0 ≡ class
   pub kind-at : getD (g .kinds) m 0 ≡ kind

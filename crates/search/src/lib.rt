@@ -8,12 +8,12 @@ ghost use mathlib.Core.Path.{_≡_};
 ghost use Prim.Native.Nat.{_+_, _-_, _*_, _<_, _≤_};
 ghost use Rattle.rules.specs.HeldLocks.{E, S, R, N};
 ghost use Rattle.search.specs.Rows.{firstAt, firstIndex, Ranged, Reached};
-ghost use Rattle.search.specs.States.{Put, Chosen, Undone, Closing, Onward, Union};
-ghost use Rattle.search.specs.Trails.{Pushed, Starts, Follows, Extends, Finished, Given, Visited, LowestAt, Written, InOrder};
+ghost use Rattle.search.specs.Arrivals.{Put, Chosen, Undone, Closing, Onward, Union};
+ghost use Rattle.search.specs.Trails.{Stacked, Starts, Follows, Extends, Finished, Given, Visited, LowestAt, Placed, InOrder};
 ghost use Rattle.search.specs.Reports.{Searched};
 
-// A set of states: the classes arrived at by a dependency whose second letter is R, and those by N.
-struct States {
+// A set of arrivals: the classes arrived at by a dependency whose second letter is R, and those by N.
+struct Arrivals {
     pub r: u64,
     pub n: u64,
 }
@@ -30,10 +30,10 @@ struct Choice {
     pub kind: u8,
 }
 
-// What a visit gives: the states whose strong paths all end, and a trail of n dependencies, from its last to its first.
+// What a visit gives: the arrivals whose strong paths all end, and a trail of n dependencies, from its last to its first.
 // found 0: no trail. found 1: a trail that leads to target and has yet to come from there. found 2: a cycle.
 struct Trail {
-    pub done: States,
+    pub done: Arrivals,
     pub found: u32,
     pub target: u32,
     pub n: usize,
@@ -48,21 +48,21 @@ pub struct Found {
     pub kinds: [u8; 64],
 }
 
-fn with_r(s: States, class: u32) -> States
+fn with_r(s: Arrivals, class: u32) -> Arrivals
     requires { ⌜ class < 64 ⌝ }
     ensures { λ t. ⌜ Put class R s t ⌝ }
 {
-    States {
+    Arrivals {
         r: with(s.r, class),
         n: s.n,
     }
 }
 
-fn with_n(s: States, class: u32) -> States
+fn with_n(s: Arrivals, class: u32) -> Arrivals
     requires { ⌜ class < 64 ⌝ }
     ensures { λ t. ⌜ Put class N s t ⌝ }
 {
-    States {
+    Arrivals {
         r: s.r,
         n: with(s.n, class),
     }
@@ -99,8 +99,8 @@ fn closing(rows: &[u64; 256], class: u32, first: u32, stack: Stack) -> Choice
     chosen(first, both(to_r, stack.e), both(to_n, stack.on))
 }
 
-// A dependency from class to a state that is not done.
-fn undone(rows: &[u64; 256], class: u32, first: u32, done: States) -> Choice
+// A dependency from class to a arrival that is not done.
+fn undone(rows: &[u64; 256], class: u32, first: u32, done: Arrivals) -> Choice
     requires { ⌜ (class < 64) × (first ≡ firstIndex (firstAt first)) ⌝ }
     ensures { λ c. ⌜ Undone (now (rows .entry)) class (firstAt first) done c ⌝ }
 {
@@ -112,7 +112,7 @@ fn undone(rows: &[u64; 256], class: u32, first: u32, done: States) -> Choice
 
 fn pushed_e(stack: Stack, class: u32) -> Stack
     requires { ⌜ class < 64 ⌝ }
-    ensures { λ l. ⌜ Pushed E stack class l ⌝ }
+    ensures { λ l. ⌜ Stacked E stack class l ⌝ }
 {
     Stack {
         on: with(stack.on, class),
@@ -122,7 +122,7 @@ fn pushed_e(stack: Stack, class: u32) -> Stack
 
 fn pushed_s(stack: Stack, class: u32) -> Stack
     requires { ⌜ class < 64 ⌝ }
-    ensures { λ l. ⌜ Pushed S stack class l ⌝ }
+    ensures { λ l. ⌜ Stacked S stack class l ⌝ }
 {
     Stack {
         on: with(stack.on, class),
@@ -131,7 +131,7 @@ fn pushed_s(stack: Stack, class: u32) -> Stack
 }
 
 // A trail of no dependencies.
-fn no_trail(done: States) -> Trail
+fn no_trail(done: Arrivals) -> Trail
     ensures { λ u. ⌜ Finished done u ⌝ }
 {
     Trail {
@@ -164,7 +164,7 @@ fn extended(u: Trail, class: u32, kind: u8) -> Trail
 }
 
 // The trail of one dependency.
-fn started(done: States, class: u32, choice: Choice) -> Trail
+fn started(done: Arrivals, class: u32, choice: Choice) -> Trail
     requires { ⌜ class < 64 ⌝ }
     ensures { λ v. ⌜ Starts class (choice .kind) (choice .to) v ⌝ }
 {
@@ -190,7 +190,7 @@ fn arrived_by_r(
     k: u32,
     class: u32,
     stack: Stack,
-    before: States,
+    before: Arrivals,
     left: u32,
 ) -> Trail
     requires { ⌜ Given (now rows) k class stack before left ⌝ }
@@ -229,7 +229,7 @@ fn arrived_by_n(
     k: u32,
     class: u32,
     stack: Stack,
-    before: States,
+    before: Arrivals,
     left: u32,
 ) -> Trail
     requires { ⌜ Given (now rows) k class stack before left ⌝ }
@@ -283,9 +283,9 @@ fn lowest_at(u: Trail) -> usize
     q
 }
 
-fn put(f: Found, m: usize, class: u8, kind: u8) -> Found
+fn placed(f: Found, m: usize, class: u8, kind: u8) -> Found
     requires { ⌜ m < 64 ⌝ }
-    ensures { λ g. ⌜ Written f m class kind g ⌝ }
+    ensures { λ g. ⌜ Placed f m class kind g ⌝ }
 {
     let mut g = f;
     g.classes[m] = class;
@@ -307,7 +307,7 @@ fn in_order(u: Trail) -> Found
     };
     let mut m = 0;
     while m < n {
-        f = put(f, m, u.classes[at], u.kinds[at]);
+        f = placed(f, m, u.classes[at], u.kinds[at]);
         m += 1;
         if at == 0 {
             at = n - 1;
@@ -323,7 +323,7 @@ pub fn find_cycle(rows: &[u64; 256], k: u32) -> Found
     requires { ⌜ Ranged k (now rows) ⌝ }
     ensures { λ f. ⌜ Searched k (now (rows .entry)) f ⌝ }
 {
-    let mut done = States { r: 0, n: 0 };
+    let mut done = Arrivals { r: 0, n: 0 };
     let mut c: u32 = 0;
     while c < k {
         let u = arrived_by_n(rows, k, c, Stack { on: 0, e: 0 }, done, k);
@@ -346,15 +346,15 @@ fn union(word: u64, other: u64) -> u64
     word | other
 }
 
-// The states s, and those to which a dependency with the first letter goes from class.
-fn onward(rows: &[u64; 256], class: u32, first: u32, s: States) -> States
+// The arrivals s, and those to which a dependency with the first letter goes from class.
+fn onward(rows: &[u64; 256], class: u32, first: u32, s: Arrivals) -> Arrivals
     requires { ⌜ (class < 64) × (first ≡ firstIndex (firstAt first)) ⌝ }
     ensures { λ t. ⌜ Onward (now (rows .entry)) class (firstAt first) s t ⌝ }
 {
     let i = 4 * class as usize + first as usize;
     let to_r = rows[i];
     let to_n = rows[i + 1];
-    States {
+    Arrivals {
         r: union(s.r, to_r),
         n: union(s.n, to_n),
     }
@@ -369,9 +369,9 @@ pub fn reach(rows: &[u64; 256], k: u32, class: u32) -> u64
         rows,
         class,
         2,
-        onward(rows, class, 0, States { r: 0, n: 0 }),
+        onward(rows, class, 0, Arrivals { r: 0, n: 0 }),
     );
-    let mut expanded = States { r: 0, n: 0 };
+    let mut expanded = Arrivals { r: 0, n: 0 };
     loop {
         let todo_n = without(reached.n, expanded.n);
         let todo_r = without(reached.r, expanded.r);

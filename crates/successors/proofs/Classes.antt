@@ -16,7 +16,7 @@ use Rattle.layout.specs.Layout.{marksAt, markOf}
 use Rattle.search.specs.Rows.{kindIndex}
 use Rattle.successors.specs.declared.KindWords.{KindWords}
 use Rattle.successors.specs.declared.SafeWords.{SafeWords}
-use Rattle.successors.specs.Column.{column, wordOf, Columns}
+use Rattle.successors.specs.Column.{column, kindWord, Columns}
 use Rattle.successors.specs.Successors.{levelDigit, usageDigit, safeOf, SafeColumns, WithIrq, RowWord, ClassWords, stored, Filled}
 use Rattle.successors.proofs.Digits.{column-bit, column-out, columns-at}
 
@@ -29,38 +29,38 @@ row-inside {c} {k} {n} h r =
 
 -- ---- The words of a class.
 
-safe-at : (l : Level) (b : Second) (state : List ℕ) (k : ℕ) (w : SafeWords) → SafeColumns state k (levelDigit l) w
-    → safeOf w b ≡ column state marksAt (usageDigit (safe b) + levelDigit l) k
-safe-at hardIrq N state k w s = s .n
-safe-at hardIrq R state k w s = s .r
-safe-at softIrq N state k w s = s .n
-safe-at softIrq R state k w s = s .r
+safe-at : (l : Level) (b : Second) (desk : List ℕ) (k : ℕ) (w : SafeWords) → SafeColumns desk k (levelDigit l) w
+    → safeOf w b ≡ column desk marksAt (usageDigit (safe b) + levelDigit l) k
+safe-at hardIrq N desk k w s = s .n
+safe-at hardIrq R desk k w s = s .r
+safe-at softIrq N desk k w s = s .n
+safe-at softIrq R desk k w s = s .r
 
-module _ (state matrix : List ℕ) (k c : ℕ) (hard soft : SafeWords) (locks r : KindWords)
-    (h : SafeColumns state k (levelDigit hardIrq) hard) (s : SafeColumns state k (levelDigit softIrq) soft)
-    (m : Columns matrix (c * k) k locks) (w : WithIrq (markOf state c) hard soft locks r) where
-  pub class-law : ClassWords state matrix k c r
+module _ (desk sheet : List ℕ) (k c : ℕ) (hard soft : SafeWords) (locks r : KindWords)
+    (h : SafeColumns desk k (levelDigit hardIrq) hard) (s : SafeColumns desk k (levelDigit softIrq) soft)
+    (m : Columns sheet (c * k) k locks) (w : WithIrq (markOf desk c) hard soft locks r) where
+  pub class-law : ClassWords desk sheet k c r
   class-law =
       record {
         word = λ a b.
-            let l = columns-at matrix (c * k) k locks m a b in
-            let x = safe-at hardIrq b state k hard h in
-            let y = safe-at softIrq b state k soft s in
+            let l = columns-at sheet (c * k) k locks m a b in
+            let x = safe-at hardIrq b desk k hard h in
+            let y = safe-at softIrq b desk k soft s in
             let d = kindIndex (record { first = a; second = b }) in
             let p = usageDigit (safe b) + levelDigit hardIrq in
             let q = usageDigit (safe b) + levelDigit softIrq in
             record {
               inside = λ t i.
                   w .at a b t
-                  ∙ ap₂ max (ap (λ (z : ℕ). bit z t) l ∙ column-bit matrix d k (c * k) t i)
+                  ∙ ap₂ max (ap (λ (z : ℕ). bit z t) l ∙ column-bit sheet d k (c * k) t i)
                   (ap₂ max
-                  (ap (λ (z : ℕ). min (bit (markOf state c) (usageDigit (unsafe a) + levelDigit hardIrq)) z) (ap (λ (z : ℕ). bit z t) x ∙ column-bit state p k marksAt t i))
-                  (ap (λ (z : ℕ). min (bit (markOf state c) (usageDigit (unsafe a) + levelDigit softIrq)) z) (ap (λ (z : ℕ). bit z t) y ∙ column-bit state q k marksAt t i)));
+                  (ap (λ (z : ℕ). min (bit (markOf desk c) (usageDigit (unsafe a) + levelDigit hardIrq)) z) (ap (λ (z : ℕ). bit z t) x ∙ column-bit desk p k marksAt t i))
+                  (ap (λ (z : ℕ). min (bit (markOf desk c) (usageDigit (unsafe a) + levelDigit softIrq)) z) (ap (λ (z : ℕ). bit z t) y ∙ column-bit desk q k marksAt t i)));
               outside = λ t o.
                   let e = w .at a b t in
-                  let f = ap (λ (z : ℕ). bit z t) l ∙ column-out matrix d k (c * k) t o in
-                  let g = ap (λ (z : ℕ). bit z t) x ∙ column-out state p k marksAt t o in
-                  let i = ap (λ (z : ℕ). bit z t) y ∙ column-out state q k marksAt t o in
+                  let f = ap (λ (z : ℕ). bit z t) l ∙ column-out sheet d k (c * k) t o in
+                  let g = ap (λ (z : ℕ). bit z t) x ∙ column-out desk p k marksAt t o in
+                  let i = ap (λ (z : ℕ). bit z t) y ∙ column-out desk q k marksAt t o in
                   omega arith;
             };
       }
@@ -72,8 +72,8 @@ zeros zero j = refl
 zeros (suc n) zero = refl
 zeros (suc n) (suc j) = zeros n j
 
-pub filled-none : (state matrix : List ℕ) (k : ℕ) → Filled state matrix k 0 (replicate 256 0)
-filled-none state matrix k =
+pub filled-none : (desk sheet : List ℕ) (k : ℕ) → Filled desk sheet k 0 (replicate 256 0)
+filled-none desk sheet k =
     record { size = length-replicate {A = ℕ} 256 0; words = λ c kd l. absurd (omega arith); rest = λ j l. zeros 256 j }
 
 module _ (rows : List ℕ) (c : ℕ) (w : KindWords) where
@@ -101,7 +101,7 @@ module _ (rows : List ℕ) (c : ℕ) (w : KindWords) where
       off i l h e = ⊎-elim (λ x. omega arith) (λ x. omega arith) o
 
   stored-at : 4 * c + 4 ≤ length rows → (a : First) (b : Second)
-      → getD (stored rows c w) (4 * c + kindIndex (record { first = a; second = b })) 0 ≡ wordOf w a b
+      → getD (stored rows c w) (4 * c + kindIndex (record { first = a; second = b })) 0 ≡ kindWord w a b
   stored-at l E R =
       let z : 4 * c + 0 ≡ 4 * c = omega arith in
       rw z
@@ -118,18 +118,18 @@ module _ (rows : List ℕ) (c : ℕ) (w : KindWords) where
       ∙ getD-set-same two (4 * c + 2) (w .sr) 0 (simp length-set (omega arith))
   stored-at l S N = getD-set-same three (4 * c + 3) (w .sn) 0 (simp length-set (omega arith))
 
-pub filled-more : (state matrix : List ℕ) (k c : ℕ) (rows : List ℕ) (w : KindWords) → c < 64 → Filled state matrix k c rows
-    → ClassWords state matrix k c w → Filled state matrix k (c + 1) (stored rows c w)
-filled-more state matrix k c rows w h f n =
+pub filled-more : (desk sheet : List ℕ) (k c : ℕ) (rows : List ℕ) (w : KindWords) → c < 64 → Filled desk sheet k c rows
+    → ClassWords desk sheet k c w → Filled desk sheet k (c + 1) (stored rows c w)
+filled-more desk sheet k c rows w h f n =
     record {
       size = stored-length rows c w ∙ f .size;
       words = λ i kd l. elim (decLt i c) [
         | yes old ↦
-            subst (λ (x : ℕ). RowWord state matrix k i (kd .first) (kd .second) x)
+            subst (λ (x : ℕ). RowWord desk sheet k i (kd .first) (kd .second) x)
             (sym (stored-other rows c w (4 * i + kindIndex kd) (inl (below i kd old)))) (f .words i kd old)
         | no new ↦
             let e : i ≡ c = omega arith in
-            rw e (subst (λ (x : ℕ). RowWord state matrix k c (kd .first) (kd .second) x)
+            rw e (subst (λ (x : ℕ). RowWord desk sheet k c (kd .first) (kd .second) x)
             (sym (stored-at rows c w (let z = f .size in omega arith) (kd .first) (kd .second))) (n .word (kd .first) (kd .second)))
       ];
       rest = λ j l. stored-other rows c w j (inr (omega arith)) ∙ f .rest j (omega arith);

@@ -13,7 +13,7 @@ use lib.Pow.{pow-mono}
 use lib.ListN.{getD}
 use Rattle.words.specs.Bits.{bit}
 use Rattle.words.proofs.Words.{bit-two, bit-high}
-use Rattle.successors.specs.Column.{column, spreadOf, lanes, wordOf, Columns, Narrow, Joined}
+use Rattle.successors.specs.Column.{column, spreadOf, lanes, kindWord, Columns, Narrow, Joined}
 use Rattle.rules.specs.HeldLocks.{First, Second, E, S, R, N}
 use Rattle.search.specs.Rows.{kindIndex}
 use Rattle.successors.specs.declared.KindWords.{KindWords}
@@ -156,7 +156,7 @@ module _ (bytes : List ℕ) where
       record { er = omega arith; en = omega arith; sr = omega arith; sn = omega arith }
 
   pub columns-at : (at n : ℕ) (w : KindWords) → Columns bytes at n w → (a : First) (b : Second)
-      → wordOf w a b ≡ column bytes at (kindIndex (record { first = a; second = b })) n
+      → kindWord w a b ≡ column bytes at (kindIndex (record { first = a; second = b })) n
   columns-at at n w x E R = x .er
   columns-at at n w x E N = x .en
   columns-at at n w x S R = x .sr

@@ -8,15 +8,15 @@ use native.Mathlib.Omega.{arith}
 use lib.Dec.{ltb}
 use lib.ListN.{getD}
 use borrow.Author.Tests.{ltb-true, lt-ltb}
-use Rattle.words.specs.Bits.{bit}
-use Rattle.words.specs.Pack.{flag}
+use Rattle.words.specs.Bits.{bit, flag}
 use Rattle.words.proofs.Packs.{bit-pack}
 use Rattle.rules.specs.HeldLocks.{First, Second, E, S, R, N, Core}
 use Rattle.rules.specs.Marks.{Marks, Level, hardIrq, softIrq, Usage, safe, unsafe}
 use Rattle.rules.specs.Graph.{Kind, Graph, Dependencies, lock, irq, dependencyBy, dependency}
 use Rattle.rules.proofs.Booleans.{and-cases, and-both}
 use Rattle.layout.specs.Layout.{markOf, kindsOf}
-use Rattle.layout.specs.Encoding.{StateBytes, MatrixBytes, markFlags, kindFlags}
+use Rattle.layout.specs.Encoding.{DeskBytes, SheetBytes}
+use Rattle.layout.proofs.Flags.{markFlags, kindFlags, mark-packed, kind-packed}
 use Rattle.search.specs.Rows.{kindIndex, Rows, Ranged}
 use Rattle.successors.specs.Successors.{levelDigit, usageDigit, dependencyDigit, Filled, Successors}
 
@@ -61,27 +61,28 @@ kind-flag d f t E N = (omega arith, refl)
 kind-flag d f t S R = (omega arith, refl)
 kind-flag d f t S N = (omega arith, refl)
 
-ranged-law : (state matrix : List ℕ) (k : ℕ) (rows : List ℕ) → k ≤ 64 → Filled state matrix k k rows → Ranged k rows
-ranged-law state matrix k rows h f =
+ranged-law : (desk sheet : List ℕ) (k : ℕ) (rows : List ℕ) → k ≤ 64 → Filled desk sheet k k rows → Ranged k rows
+ranged-law desk sheet k rows h f =
     record {
       few = h;
       inside = λ c kd t l e. elim (decLt t k) [ yes i ↦ i | no o ↦ absurd (let z = f .words c kd l .outside t (omega arith) in omega arith) ];
     }
 
-module _ (K : ℕ) (is-closed : Bool) (cores : ℕ → Core) (marks : Marks) (locks : Dependencies) (state matrix : List ℕ)
-    (s : StateBytes K is-closed cores marks state) (m : MatrixBytes K locks matrix) where
-  mark-digit : (c : ℕ) (l : Level) (u : Usage) → c < 64 → bit (markOf state c) (usageDigit u + levelDigit l) ≡ flag (marks c l u)
+module _ (K : ℕ) (is-closed : Bool) (cores : ℕ → Core) (marks : Marks) (locks : Dependencies) (desk sheet : List ℕ)
+    (s : DeskBytes K is-closed cores marks desk) (m : SheetBytes K locks sheet) where
+  mark-digit : (c : ℕ) (l : Level) (u : Usage) → c < 64 → bit (markOf desk c) (usageDigit u + levelDigit l) ≡ flag (marks c l u)
   mark-digit c l u h =
       let f = mark-flag marks c l u in
       ap (λ (x : ℕ). bit x (usageDigit u + levelDigit l)) (s .usage c h)
+      ∙ ap (λ (x : ℕ). bit x (usageDigit u + levelDigit l)) (mark-packed marks c)
       ∙ bit-pack 8 (λ i. getD (markFlags marks c) i false) (usageDigit u + levelDigit l) (f .0) ∙ ap flag (f .1)
 
   kind-digit : (f t : ℕ) (a : First) (b : Second) → f < K → t < K
-      → bit (kindsOf matrix K f t) (kindIndex (record { first = a; second = b })) ≡ flag (locks f t (record { first = a; second = b }))
+      → bit (kindsOf sheet K f t) (kindIndex (record { first = a; second = b })) ≡ flag (locks f t (record { first = a; second = b }))
   kind-digit f t a b hf ht =
       let e = kind-flag locks f t a b in
       let d = kindIndex (record { first = a; second = b }) in
-      ap (λ (x : ℕ). bit x d) (m .kinds f t hf ht) ∙ bit-pack 4 (λ i. getD (kindFlags locks f t) i false) d (e .0) ∙ ap flag (e .1)
+      ap (λ (x : ℕ). bit x d) (m .kinds f t hf ht ∙ kind-packed locks f t) ∙ bit-pack 4 (λ i. getD (kindFlags locks f t) i false) d (e .0) ∙ ap flag (e .1)
 
   abbrev graph : Graph
   graph = record { locks = locks; marks = marks }
@@ -89,7 +90,7 @@ module _ (K : ℕ) (is-closed : Bool) (cores : ℕ → Core) (marks : Marks) (lo
   abbrev some : (f t : ℕ) → Kind → Bool
   some f t kd = dependencyBy lock graph f t kd || dependencyBy (irq hardIrq) graph f t kd || dependencyBy (irq softIrq) graph f t kd
 
-  some-digit : (f t : ℕ) (kd : Kind) → K ≤ 64 → f < K → t < K → dependencyDigit state matrix K f t (kd .first) (kd .second) ≡ flag (some f t kd)
+  some-digit : (f t : ℕ) (kd : Kind) → K ≤ 64 → f < K → t < K → dependencyDigit desk sheet K f t (kd .first) (kd .second) ≡ flag (some f t kd)
   some-digit f t kd h hf ht =
       let a = kd .first in
       let b = kd .second in
@@ -97,19 +98,19 @@ module _ (K : ℕ) (is-closed : Bool) (cores : ℕ → Core) (marks : Marks) (lo
       ∙ flag-three (dependencyBy lock graph f t kd) (dependencyBy (irq hardIrq) graph f t kd) (dependencyBy (irq softIrq) graph f t kd)
     where
       both : (l : Level)
-          → min (bit (markOf state f) (usageDigit (unsafe (kd .first)) + levelDigit l)) (bit (markOf state t) (usageDigit (safe (kd .second)) + levelDigit l))
+          → min (bit (markOf desk f) (usageDigit (unsafe (kd .first)) + levelDigit l)) (bit (markOf desk t) (usageDigit (safe (kd .second)) + levelDigit l))
           ≡ flag (dependencyBy (irq l) graph f t kd)
       both l =
           ap₂ min (mark-digit f l (unsafe (kd .first)) (omega arith)) (mark-digit t l (safe (kd .second)) (omega arith))
           ∙ flag-and (marks t l (safe (kd .second))) (marks f l (unsafe (kd .first)))
 
-  pub rows-law : (rows : List ℕ) → K ≤ 64 → Filled state matrix K K rows → Rows K graph rows
+  pub rows-law : (rows : List ℕ) → K ≤ 64 → Filled desk sheet K K rows → Rows K graph rows
   unfolding dependency
   rows-law rows h f =
       record {
         few = h;
         sound = λ c kd t l e.
-            let i = ranged-law state matrix K rows h f .inside c kd t l e in
+            let i = ranged-law desk sheet K rows h f .inside c kd t l e in
             and-both (and-both (lt-ltb c K l) (lt-ltb t K i))
             (flag-true (some c t kd) (sym (some-digit c t kd h l i) ∙ sym (f .words c kd l .inside t i) ∙ e));
         complete = λ c kd t e.
@@ -120,12 +121,12 @@ module _ (K : ℕ) (is-closed : Bool) (cores : ℕ → Core) (marks : Marks) (lo
             f .words c kd l .inside t i ∙ some-digit c t kd h l i ∙ ap flag (p .1);
       }
 
-pub successors-law : (state matrix : List ℕ) (k : ℕ) (rows : List ℕ) → k ≤ 64 → Filled state matrix k k rows → Successors state matrix k rows
-successors-law state matrix k rows h f =
+pub successors-law : (desk sheet : List ℕ) (k : ℕ) (rows : List ℕ) → k ≤ 64 → Filled desk sheet k k rows → Successors desk sheet k rows
+successors-law desk sheet k rows h f =
     record {
       graph = λ K is-closed cores marks locks e s m.
-          rows-law K is-closed cores marks locks state matrix s m rows (omega arith) (subst (λ (x : ℕ). Filled state matrix x x rows) e f);
-      ranged = ranged-law state matrix k rows h f;
+          rows-law K is-closed cores marks locks desk sheet s m rows (omega arith) (subst (λ (x : ℕ). Filled desk sheet x x rows) e f);
+      ranged = ranged-law desk sheet k rows h f;
       size = f .size;
       rest = f .rest;
     }

@@ -22,11 +22,11 @@ lanes bytes at n =
     column bytes at 0 n + 65536 * column bytes at 1 n + 4294967296 * column bytes at 2 n + 281474976710656 * column bytes at 3 n
 
 -- The word of a kind.
-abbrev pub wordOf : KindWords → First → Second → ℕ
-wordOf w E R = w .er
-wordOf w E N = w .en
-wordOf w S R = w .sr
-wordOf w S N = w .sn
+abbrev pub kindWord : KindWords → First → Second → ℕ
+kindWord w E R = w .er
+kindWord w E N = w .en
+kindWord w S R = w .sr
+kindWord w S N = w .sn
 
 -- The words are the columns of the digits 0 to 3: "ER 1, EN 2, SR 4, SN 8".
 pub record Columns (bytes : List ℕ) (at n : ℕ) (w : KindWords) : Type 0 where

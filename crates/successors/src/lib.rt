@@ -1,18 +1,18 @@
-// The successor words of a state: for each lock class and each kind of dependency, the classes that a dependency goes to.
+// The successor words of a desk and a sheet: for each lock class and each kind of dependency, the classes that a dependency goes to.
 use layout::MARKS_AT;
 use layout::MAX_CLASSES;
 ghost use mathlib.Core.Path.{_≡_};
 ghost use Prim.Native.Nat.{ℕ, _+_, _*_, _<_, _≤_, min};
 ghost use lib.ListN.{length};
 ghost use Rattle.words.specs.Bits.{bit};
-ghost use Rattle.layout.specs.Layout.{stateSize, marksAt};
+ghost use Rattle.layout.specs.Layout.{deskSize, marksAt};
 ghost use Rattle.successors.specs.Column.{column, spreadOf, Columns, Narrow, Joined};
 ghost use Rattle.successors.specs.Successors.{Ready, irqDigit, SafeColumns, WithIrq, ClassWords, stored, Successors};
 
-pub const KINDS: usize = 4;
+pub const DEPENDENCY_KINDS: usize = 4;
 
 // The successor words of all classes.
-pub const ROWS: usize = KINDS * MAX_CLASSES;
+pub const ROWS: usize = DEPENDENCY_KINDS * MAX_CLASSES;
 
 // A word for each kind of dependency.
 pub struct KindWords {
@@ -28,7 +28,7 @@ pub struct SafeWords {
     pub r: u64,
 }
 
-// ---- Lock dependencies: the matrix, a byte at a time.
+// ---- Lock dependencies: the sheet, a byte at a time.
 
 // Bytes in a block, and bits in a lane: a word has four lanes.
 const BLOCK: usize = 16;
@@ -72,16 +72,16 @@ fn joined(high: KindWords, low: KindWords) -> KindWords
     }
 }
 
-// The words of the lock dependencies in the row of k bytes at a place of the matrix.
-fn lock_words(matrix: &[u8], at: usize, k: usize) -> KindWords
-    requires { ⌜ (k ≤ 64) × (at + k ≤ length (now matrix)) ⌝ }
-    ensures { λ r. ⌜ Columns (now (matrix .entry)) at k r ⌝ }
+// The words of the lock dependencies in the row of k bytes at a place of the sheet.
+fn lock_words(sheet: &[u8], at: usize, k: usize) -> KindWords
+    requires { ⌜ (k ≤ 64) × (at + k ≤ length (now sheet)) ⌝ }
+    ensures { λ r. ⌜ Columns (now (sheet .entry)) at k r ⌝ }
 {
     let mut blocks = k / BLOCK;
-    let mut words = block(matrix, at + BLOCK * blocks, k % BLOCK);
+    let mut words = block(sheet, at + BLOCK * blocks, k % BLOCK);
     while blocks > 0 {
         blocks -= 1;
-        words = joined(words, block(matrix, at + BLOCK * blocks, BLOCK));
+        words = joined(words, block(sheet, at + BLOCK * blocks, BLOCK));
     }
     words
 }
@@ -89,9 +89,9 @@ fn lock_words(matrix: &[u8], at: usize, k: usize) -> KindWords
 // ---- Interrupt dependencies: by words.
 
 // The digits of the usage marks in a mark byte: a level's first digit, and the place of the mark from there.
-const HARD: u32 = 0;
+const HARD_DIGITS: u32 = 0;
 
-const SOFT: u32 = 4;
+const SOFT_DIGITS: u32 = 4;
 
 const SAFE_R: u32 = 1;
 
@@ -108,27 +108,27 @@ fn digit(byte: u8, d: u32) -> u64
 }
 
 // The classes below k that have the mark of the digit d.
-fn marked(state: &[u8], k: usize, d: u32) -> u64
-    requires { ⌜ (stateSize ≤ length (now state)) × (k ≤ 64) × (d < 8) ⌝ }
-    ensures { λ r. ⌜ r ≡ column (now (state .entry)) marksAt d k ⌝ }
+fn marked(desk: &[u8], k: usize, d: u32) -> u64
+    requires { ⌜ (deskSize ≤ length (now desk)) × (k ≤ 64) × (d < 8) ⌝ }
+    ensures { λ r. ⌜ r ≡ column (now (desk .entry)) marksAt d k ⌝ }
 {
     let mut word: u64 = 0;
     let mut c = k;
     while c > 0 {
         c -= 1;
-        word = word * 2 + digit(state[MARKS_AT + c], d);
+        word = word * 2 + digit(desk[MARKS_AT + c], d);
     }
     word
 }
 
 // The safe marks of the level whose first digit is d.
-fn safe_words(state: &[u8], k: usize, d: u32) -> SafeWords
-    requires { ⌜ (stateSize ≤ length (now state)) × (k ≤ 64) × (d < 7) ⌝ }
-    ensures { λ r. ⌜ SafeColumns (now (state .entry)) k d r ⌝ }
+fn safe_words(desk: &[u8], k: usize, d: u32) -> SafeWords
+    requires { ⌜ (deskSize ≤ length (now desk)) × (k ≤ 64) × (d < 7) ⌝ }
+    ensures { λ r. ⌜ SafeColumns (now (desk .entry)) k d r ⌝ }
 {
     SafeWords {
-        n: marked(state, k, d),
-        r: marked(state, k, d + SAFE_R),
+        n: marked(desk, k, d),
+        r: marked(desk, k, d + SAFE_R),
     }
 }
 
@@ -145,7 +145,7 @@ fn irq_word(mark: u8, d: u32, hard: u64, soft: u64) -> u64
     requires { ⌜ d < 4 ⌝ }
     ensures { λ r. ⌜ ((t : ℕ) → bit r t ≡ irqDigit mark d (bit hard t) (bit soft t)) ⌝ }
 {
-    picked(mark, d + HARD, hard) | picked(mark, d + SOFT, soft)
+    picked(mark, d + HARD_DIGITS, hard) | picked(mark, d + SOFT_DIGITS, soft)
 }
 
 fn with_irq(mark: u8, hard: SafeWords, soft: SafeWords, locks: KindWords) -> KindWords
@@ -162,49 +162,49 @@ fn with_irq(mark: u8, hard: SafeWords, soft: SafeWords, locks: KindWords) -> Kin
 // ---- All dependencies.
 
 fn class_words(
-    state: &[u8],
-    matrix: &[u8],
+    desk: &[u8],
+    sheet: &[u8],
     k: usize,
     class: usize,
     hard: SafeWords,
     soft: SafeWords,
 ) -> KindWords
-    requires { ⌜ Ready (now state) (now matrix) k × (class < k) × SafeColumns (now state) k 0 hard × SafeColumns (now state) k 4 soft ⌝ }
-    ensures { λ r. ⌜ ClassWords (now (state .entry)) (now (matrix .entry)) k class r ⌝ }
+    requires { ⌜ Ready (now desk) (now sheet) k × (class < k) × SafeColumns (now desk) k 0 hard × SafeColumns (now desk) k 4 soft ⌝ }
+    ensures { λ r. ⌜ ClassWords (now (desk .entry)) (now (sheet .entry)) k class r ⌝ }
 {
     with_irq(
-        state[MARKS_AT + class],
+        desk[MARKS_AT + class],
         hard,
         soft,
-        lock_words(matrix, class * k, k),
+        lock_words(sheet, class * k, k),
     )
 }
 
-// The words of a class stand at KINDS * class and on, by kind: ER 0, EN 1, SR 2, SN 3.
+// The words of a class stand at DEPENDENCY_KINDS * class and on, by kind: ER 0, EN 1, SR 2, SN 3.
 fn store(rows: &mut [u64; ROWS], class: usize, words: KindWords)
     requires { ⌜ class < 64 ⌝ }
     ensures { λ r. ⌜ now (rows .exit) ≡ stored (now (rows .entry)) class words ⌝ }
 {
-    rows[KINDS * class] = words.er;
-    rows[KINDS * class + 1] = words.en;
-    rows[KINDS * class + 2] = words.sr;
-    rows[KINDS * class + 3] = words.sn;
+    rows[DEPENDENCY_KINDS * class] = words.er;
+    rows[DEPENDENCY_KINDS * class + 1] = words.en;
+    rows[DEPENDENCY_KINDS * class + 2] = words.sr;
+    rows[DEPENDENCY_KINDS * class + 3] = words.sn;
 }
 
 // The successor words of the classes below k; those of the others are 0.
-pub fn successors(state: &[u8], matrix: &[u8], k: usize) -> [u64; ROWS]
-    requires { ⌜ Ready (now state) (now matrix) k ⌝ }
-    ensures { λ r. ⌜ Successors (now (state .entry)) (now (matrix .entry)) k r ⌝ }
+pub fn successors(desk: &[u8], sheet: &[u8], k: usize) -> [u64; ROWS]
+    requires { ⌜ Ready (now desk) (now sheet) k ⌝ }
+    ensures { λ r. ⌜ Successors (now (desk .entry)) (now (sheet .entry)) k r ⌝ }
 {
-    let hard = safe_words(state, k, HARD);
-    let soft = safe_words(state, k, SOFT);
+    let hard = safe_words(desk, k, HARD_DIGITS);
+    let soft = safe_words(desk, k, SOFT_DIGITS);
     let mut rows = [0; ROWS];
     let mut class = 0;
     while class < k {
         store(
             &mut rows,
             class,
-            class_words(state, matrix, k, class, hard, soft),
+            class_words(desk, sheet, k, class, hard, soft),
         );
         class += 1;
     }

@@ -10,27 +10,27 @@ use lib.Dec.{eqb}
 use lib.ListN.{length, getD, set, length-set}
 use lib.Seq.{getD-set-same, getD-set-other}
 use borrow.Author.Tests.{eq-eqb, ne-eqb}
-use Rattle.words.specs.Pack.{flag}
+use Rattle.words.specs.Bits.{flag}
 use Rattle.rules.specs.Limits.{coreCount, maxClasses, maxDepth}
 use Rattle.rules.specs.Context.{CoreState, Frame, frameOf}
 use Rattle.rules.specs.HeldLocks.{HeldLock, Core, withCurrent, withState}
 use Rattle.rules.specs.Marks.{Marks}
-use Rattle.layout.specs.Layout.{framesPerCore, stateSize, closedAt, statesAt, depthsAt, marksAt, heldAt, frameNumber, stateOf, depthOf, heldOf}
-use Rattle.layout.specs.Encoding.{heldByteAt, StateBytes, KeepsPast}
+use Rattle.layout.specs.Layout.{framesPerCore, deskSize, closedAt, statesAt, depthsAt, marksAt, heldAt, frameNumber, stateOf, depthOf, heldOf}
+use Rattle.layout.specs.Encoding.{heldByteAt, DeskBytes, KeepsPast}
 use Rattle.update.specs.Update.{FrameBytes, KeepsElse, MarkBytes, KeepsUnmarked}
 
 -- The cores with one of them changed, as a step of the rules leaves them.
 abbrev pub changed : (ℕ → Core) → ℕ → Core → ℕ → Core
 changed cores i core j = cond (eqb j i) core (cores j)
 
-module _ {K : ℕ} {is-closed : Bool} {cores : ℕ → Core} {marks : Marks} {state : List ℕ} (b : StateBytes K is-closed cores marks state) where
-  pub frame-bytes : (i : ℕ) (f : Frame) → i < coreCount → f < framesPerCore → FrameBytes state (frameNumber i f) (cores i .held f)
+module _ {K : ℕ} {is-closed : Bool} {cores : ℕ → Core} {marks : Marks} {desk : List ℕ} (b : DeskBytes K is-closed cores marks desk) where
+  pub frame-bytes : (i : ℕ) (f : Frame) → i < coreCount → f < framesPerCore → FrameBytes desk (frameNumber i f) (cores i .held f)
   frame-bytes i f li lf = record { depth = b .depths i f li lf; held = λ p l. b .held i f p li lf l }
 
   -- ---- One frame.
 
   module _ (i : ℕ) (li : i < coreCount) (lf : frameOf (cores i .state) < framesPerCore) (hs : List HeldLock) {after : List ℕ}
-      (keeps : KeepsElse (frameNumber i (frameOf (cores i .state))) state after)
+      (keeps : KeepsElse (frameNumber i (frameOf (cores i .state))) desk after)
       (frame : FrameBytes after (frameNumber i (frameOf (cores i .state))) hs) where
     -- A fact of every frame of every core: it holds of the changed frame, and of each other one as before.
     each-frame : (P : ℕ → List HeldLock → Type 0) → P (frameNumber i (frameOf (cores i .state))) hs
@@ -52,7 +52,7 @@ module _ {K : ℕ} {is-closed : Bool} {cores : ℕ → Core} {marks : Marks} {st
     state-same : (j : ℕ) → changed cores i (withCurrent (cores i) hs) j .state ≡ cores j .state
     state-same j = elim (ℕ-discrete j i) [ yes e ↦ rw (e, eq-eqb i i refl) refl | no n ↦ rw (ne-eqb j i n) refl ]
 
-    pub frame-changed : StateBytes K is-closed (changed cores i (withCurrent (cores i) hs)) marks after
+    pub frame-changed : DeskBytes K is-closed (changed cores i (withCurrent (cores i) hs)) marks after
     frame-changed =
         let size = keeps .long in
         let l = b .long in
@@ -79,18 +79,18 @@ module _ {K : ℕ} {is-closed : Bool} {cores : ℕ → Core} {marks : Marks} {st
   -- ---- A core's state.
 
   pub state-changed : (i : ℕ) → i < coreCount → (s : CoreState)
-      → StateBytes K is-closed (changed cores i (withState (cores i) s)) marks (set state (statesAt + i) s)
+      → DeskBytes K is-closed (changed cores i (withState (cores i) s)) marks (set desk (statesAt + i) s)
   state-changed i li s =
       let l = b .long in
-      let other : (j : ℕ) → (j ≡ statesAt + i → ⊥) → getD (set state (statesAt + i) s) j 0 ≡ getD state j 0 =
-      λ j n. getD-set-other state (statesAt + i) j s 0 n in
+      let other : (j : ℕ) → (j ≡ statesAt + i → ⊥) → getD (set desk (statesAt + i) s) j 0 ≡ getD desk j 0 =
+      λ j n. getD-set-other desk (statesAt + i) j s 0 n in
       record {
         long = simp length-set l;
         classes = other 0 (λ e. omega arith) ∙ b .classes;
         closed = other 1 (λ e. omega arith) ∙ b .closed;
         states = λ j lj.
             elim (ℕ-discrete j i) [
-              | yes e ↦ rw (e, eq-eqb i i refl) (getD-set-same state (statesAt + i) s 0 (omega arith))
+              | yes e ↦ rw (e, eq-eqb i i refl) (getD-set-same desk (statesAt + i) s 0 (omega arith))
               | no n ↦ rw (ne-eqb j i n) (other (statesAt + j) (λ e. n (omega arith)) ∙ b .states j lj)
             ];
         depths = λ j f lj lf. other (depthsAt + frameNumber j f) (λ e. omega arith) ∙ b .depths j f lj lf ∙ ap length (held-same j f);
@@ -106,8 +106,8 @@ module _ {K : ℕ} {is-closed : Bool} {cores : ℕ → Core} {marks : Marks} {st
 
   -- ---- Usage marks.
 
-  pub marks-changed : {after : List ℕ} → KeepsUnmarked state after → {marks′ : Marks} → MarkBytes after marks′
-      → StateBytes K is-closed cores marks′ after
+  pub marks-changed : {after : List ℕ} → KeepsUnmarked desk after → {marks′ : Marks} → MarkBytes after marks′
+      → DeskBytes K is-closed cores marks′ after
   marks-changed keeps m =
       let size = keeps .long in
       let l = b .long in
@@ -123,14 +123,14 @@ module _ {K : ℕ} {is-closed : Bool} {cores : ℕ → Core} {marks : Marks} {st
 
   -- ---- Open or closed.
 
-  pub closed-changed : StateBytes K true cores marks (set state closedAt 1)
+  pub closed-changed : DeskBytes K true cores marks (set desk closedAt 1)
   closed-changed =
       let l = b .long in
-      let other : (j : ℕ) → (j ≡ closedAt → ⊥) → getD (set state closedAt 1) j 0 ≡ getD state j 0 = λ j n. getD-set-other state closedAt j 1 0 n in
+      let other : (j : ℕ) → (j ≡ closedAt → ⊥) → getD (set desk closedAt 1) j 0 ≡ getD desk j 0 = λ j n. getD-set-other desk closedAt j 1 0 n in
       record {
         long = simp length-set l;
         classes = other 0 (λ e. omega arith) ∙ b .classes;
-        closed = getD-set-same state closedAt 1 0 (omega arith);
+        closed = getD-set-same desk closedAt 1 0 (omega arith);
         states = λ j lj. other (statesAt + j) (λ e. omega arith) ∙ b .states j lj;
         depths = λ j f lj lf. other (depthsAt + frameNumber j f) (λ e. omega arith) ∙ b .depths j f lj lf;
         usage = λ c lc. other (marksAt + c) (λ e. omega arith) ∙ b .usage c lc;

@@ -13,12 +13,11 @@ use lib.Bits.{bitOr}
 use lib.ListN.{length, getD, set, take, length-set}
 use lib.Seq.{getD-set-same, getD-set-other}
 use borrow.Author.Tests.{eq-eqb, ne-eqb}
-use Rattle.words.specs.Pack.{pack}
 use Rattle.rules.specs.Limits.{maxDepth}
 use Rattle.rules.specs.HeldLocks.{HeldLock, sameFirst, sameSecond, firstOf, secondBy, someHeld}
 use Rattle.rules.specs.Graph.{Kind, Dependencies}
 use Rattle.layout.specs.Layout.{kindsOf, heldOf, depthOf}
-use Rattle.layout.specs.Encoding.{kindByte, MatrixBytes, KeepsPast}
+use Rattle.layout.specs.Encoding.{kindByte, SheetBytes, KeepsPast}
 use Rattle.layout.proofs.Buffers.{cell-inside}
 use Rattle.layout.proofs.Flags.{kind-or}
 use Rattle.context.specs.Bits.{kindsBy, kindBits}
@@ -34,10 +33,10 @@ cell-apart K f t f′ t′ lt lt′ e =
       | no n ↦ elim (decLt f′ f) [ yes l ↦ absurd (let h = mul-le-mul-right K l in omega arith) | no m ↦ omega arith ]
     ]
 
-pub same-dependencies : {K : ℕ} {matrix : List ℕ} (d d′ : Dependencies) → ((f t : ℕ) (k : Kind) → d f t k ≡ d′ f t k) → MatrixBytes K d matrix
-    → MatrixBytes K d′ matrix
-same-dependencies {K} {matrix} d d′ e m =
-    subst (λ (x : Dependencies). MatrixBytes K x matrix) (fun-ext (λ f. fun-ext (λ t. fun-ext (λ k. e f t k)))) m
+pub same-dependencies : {K : ℕ} {sheet : List ℕ} (d d′ : Dependencies) → ((f t : ℕ) (k : Kind) → d f t k ≡ d′ f t k) → SheetBytes K d sheet
+    → SheetBytes K d′ sheet
+same-dependencies {K} {sheet} d d′ e m =
+    subst (λ (x : Dependencies). SheetBytes K x sheet) (fun-ext (λ f. fun-ext (λ t. fun-ext (λ k. e f t k)))) m
 
 module _ (K from to held acquired : ℕ) (lf : from < K) (lt : to < K) where
   -- One dependency more, at one cell.
@@ -45,18 +44,18 @@ module _ (K from to held acquired : ℕ) (lf : from < K) (lt : to < K) where
   oneMore d f t k = d f t k || (eqb f from && (eqb t to && kindsBy held acquired f t k))
 
   there : (d : Dependencies) → bitOr (kindByte d from to) (kindBits held acquired) ≡ kindByte (oneMore d) from to
-  unfolding kindBits pack
+  unfolding kindBits kindByte
   there d =
       kind-or d (kindsBy held acquired) from to
       ∙ sym (rw (eq-eqb from from refl, eq-eqb to to refl) refl)
 
   elsewhere : (d : Dependencies) (f t : ℕ) → (f ≡ from → ⊥) ⊎ (t ≡ to → ⊥) → kindByte d f t ≡ kindByte (oneMore d) f t
-  unfolding pack
+  unfolding kindByte
   elsewhere d f t (inl n) = sym (simp (ne-eqb f from n, or-false))
   elsewhere d f t (inr n) = sym (simp (ne-eqb t to n, and-false, or-false))
 
-  add-cell : (d : Dependencies) (now : List ℕ) → MatrixBytes K d now
-      → MatrixBytes K (oneMore d) (set now (from * K + to) (bitOr (getD now (from * K + to) 0) (kindBits held acquired)))
+  add-cell : (d : Dependencies) (now : List ℕ) → SheetBytes K d now
+      → SheetBytes K (oneMore d) (set now (from * K + to) (bitOr (getD now (from * K + to) 0) (kindBits held acquired)))
   add-cell d now m = record { long = simp length-set (m .long); kinds = λ f t l l′. at f t l l′ (ℕ-discrete f from) (ℕ-discrete t to) }
     where
       cell : ℕ
@@ -81,13 +80,13 @@ module _ (K from to held acquired : ℕ) (lf : from < K) (lt : to < K) where
 -- ---- Place by place.
 
 -- The dependencies of the first p places are drawn.
-pub record Drawing (state : List ℕ) (K n class mode : ℕ) (before : List ℕ) (p : ℕ) (now : List ℕ) : Type 0 where
+pub record Drawing (desk : List ℕ) (K n class mode : ℕ) (before : List ℕ) (p : ℕ) (now : List ℕ) : Type 0 where
   pub keeps : KeepsPast (K * K) before now
-  pub drawn : (hs : List HeldLock) → FrameBytes state n hs → SmallClasses hs → (locks : Dependencies) → MatrixBytes K locks before
-      → MatrixBytes K (λ f t k. locks f t k || drawnFrom (take p hs) class mode f t k) now
+  pub drawn : (hs : List HeldLock) → FrameBytes desk n hs → SmallClasses hs → (locks : Dependencies) → SheetBytes K locks before
+      → SheetBytes K (λ f t k. locks f t k || drawnFrom (take p hs) class mode f t k) now
 
-module _ (state : List ℕ) (K n class mode : ℕ) (before : List ℕ) where
-  pub drawing-start : Drawing state K n class mode before 0 before
+module _ (desk : List ℕ) (K n class mode : ℕ) (before : List ℕ) where
+  pub drawing-start : Drawing desk K n class mode before 0 before
   drawing-start =
       record {
         keeps = record { long = refl; past = λ j l. refl };
@@ -105,21 +104,21 @@ module _ (state : List ℕ) (K n class mode : ℕ) (before : List ℕ) where
   regroup false false b x true c = refl
   regroup false false b x false c = refl
 
-  pub drawing-step : (p : ℕ) (now : List ℕ) → Drawing state K n class mode before p now → p < depthOf state n → p < maxDepth → class < K
-      → heldOf state n p % 64 < K → K * K ≤ length before
-      → Drawing state K n class mode before (p + 1)
-      (set now (heldOf state n p % 64 * K + class) (bitOr (getD now (heldOf state n p % 64 * K + class) 0) (kindBits (heldOf state n p / 64) mode)))
+  pub drawing-step : (p : ℕ) (now : List ℕ) → Drawing desk K n class mode before p now → p < depthOf desk n → p < maxDepth → class < K
+      → heldOf desk n p % 64 < K → K * K ≤ length before
+      → Drawing desk K n class mode before (p + 1)
+      (set now (heldOf desk n p % 64 * K + class) (bitOr (getD now (heldOf desk n p % 64 * K + class) 0) (kindBits (heldOf desk n p / 64) mode)))
   drawing-step p now D l m lc lh room =
       record {
         keeps = record {
           long = simp length-set (D .keeps .long);
           past = λ j out.
-              getD-set-other now _ j _ 0 (λ e. let h = cell-inside K (heldOf state n p % 64) class lh lc in omega arith) ∙ D .keeps .past j out;
+              getD-set-other now _ j _ 0 (λ e. let h = cell-inside K (heldOf desk n p % 64) class lh lc in omega arith) ∙ D .keeps .past j out;
         };
         drawn = λ hs F small locks mb.
             let d = F .depth in
             let h = getD hs p none in
-            let lock = lock-at state n hs F small p (omega arith) m in
+            let lock = lock-at desk n hs F small p (omega arith) m in
             let q = add-cell K (h .class) class (h .mode) mode (rw (lock .class) at lh) lc _ now (D .drawn hs F small locks mb) in
             rw (lock .class, lock .mode, add-one)
             (same-dependencies _ (λ f t k. locks f t k || drawnFrom (take (suc p) hs) class mode f t k)
@@ -132,11 +131,11 @@ module _ (state : List ℕ) (K n class mode : ℕ) (before : List ℕ) where
       }
 
   -- All places: what the contract says.
-  pub drawing-done : (d : ℕ) (now : List ℕ) → Drawing state K n class mode before d now → d ≡ depthOf state n → Drawn state K n class mode before now
+  pub drawing-done : (d : ℕ) (now : List ℕ) → Drawing desk K n class mode before d now → d ≡ depthOf desk n → Drawn desk K n class mode before now
   drawing-done d now D e =
       record {
         keeps = D .keeps;
         drawn = λ hs F small locks mb.
-            subst (λ (l : List HeldLock). MatrixBytes K (λ f t k. locks f t k || drawnFrom l class mode f t k) now)
+            subst (λ (l : List HeldLock). SheetBytes K (λ f t k. locks f t k || drawnFrom l class mode f t k) now)
             (ap (λ (i : ℕ). take i hs) (e ∙ F .depth) ∙ all-places hs) (D .drawn hs F small locks mb);
       }

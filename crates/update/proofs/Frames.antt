@@ -12,7 +12,7 @@ use lib.ListN.{length, getD, set, length-set, length-append}
 use lib.Seq.{getD-set-same, getD-set-other}
 use Rattle.rules.specs.Limits.{maxDepth}
 use Rattle.rules.specs.HeldLocks.{HeldLock}
-use Rattle.layout.specs.Layout.{frameCount, stateSize, depthsAt, heldAt, depthOf, heldOf}
+use Rattle.layout.specs.Layout.{frameCount, deskSize, depthsAt, heldAt, depthOf, heldOf}
 use Rattle.layout.specs.Encoding.{heldByte, heldByteAt}
 use Rattle.update.specs.Update.{FrameBytes, KeepsElse, Pushed, removeAt, Removed}
 
@@ -28,10 +28,10 @@ byte-last [] h p e = rw e refl
 byte-last (x ∷ hs) h zero e = absurd (omega arith)
 byte-last (x ∷ hs) h (suc p) e = byte-last hs h p (omega arith)
 
-module _ (state : List ℕ) (n : ℕ) (long : stateSize ≤ length state) (inside : n < frameCount) (room : depthOf state n < maxDepth) where
+module _ (desk : List ℕ) (n : ℕ) (long : deskSize ≤ length desk) (inside : n < frameCount) (room : depthOf desk n < maxDepth) where
   pub push-law : (class mode : ℕ)
-      → Pushed state n class mode
-      (set (set state (heldAt + maxDepth * n + depthOf state n) (class + 64 * mode)) (depthsAt + n) (depthOf state n + 1))
+      → Pushed desk n class mode
+      (set (set desk (heldAt + maxDepth * n + depthOf desk n) (class + 64 * mode)) (depthsAt + n) (depthOf desk n + 1))
   push-law class mode =
       record {
         keeps = record { long = simp length-set; else = λ j nd out. other j nd (⊎-elim (λ l e. omega arith) (λ l e. omega arith) out) };
@@ -39,37 +39,37 @@ module _ (state : List ℕ) (n : ℕ) (long : stateSize ≤ length state) (insid
       }
     where
       d : ℕ
-      d = depthOf state n
+      d = depthOf desk n
 
       h : HeldLock
       h = record { class = class; mode = mode }
 
       once : List ℕ
-      once = set state (heldAt + maxDepth * n + depthOf state n) (class + 64 * mode)
+      once = set desk (heldAt + maxDepth * n + depthOf desk n) (class + 64 * mode)
 
-      other : (j : ℕ) → (j ≡ depthsAt + n → ⊥) → (j ≡ heldAt + maxDepth * n + depthOf state n → ⊥)
-          → getD (set once (depthsAt + n) (depthOf state n + 1)) j 0 ≡ getD state j 0
+      other : (j : ℕ) → (j ≡ depthsAt + n → ⊥) → (j ≡ heldAt + maxDepth * n + depthOf desk n → ⊥)
+          → getD (set once (depthsAt + n) (depthOf desk n + 1)) j 0 ≡ getD desk j 0
       other j nd nh =
-          getD-set-other once (depthsAt + n) j (depthOf state n + 1) 0 nd
-          ∙ getD-set-other state (heldAt + maxDepth * n + depthOf state n) j (class + 64 * mode) 0 nh
+          getD-set-other once (depthsAt + n) j (depthOf desk n + 1) 0 nd
+          ∙ getD-set-other desk (heldAt + maxDepth * n + depthOf desk n) j (class + 64 * mode) 0 nh
 
-      depth : (hs : List HeldLock) → FrameBytes state n hs
-          → getD (set once (depthsAt + n) (depthOf state n + 1)) (depthsAt + n) 0 ≡ length (hs ++ (h ∷ []))
+      depth : (hs : List HeldLock) → FrameBytes desk n hs
+          → getD (set once (depthsAt + n) (depthOf desk n + 1)) (depthsAt + n) 0 ≡ length (hs ++ (h ∷ []))
       depth hs F =
-          let l = length-set state (heldAt + maxDepth * n + depthOf state n) (class + 64 * mode) in
+          let l = length-set desk (heldAt + maxDepth * n + depthOf desk n) (class + 64 * mode) in
           let k = length-append hs (h ∷ []) in
           let e = F .depth in
-          getD-set-same once (depthsAt + n) (depthOf state n + 1) 0 (omega arith) ∙ omega arith
+          getD-set-same once (depthsAt + n) (depthOf desk n + 1) 0 (omega arith) ∙ omega arith
 
-      held : (hs : List HeldLock) → FrameBytes state n hs → (p : ℕ) → p < maxDepth
-          → getD (set once (depthsAt + n) (depthOf state n + 1)) (heldAt + maxDepth * n + p) 0 ≡ heldByteAt (hs ++ (h ∷ [])) p
+      held : (hs : List HeldLock) → FrameBytes desk n hs → (p : ℕ) → p < maxDepth
+          → getD (set once (depthsAt + n) (depthOf desk n + 1)) (heldAt + maxDepth * n + p) 0 ≡ heldByteAt (hs ++ (h ∷ [])) p
       held hs F p l =
-          elim (ℕ-discrete p (depthOf state n)) [
+          elim (ℕ-discrete p (depthOf desk n)) [
             | yes e ↦
                 rw e
-                (getD-set-other once (depthsAt + n) (heldAt + maxDepth * n + depthOf state n) (depthOf state n + 1) 0 (omega arith)
-                ∙ getD-set-same state (heldAt + maxDepth * n + depthOf state n) (class + 64 * mode) 0 (omega arith)
-                ∙ sym (byte-last hs h (depthOf state n) (F .depth)))
+                (getD-set-other once (depthsAt + n) (heldAt + maxDepth * n + depthOf desk n) (depthOf desk n + 1) 0 (omega arith)
+                ∙ getD-set-same desk (heldAt + maxDepth * n + depthOf desk n) (class + 64 * mode) 0 (omega arith)
+                ∙ sym (byte-last hs h (depthOf desk n) (F .depth)))
             | no ne ↦
                 other (heldAt + maxDepth * n + p) (λ e. omega arith) (λ e. ne (omega arith))
                 ∙ F .held p l
@@ -128,7 +128,7 @@ moving-step before now n q p m l =
           ∙ m .else j (⊎-elim (λ l. inl l) (λ l. inr (omega arith)) o);
     }
 
-module _ (before : List ℕ) (n q : ℕ) (long : stateSize ≤ length before) (inside : n < frameCount) (few : depthOf before n ≤ maxDepth) (there : q < depthOf before n) where
+module _ (before : List ℕ) (n q : ℕ) (long : deskSize ≤ length before) (inside : n < frameCount) (few : depthOf before n ≤ maxDepth) (there : q < depthOf before n) where
   pub remove-law : (now : List ℕ) (last : ℕ) → suc last ≡ depthOf before n → Moving before n q last now
       → Removed before n q (set (set now (heldAt + maxDepth * n + last) 0) (depthsAt + n) last)
   remove-law now last is m =

@@ -12,19 +12,18 @@ use lib.Bits.{bitOr}
 use lib.ListN.{length, getD, set, take, length-set}
 use lib.Seq.{getD-set-same, getD-set-other}
 use borrow.Author.Tests.{eq-eqb, ne-eqb}
-use Rattle.words.specs.Pack.{pack}
 use Rattle.rules.specs.Limits.{maxClasses, maxDepth}
 use Rattle.rules.specs.HeldLocks.{First, Second, HeldLock, someHeld}
 use Rattle.rules.specs.Marks.{Level, Usage, safe, unsafe, Marks, setIn, letterFits}
-use Rattle.layout.specs.Layout.{stateSize, marksAt, heldAt, markOf, heldOf, depthOf}
+use Rattle.layout.specs.Layout.{deskSize, marksAt, heldAt, markOf, heldOf, depthOf}
 use Rattle.layout.specs.Encoding.{markByte}
 use Rattle.layout.proofs.Flags.{mark-or}
 use Rattle.context.specs.Bits.{marksBy, markBits}
 use Rattle.update.specs.Update.{FrameBytes, SmallClasses, MarkBytes, KeepsUnmarked, Marked}
 use Rattle.update.proofs.Prefixes.{none, one-more, all-places, Lock, lock-at}
 
-same-marks : {state : List ℕ} (m m′ : Marks) → ((c : ℕ) (l : Level) (u : Usage) → m c l u ≡ m′ c l u) → MarkBytes state m → MarkBytes state m′
-same-marks {state} m m′ e b = subst (λ (x : Marks). MarkBytes state x) (fun-ext (λ c. fun-ext (λ l. fun-ext (λ u. e c l u)))) b
+same-marks : {desk : List ℕ} (m m′ : Marks) → ((c : ℕ) (l : Level) (u : Usage) → m c l u ≡ m′ c l u) → MarkBytes desk m → MarkBytes desk m′
+same-marks {desk} m m′ e b = subst (λ (x : Marks). MarkBytes desk x) (fun-ext (λ c. fun-ext (λ l. fun-ext (λ u. e c l u)))) b
 
 -- A mark's letter goes by the mode alone.
 letter-mode : (u : Usage) (h : HeldLock) (c : ℕ) → letterFits u (record { class = c; mode = h .mode }) ≡ letterFits u h
@@ -37,14 +36,14 @@ module _ (class context mode : ℕ) (small : class < maxClasses) where
   oneMore m c l u = m c l u || (eqb c class && marksBy context mode c l u)
 
   there : (m : Marks) → bitOr (markByte m class) (markBits context mode) ≡ markByte (oneMore m) class
-  unfolding markBits pack
+  unfolding markBits markByte
   there m = mark-or m (marksBy context mode) class ∙ sym (rw (eq-eqb class class refl) refl)
 
   elsewhere : (m : Marks) (c : ℕ) → (c ≡ class → ⊥) → markByte m c ≡ markByte (oneMore m) c
-  unfolding pack
+  unfolding markByte
   elsewhere m c n = sym (simp (ne-eqb c class n, or-false))
 
-  add-mark : (m : Marks) (now : List ℕ) → stateSize ≤ length now → MarkBytes now m
+  add-mark : (m : Marks) (now : List ℕ) → deskSize ≤ length now → MarkBytes now m
       → MarkBytes (set now (marksAt + class) (bitOr (getD now (marksAt + class) 0) (markBits context mode))) (oneMore m)
   add-mark m now long b = record { usage = λ c l. at c l (ℕ-discrete c class) }
     where
@@ -85,7 +84,7 @@ module _ (before : List ℕ) (n context : ℕ) where
   pub same-held : {p : ℕ} {now : List ℕ} → Marking before n context p now → (q : ℕ) → heldOf now n q ≡ heldOf before n q
   same-held M q = M .keeps .else (heldAt + maxDepth * n + q) (inr (omega arith))
 
-  pub marking-step : (p : ℕ) (now : List ℕ) → Marking before n context p now → p < depthOf before n → p < maxDepth → stateSize ≤ length before
+  pub marking-step : (p : ℕ) (now : List ℕ) → Marking before n context p now → p < depthOf before n → p < maxDepth → deskSize ≤ length before
       → heldOf now n p % 64 < maxClasses
       → Marking before n context (p + 1)
       (set now (marksAt + heldOf now n p % 64) (bitOr (getD now (marksAt + heldOf now n p % 64) 0) (markBits context (heldOf now n p / 64))))

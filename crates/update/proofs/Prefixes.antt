@@ -35,14 +35,14 @@ byte-of (h ∷ hs) zero l = refl
 byte-of (h ∷ hs) (suc p) l = byte-of hs p (le-of-suc-le-suc l)
 
 -- The byte of a held lock gives its class and its mode.
-pub record Lock (state : List ℕ) (n p : ℕ) (h : HeldLock) : Type 0 where
-  pub class : heldOf state n p % 64 ≡ h .class
-  pub mode : heldOf state n p / 64 ≡ h .mode
+pub record Lock (desk : List ℕ) (n p : ℕ) (h : HeldLock) : Type 0 where
+  pub class : heldOf desk n p % 64 ≡ h .class
+  pub mode : heldOf desk n p / 64 ≡ h .mode
 
-pub lock-at : (state : List ℕ) (n : ℕ) (hs : List HeldLock) → FrameBytes state n hs → SmallClasses hs → (p : ℕ) → p < length hs → p < maxDepth
-    → Lock state n p (getD hs p none)
+pub lock-at : (desk : List ℕ) (n : ℕ) (hs : List HeldLock) → FrameBytes desk n hs → SmallClasses hs → (p : ℕ) → p < length hs → p < maxDepth
+    → Lock desk n p (getD hs p none)
 unfolding none
-lock-at state n hs F small p l m =
-    let e : heldOf state n p ≡ heldByte (getD hs p none) = F .held p m ∙ byte-of hs p l in
+lock-at desk n hs F small p l m =
+    let e : heldOf desk n p ≡ heldByte (getD hs p none) = F .held p m ∙ byte-of hs p l in
     let s = small p none l in
     record { class = rw e (omega arith); mode = rw e (omega arith) }

@@ -60,34 +60,34 @@ last-held c (h ∷ hs) (suc q) l e f =
     }
 
 -- What `newest` answers.
-pub data Found (c : ℕ) (hs : List HeldLock) : ℕ → Type 0 where
-  missing : isHeld c hs ≡ false → Found c hs 0
-  present : {q : ℕ} → Newest c hs q → Found c hs (suc q)
+pub data NewestCases (c : ℕ) (hs : List HeldLock) : ℕ → Type 0 where
+  missing : isHeld c hs ≡ false → NewestCases c hs 0
+  present : {q : ℕ} → Newest c hs q → NewestCases c hs (suc q)
 
-pub newest-is : (state : List ℕ) (n : ℕ) (hs : List HeldLock) → FrameBytes state n hs → SmallClasses hs → length hs ≤ maxDepth → (c : ℕ)
-    → Found c hs (newestOf state n c)
+pub newest-is : (desk : List ℕ) (n : ℕ) (hs : List HeldLock) → FrameBytes desk n hs → SmallClasses hs → length hs ≤ maxDepth → (c : ℕ)
+    → NewestCases c hs (newestOf desk n c)
 unfolding newestOf
-newest-is state n hs F small few c = by (last-below (λ p. eqb (heldOf state n p % 64) c) (depthOf state n))
+newest-is desk n hs F small few c = by (last-below (λ p. eqb (heldOf desk n p % 64) c) (depthOf desk n))
   where
-    same : (p : ℕ) → p < length hs → eqb c (getD hs p none .class) ≡ eqb (heldOf state n p % 64) c
+    same : (p : ℕ) → p < length hs → eqb c (getD hs p none .class) ≡ eqb (heldOf desk n p % 64) c
     same p l =
-        let lock = lock-at state n hs F small p l (omega arith) in
+        let lock = lock-at desk n hs F small p l (omega arith) in
         rw (lock .class)
         (elim (ℕ-discrete c (getD hs p none .class)) [
           | yes e ↦ eq-eqb c (getD hs p none .class) e ∙ sym (eq-eqb (getD hs p none .class) c (sym e))
           | no ne ↦ ne-eqb c (getD hs p none .class) ne ∙ sym (ne-eqb (getD hs p none .class) c (λ e. ne (sym e)))
         ])
 
-    by : {r : ℕ} → LastBelow (λ p. eqb (heldOf state n p % 64) c) (depthOf state n) r → Found c hs r
+    by : {r : ℕ} → LastBelow (λ p. eqb (heldOf desk n p % 64) c) (depthOf desk n) r → NewestCases c hs r
     by (nowhere f) = let d = F .depth in missing (none-held c hs (λ p l. same p l ∙ f p (omega arith)))
     by (at {q} l h f) =
         let d = F .depth in
         present (last-held c hs q (omega arith) (same q (omega arith) ∙ h) (λ p lo hi. same p hi ∙ f p lo (omega arith)))
 
-pub not-found : {c r : ℕ} {hs : List HeldLock} → Found c hs r → r ≡ 0 → isHeld c hs ≡ false
+pub not-found : {c r : ℕ} {hs : List HeldLock} → NewestCases c hs r → r ≡ 0 → isHeld c hs ≡ false
 not-found (missing f) e = f
 not-found (present q) e = absurd (omega arith)
 
-pub found-at : {c r : ℕ} {hs : List HeldLock} → Found c hs r → (r ≡ 0 → ⊥) → Newest c hs (r - 1)
+pub found-at : {c r : ℕ} {hs : List HeldLock} → NewestCases c hs r → (r ≡ 0 → ⊥) → Newest c hs (r - 1)
 found-at (missing f) ne = absurd (ne refl)
 found-at (present {q} h) ne = rw sub-one h

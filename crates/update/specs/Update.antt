@@ -11,13 +11,13 @@ use Rattle.rules.specs.Record.{acquire}
 use Rattle.rules.specs.HeldLocks.{HeldLock, sameFirst, sameSecond, firstOf, secondBy, someHeld}
 use Rattle.rules.specs.Marks.{Marks, setIn, letterFits}
 use Rattle.rules.specs.Graph.{Dependencies}
-use Rattle.layout.specs.Layout.{frameCount, stateSize, depthsAt, marksAt, heldAt, depthOf, markOf, heldOf}
-use Rattle.layout.specs.Encoding.{markByte, heldByteAt, MatrixBytes, KeepsPast}
+use Rattle.layout.specs.Layout.{frameCount, deskSize, depthsAt, marksAt, heldAt, depthOf, markOf, heldOf}
+use Rattle.layout.specs.Encoding.{markByte, heldByteAt, SheetBytes, KeepsPast}
 
 -- The bytes of frame n are the held locks hs.
-pub record FrameBytes (state : List ℕ) (n : ℕ) (hs : List HeldLock) : Type 0 where
-  pub depth : depthOf state n ≡ length hs
-  pub held : (p : ℕ) → p < maxDepth → heldOf state n p ≡ heldByteAt hs p
+pub record FrameBytes (desk : List ℕ) (n : ℕ) (hs : List HeldLock) : Type 0 where
+  pub depth : depthOf desk n ≡ length hs
+  pub held : (p : ℕ) → p < maxDepth → heldOf desk n p ≡ heldByteAt hs p
 
 -- Each class fits a held byte.
 abbrev pub SmallClasses : List HeldLock → Type 0
@@ -39,7 +39,7 @@ lastBelow test zero = 0
 lastBelow test (suc d) = cond (test d) (suc d) (lastBelow test d)
 
 unfoldable pub newestOf : List ℕ → ℕ → ℕ → ℕ
-newestOf state n class = lastBelow (λ p. eqb (heldOf state n p % 64) class) (depthOf state n)
+newestOf desk n class = lastBelow (λ p. eqb (heldOf desk n p % 64) class) (depthOf desk n)
 
 -- A list without its element at a place.
 abbrev pub removeAt : ℕ → List HeldLock → List HeldLock
@@ -52,25 +52,25 @@ pub record Removed (before : List ℕ) (n place : ℕ) (after : List ℕ) : Type
   pub frame : (hs : List HeldLock) → FrameBytes before n hs → FrameBytes after n (removeAt place hs)
 
 -- What the frame's bytes must be for the loops over them: every held byte is a class below K and a mode.
-pub record HeldIn (state : List ℕ) (n K : ℕ) : Type 0 where
-  pub long : stateSize ≤ length state
+pub record HeldIn (desk : List ℕ) (n K : ℕ) : Type 0 where
+  pub long : deskSize ≤ length desk
   pub frame : n < frameCount
-  pub depth : depthOf state n ≤ maxDepth
-  pub class : (p : ℕ) → p < depthOf state n → heldOf state n p % 64 < K
-  pub mode : (p : ℕ) → p < depthOf state n → heldOf state n p / 64 < 3
+  pub depth : depthOf desk n ≤ maxDepth
+  pub class : (p : ℕ) → p < depthOf desk n → heldOf desk n p % 64 < K
+  pub mode : (p : ℕ) → p < depthOf desk n → heldOf desk n p / 64 < 3
 
 -- The dependencies that an acquire draws from the held locks hs, as `drawnBy` of the rules has them.
 abbrev pub drawnFrom : List HeldLock → ℕ → ℕ → Dependencies
 drawnFrom hs class mode f t k =
     eqb t class && sameSecond (k .second) (secondBy mode) && someHeld f (λ h. sameFirst (k .first) (firstOf h)) hs
 
-pub record Drawn (state : List ℕ) (K n class mode : ℕ) (before after : List ℕ) : Type 0 where
+pub record Drawn (desk : List ℕ) (K n class mode : ℕ) (before after : List ℕ) : Type 0 where
   pub keeps : KeepsPast (K * K) before after
-  pub drawn : (hs : List HeldLock) → FrameBytes state n hs → SmallClasses hs → (locks : Dependencies) → MatrixBytes K locks before
-      → MatrixBytes K (λ f t k. locks f t k || drawnFrom hs class mode f t k) after
+  pub drawn : (hs : List HeldLock) → FrameBytes desk n hs → SmallClasses hs → (locks : Dependencies) → SheetBytes K locks before
+      → SheetBytes K (λ f t k. locks f t k || drawnFrom hs class mode f t k) after
 
-pub record MarkBytes (state : List ℕ) (marks : Marks) : Type 0 where
-  pub usage : (c : ℕ) → c < maxClasses → markOf state c ≡ markByte marks c
+pub record MarkBytes (desk : List ℕ) (marks : Marks) : Type 0 where
+  pub usage : (c : ℕ) → c < maxClasses → markOf desk c ≡ markByte marks c
 
 -- Only the usage marks may differ.
 pub record KeepsUnmarked (before after : List ℕ) : Type 0 where

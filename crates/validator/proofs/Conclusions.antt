@@ -13,8 +13,8 @@ use Rattle.rules.specs.HeldLocks.{HeldLock, Core, current, someHeld}
 use Rattle.rules.specs.Marks.{Marks, setIn, letterFits}
 use Rattle.rules.specs.Graph.{Dependencies, Graph}
 use Rattle.validity.specs.Valid.{ValidCore}
-use Rattle.layout.specs.Layout.{stateSize, closedAt, frameNumber, classesOf, stateOf}
-use Rattle.layout.specs.Encoding.{StateBytes, MatrixBytes, KeepsPast}
+use Rattle.layout.specs.Layout.{deskSize, closedAt, frameNumber, classesOf, stateOf}
+use Rattle.layout.specs.Encoding.{DeskBytes, SheetBytes, KeepsPast}
 use Rattle.context.proofs.Frames.{frame-less}
 use Rattle.update.specs.Update.{FrameBytes, MarkBytes, Marked}
 use Rattle.update.proofs.Cores.{frame-bytes, marks-changed, closed-changed}
@@ -24,37 +24,38 @@ use Rattle.search.specs.Reports.{Searched}
 use Rattle.search.specs.declared.Found.{Found}
 use Rattle.search.proofs.Reported.{found-cyclic}
 use Rattle.successors.specs.Successors.{Successors}
-use Rattle.report.specs.Shown.{Shown, entriesOf}
+use Rattle.layout.specs.Decoding.{entriesOf}
+use Rattle.report.specs.Shown.{Shown}
 use Rattle.validator.specs.Step.{Reported}
 use Rattle.validator.specs.Conclude.{withMarks, ConcludedOn, is-clean, is-fault, Concluded}
 
-module _ (state matrix report : List ℕ) (core : ℕ) (few : classesOf state ≤ maxClasses) (lc : core < coreCount)
+module _ (desk sheet slip : List ℕ) (core : ℕ) (few : classesOf desk ≤ maxClasses) (lc : core < coreCount)
     (marked rows : List ℕ) (found : Found)
-    (M : Marked state (frameNumber core (frameOf (stateOf state core))) (stateOf state core) marked)
-    (Su : Successors marked matrix (classesOf state) rows) (Se : Searched (classesOf state) rows found) where
+    (M : Marked desk (frameNumber core (frameOf (stateOf desk core))) (stateOf desk core) marked)
+    (Su : Successors marked sheet (classesOf desk) rows) (Se : Searched (classesOf desk) rows found) where
   abbrev K : ℕ
-  K = classesOf state
+  K = classesOf desk
 
-  keeps-marked : KeepsPast stateSize state marked
+  keeps-marked : KeepsPast deskSize desk marked
   keeps-marked = record { long = M .keeps .long; past = λ j l. M .keeps .else j (inr (omega arith)) }
 
-  module _ (cores : ℕ → Core) (marks : Marks) (locks : Dependencies) (SB : StateBytes K false cores marks state)
-      (valid : (i : ℕ) → ValidCore K (cores i)) (MB : MatrixBytes K locks matrix) where
+  module _ (cores : ℕ → Core) (marks : Marks) (locks : Dependencies) (SB : DeskBytes K false cores marks desk)
+      (valid : (i : ℕ) → ValidCore K (cores i)) (MB : SheetBytes K locks sheet) where
     abbrev after : Marks
     after = withMarks marks (cores core)
 
     abbrev graph : Graph
     graph = record { locks = locks; marks = withMarks marks (cores core) }
 
-    now-is : stateOf state core ≡ cores core .state
+    now-is : stateOf desk core ≡ cores core .state
     now-is = SB .states core lc
 
-    current-frame : FrameBytes state (frameNumber core (frameOf (stateOf state core))) (current (cores core))
+    current-frame : FrameBytes desk (frameNumber core (frameOf (stateOf desk core))) (current (cores core))
     current-frame =
-        subst (λ (x : ℕ). FrameBytes state (frameNumber core (frameOf x)) (current (cores core))) (sym now-is)
+        subst (λ (x : ℕ). FrameBytes desk (frameNumber core (frameOf x)) (current (cores core))) (sym now-is)
         (frame-bytes SB core (frameOf (cores core .state)) lc (frame-less (cores core .state) (let v = valid core .states in omega arith)))
 
-    marked-bytes : StateBytes K false cores after marked
+    marked-bytes : DeskBytes K false cores after marked
     marked-bytes =
         marks-changed SB (M .keeps)
         (subst (λ (x : ℕ). MarkBytes marked (λ c l u. marks c l u || (setIn l u x && someHeld c (letterFits u) (current (cores core))))) now-is
@@ -64,7 +65,7 @@ module _ (state matrix report : List ℕ) (core : ℕ) (few : classesOf state �
     graph-rows : Rows K graph rows
     graph-rows = Su .graph K false cores after locks refl marked-bytes MB
 
-  pub conclude-clean : found .n ≡ 0 → Concluded state matrix report core 0 marked report
+  pub conclude-clean : found .n ≡ 0 → Concluded desk sheet slip core 0 marked slip
   conclude-clean z =
       record {
         concluded = λ cores marks locks SB valid MB.
@@ -72,9 +73,9 @@ module _ (state matrix report : List ℕ) (core : ℕ) (few : classesOf state �
             keeps-marked;
       }
 
-  pub conclude-fault : (report′ : List ℕ) → (found .n ≡ 0 → ⊥) → Shown K marked matrix found report report′
-      → Concluded state matrix report core 1 (set marked closedAt 1) report′
-  conclude-fault report′ nz S =
+  pub conclude-fault : (slip′ : List ℕ) → (found .n ≡ 0 → ⊥) → Shown K marked sheet found slip slip′
+      → Concluded desk sheet slip core 1 (set marked closedAt 1) slip′
+  conclude-fault slip′ nz S =
       record {
         concluded = λ cores marks locks SB valid MB.
             let r = graph-rows cores marks locks SB valid MB in
@@ -82,7 +83,7 @@ module _ (state matrix report : List ℕ) (core : ℕ) (few : classesOf state �
             is-fault (found-cyclic r Se (omega arith)) (closed-changed b)
             (record { long = length-set marked closedAt 1 ∙ keeps-marked .long; past = λ j l. getD-set-other marked closedAt j 1 0 (λ e. omega arith) ∙ keeps-marked .past j l })
             (record {
-              entries = entriesOf report′;
+              entries = entriesOf slip′;
               cycle = S .cycle false cores (after cores marks locks SB valid MB) locks rows b MB r Se;
               bytes = S .bytes;
               keeps = rw (sym (S .bytes .count) ∙ S .count) (S .keeps);

@@ -2,22 +2,22 @@
 use mathlib.Core.Path.{_≡_}
 use mathlib.Core.Bool.{true}
 use mathlib.Core.List.{List}
-use Prim.Native.Nat.{ℕ, _<_}
-use lib.ListN.{getD}
+use Prim.Native.Nat.{ℕ}
 use Rattle.layout.specs.Fit.{fits}
-use Rattle.fit.specs.View.{view}
+use Rattle.layout.specs.Encoding.{AllBytes}
+use Rattle.layout.specs.Decoding.{view}
 use Rattle.fit.proofs.Facts.{facts}
 use Rattle.fit.proofs.Fitting.{fit-encodes, fit-valid}
 use Rattle.action.specs.Action.{Cored}
 
-pub fit-cored : (state matrix : List ℕ) → fits state matrix ≡ true → ((j : ℕ) → getD state j 0 < 256) → Cored state
-fit-cored state matrix f bytes =
-    let s = view state matrix in
+pub fit-cored : (desk sheet : List ℕ) → fits desk sheet ≡ true → AllBytes desk → Cored desk
+fit-cored desk sheet f bytes =
+    let s = view desk sheet in
     record {
-      few = facts state matrix f .few;
+      few = facts desk sheet f .few;
       is-closed = s .is-closed;
       cores = s .cores;
       marks = s .graph .marks;
-      encodes = fit-encodes state matrix f bytes .in-state;
-      valid = fit-valid state matrix f .cores;
+      encodes = fit-encodes desk sheet f bytes .in-desk;
+      valid = fit-valid desk sheet f .cores;
     }

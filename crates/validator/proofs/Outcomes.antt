@@ -8,63 +8,66 @@ use native.Mathlib.Omega.{arith}
 use lib.Dec.{leb, eqb}
 use lib.ListN.{length, getD}
 use borrow.Author.Tests.{eq-eqb, le-leb, lt-leb, leb-true}
-use Rattle.words.specs.Pack.{flag}
+use Rattle.words.specs.Bits.{flag}
 use Rattle.rules.specs.Record.{isMalformed, coreOf, eventOf}
 use Rattle.rules.specs.HeldLocks.{Core, afterEvent}
 use Rattle.rules.specs.Marks.{Marks}
 use Rattle.rules.specs.Graph.{Dependencies, Graph}
 use Rattle.rules.specs.Decision.{cyclic}
 use Rattle.rules.specs.Verdict.{Refusal, closed, malformed, clean, fault, refused, refusalNumber, number, refusal}
-use Rattle.rules.specs.Run.{State, situation, accept, close, Outcome, step}
+use Rattle.rules.specs.Run.{State, situation, accept, close, Result, step}
 use Rattle.rules.proofs.Booleans.{and-cases}
 use Rattle.rules.proofs.Steps.{closed-step, refused-number}
 use Rattle.validity.specs.Valid.{ValidCore, Valid}
 use Rattle.validity.proofs.Kept.{valid-accept}
-use Rattle.layout.specs.Layout.{stateSize, matrixSize, reportSize, classesOf, closedOf}
-use Rattle.layout.specs.Encoding.{StateBytes, MatrixBytes, Encodes, KeepsPast}
+use Rattle.layout.specs.Layout.{deskSize, sheetSize, slipSize, classesOf, closedOf}
+use Rattle.layout.specs.Encoding.{DeskBytes, SheetBytes, Encodes, AllBytes, KeepsPast}
+use Rattle.layout.specs.Decoding.{view}
 use Rattle.layout.specs.Fit.{fits, fitsAll}
 use Rattle.layout.proofs.Buffers.{keeps-self, keeps-both}
+use Rattle.fit.proofs.Facts.{facts}
+use Rattle.fit.proofs.Fitting.{fit-encodes, fit-valid}
 use Rattle.action.specs.Action.{ActedOn, refuses, accepts, Acted, Cored}
 use Rattle.validator.specs.Step.{Reported, Validated, Stepped}
 use Rattle.validator.specs.Conclude.{withMarks, ConcludedOn, is-clean, is-fault, Concluded}
 
 -- ---- Unfit.
 
-module _ (state matrix report bytes : List ℕ) where
-  unfit-law : fitsAll state matrix report ≡ false → Stepped state matrix report bytes 11 state matrix report
-  unfit-law f = record { unfit = λ h. (refl, refl, refl, refl); validated = λ h. absurd (true≢false (sym h ∙ f)) }
+module _ (desk sheet slip bytes : List ℕ) where
+  unfit-law : fitsAll desk sheet slip ≡ false → Stepped desk sheet slip bytes 11 desk sheet slip
+  unfit-law f = record { is-unfit = λ h. (refl, refl, refl, refl); validated = λ h. absurd (true≢false (sym h ∙ f)) }
 
-  pub unfit-buffers : fits state matrix ≡ false → Stepped state matrix report bytes 11 state matrix report
+  pub unfit-buffers : fits desk sheet ≡ false → Stepped desk sheet slip bytes 11 desk sheet slip
   unfolding fitsAll
   unfit-buffers f = unfit-law (rw f refl)
 
-  pub unfit-report : fits state matrix ≡ true → length report < reportSize (classesOf state) → Stepped state matrix report bytes 11 state matrix report
+  pub unfit-slip : fits desk sheet ≡ true → length slip < slipSize (classesOf desk) → Stepped desk sheet slip bytes 11 desk sheet slip
   unfolding fitsAll
-  unfit-report f l = unfit-law (rw (f, lt-leb (reportSize (classesOf state)) (length report) l) refl)
+  unfit-slip f l = unfit-law (rw (f, lt-leb (slipSize (classesOf desk)) (length slip) l) refl)
 
   -- ---- Fit.
 
   abbrev K : ℕ
-  K = classesOf state
+  K = classesOf desk
 
-  module _ (f : fits state matrix ≡ true) (room : reportSize K ≤ length report) where
-    fit-law : {answer : ℕ} {state′ matrix′ report′ : List ℕ}
-        → ((s : State) → Valid K s → Encodes K s state matrix → Validated K s bytes state matrix report answer state′ matrix′ report′)
-        → Stepped state matrix report bytes answer state′ matrix′ report′
+  module _ (small : AllBytes desk) (f : fits desk sheet ≡ true) (room : slipSize K ≤ length slip) where
+    fit-law : {answer : ℕ} {desk′ sheet′ slip′ : List ℕ}
+        → ((s : State) → Valid K s → Encodes K s desk sheet → Validated K s bytes desk sheet slip answer desk′ sheet′ slip′)
+        → Stepped desk sheet slip bytes answer desk′ sheet′ slip′
     unfolding fitsAll
     fit-law j =
-        let all : fitsAll state matrix report ≡ true = rw (f, le-leb (reportSize (classesOf state)) (length report) room) refl in
-        record { unfit = λ h. absurd (true≢false (sym all ∙ h)); validated = λ h. j }
+        let all : fitsAll desk sheet slip ≡ true = rw (f, le-leb (slipSize (classesOf desk)) (length slip) room) refl in
+        record { is-unfit = λ h. absurd (true≢false (sym all ∙ h)); validated = λ h. j (view desk sheet) (fit-valid desk sheet f) (fit-encodes desk sheet f small) }
 
-    refused-validated : (s : State) (x : Refusal) → step K s bytes ≡ record { answer = refused x; state = s } → Encodes K s state matrix
-        → Validated K s bytes state matrix report (refusalNumber x) state matrix report
+    refused-validated : (s : State) (x : Refusal) → step K s bytes ≡ record { answer = refused x; state = s } → Encodes K s desk sheet
+        → Validated K s bytes desk sheet slip (refusalNumber x) desk sheet slip
     refused-validated s x e enc =
         let n = refused-number x in
         record {
-          number-is = sym (ap (λ (o : Outcome). number (o .answer)) e);
-          encodes = subst (λ (o : Outcome). Encodes K (o .state) state matrix) (sym e) enc;
-          keeps-state = keeps-self stateSize state;
-          keeps-matrix = keeps-self (matrixSize K) matrix;
+          number-is = sym (ap (λ (o : Result). number (o .answer)) e);
+          encodes = subst (λ (o : Result). Encodes K (o .state) desk sheet) (sym e) enc;
+          keeps-desk = keeps-self deskSize desk;
+          keeps-sheet = keeps-self (sheetSize K) sheet;
           refused = λ h. (refl, refl);
           unreported = λ h. refl;
           reported = λ h. absurd (omega arith);
@@ -81,86 +84,86 @@ module _ (state matrix report bytes : List ℕ) where
     open-flag true n = absurd (n refl)
     open-flag false n = refl
 
-    pub is-closed : closedOf state ≡ 1 → Stepped state matrix report bytes 10 state matrix report
+    pub is-closed : closedOf desk ≡ 1 → Stepped desk sheet slip bytes 10 desk sheet slip
     is-closed e =
-        fit-law (λ s v enc. refused-validated s closed (closed-step K s bytes (closed-flag (s .is-closed) (sym (enc .in-state .closed) ∙ e))) enc)
+        fit-law (λ s v enc. refused-validated s closed (closed-step K s bytes (closed-flag (s .is-closed) (sym (enc .in-desk .closed) ∙ e))) enc)
 
-    module _ (open-state : closedOf state ≡ 1 → ⊥) where
-      opened : (s : State) → Encodes K s state matrix → s .is-closed ≡ false
-      opened s enc = open-flag (s .is-closed) (λ e. open-state (enc .in-state .closed ∙ e))
+    module _ (open-desk : closedOf desk ≡ 1 → ⊥) where
+      opened : (s : State) → Encodes K s desk sheet → s .is-closed ≡ false
+      opened s enc = open-flag (s .is-closed) (λ e. open-desk (enc .in-desk .closed ∙ e))
 
       malformed-first : (s : State) → s .is-closed ≡ false → isMalformed bytes ≡ true → refusal (situation K s bytes) ≡ some malformed
       unfolding refusal
       malformed-first s o h = rw (o, h) refl
 
-      pub is-malformed : isMalformed bytes ≡ true → Stepped state matrix report bytes 3 state matrix report
+      pub is-malformed : isMalformed bytes ≡ true → Stepped desk sheet slip bytes 3 desk sheet slip
       is-malformed h =
           fit-law (λ s v enc. refused-validated s malformed (refusal-step s malformed (malformed-first s (opened s enc) h)) enc)
 
       -- ---- The record's event.
 
-      record Refused (s : State) (answer : ℕ) (state′ matrix′ : List ℕ) : Type 0 where
+      record Refused (s : State) (answer : ℕ) (desk′ sheet′ : List ℕ) : Type 0 where
         by : Refusal
         is : refusal (situation K s bytes) ≡ some by
         number-is : answer ≡ refusalNumber by
-        same-state : state′ ≡ state
-        same-matrix : matrix′ ≡ matrix
+        same-desk : desk′ ≡ desk
+        same-sheet : sheet′ ≡ sheet
 
-      record Accepted (s : State) (state′ matrix′ : List ℕ) : Type 0 where
+      record Accepted (s : State) (desk′ sheet′ : List ℕ) : Type 0 where
         is : refusal (situation K s bytes) ≡ none
-        in-state : StateBytes K (s .is-closed) (accept s bytes .cores) (s .graph .marks) state′
-        in-matrix : MatrixBytes K (accept s bytes .graph .locks) matrix′
-        keeps-state : KeepsPast stateSize state state′
-        keeps-matrix : KeepsPast (K * K) matrix matrix′
+        in-desk : DeskBytes K (s .is-closed) (accept s bytes .cores) (s .graph .marks) desk′
+        in-sheet : SheetBytes K (accept s bytes .graph .locks) sheet′
+        keeps-desk : KeepsPast deskSize desk desk′
+        keeps-sheet : KeepsPast (K * K) sheet sheet′
 
-      refused-as : {s : State} {answer : ℕ} {state′ matrix′ : List ℕ} → ActedOn K s bytes state matrix answer state′ matrix′ → (answer ≡ 0 → ⊥)
-          → Refused s answer state′ matrix′
-      refused-as (refuses x e) n = record { by = x; is = e; number-is = refl; same-state = refl; same-matrix = refl }
+      refused-as : {s : State} {answer : ℕ} {desk′ sheet′ : List ℕ} → ActedOn K s bytes desk sheet answer desk′ sheet′ → (answer ≡ 0 → ⊥)
+          → Refused s answer desk′ sheet′
+      refused-as (refuses x e) n = record { by = x; is = e; number-is = refl; same-desk = refl; same-sheet = refl }
       refused-as (accepts e sb mb ks km) n = absurd (n refl)
 
-      accepted-as : {s : State} {answer : ℕ} {state′ matrix′ : List ℕ} → ActedOn K s bytes state matrix answer state′ matrix′ → answer ≡ 0
-          → Accepted s state′ matrix′
+      accepted-as : {s : State} {answer : ℕ} {desk′ sheet′ : List ℕ} → ActedOn K s bytes desk sheet answer desk′ sheet′ → answer ≡ 0
+          → Accepted s desk′ sheet′
       accepted-as (refuses x e) z = absurd (let n = refused-number x in omega arith)
-      accepted-as (accepts e sb mb ks km) z = record { is = e; in-state = sb; in-matrix = mb; keeps-state = ks; keeps-matrix = km }
+      accepted-as (accepts e sb mb ks km) z = record { is = e; in-desk = sb; in-sheet = mb; keeps-desk = ks; keeps-sheet = km }
 
-      pub is-refused : {answer : ℕ} {state′ matrix′ : List ℕ} → Acted state matrix bytes answer state′ matrix′ → (answer ≡ 0 → ⊥)
-          → Stepped state matrix report bytes answer state′ matrix′ report
-      is-refused {answer} {state′} {matrix′} a n =
+      pub is-refused : {answer : ℕ} {desk′ sheet′ : List ℕ} → Acted desk sheet bytes answer desk′ sheet′ → (answer ≡ 0 → ⊥)
+          → Stepped desk sheet slip bytes answer desk′ sheet′ slip
+      is-refused {answer} {desk′} {sheet′} a n =
           fit-law
           (λ s v enc.
           let r = refused-as (a .acted s (opened s enc) v enc) n in
-          subst (λ (k : ℕ). Validated K s bytes state matrix report k state′ matrix′ report) (sym (r .number-is))
-          (subst (λ (l : List ℕ). Validated K s bytes state matrix report (refusalNumber (r .by)) l matrix′ report) (sym (r .same-state))
-          (subst (λ (l : List ℕ). Validated K s bytes state matrix report (refusalNumber (r .by)) state l report) (sym (r .same-matrix))
+          subst (λ (k : ℕ). Validated K s bytes desk sheet slip k desk′ sheet′ slip) (sym (r .number-is))
+          (subst (λ (l : List ℕ). Validated K s bytes desk sheet slip (refusalNumber (r .by)) l sheet′ slip) (sym (r .same-desk))
+          (subst (λ (l : List ℕ). Validated K s bytes desk sheet slip (refusalNumber (r .by)) desk l slip) (sym (r .same-sheet))
           (refused-validated s (r .by) (refusal-step s (r .by) (r .is)) enc))))
 
       -- An accepted record leaves valid cores.
-      pub accepted-cores : {state′ matrix′ : List ℕ} {answer : ℕ} → K ≤ 64 → (s : State) → Valid K s → Encodes K s state matrix
-          → Acted state matrix bytes answer state′ matrix′ → answer ≡ 0 → Cored state′
-      accepted-cores {state′} few s v enc a z =
+      accepted-cores : {desk′ sheet′ : List ℕ} {answer : ℕ} → K ≤ 64 → (s : State) → Valid K s → Encodes K s desk sheet
+          → Acted desk sheet bytes answer desk′ sheet′ → answer ≡ 0 → Cored desk′
+      accepted-cores {desk′} few s v enc a z =
           let p = accepted-as (a .acted s (opened s enc) v enc) z in
           let valid = valid-accept K s bytes v (p .is) in
-          let e : K ≡ classesOf state′ = sym (p .in-state .classes) in
+          let e : K ≡ classesOf desk′ = sym (p .in-desk .classes) in
           record {
             few = rw (← e) few;
             is-closed = s .is-closed;
             cores = accept s bytes .cores;
             marks = s .graph .marks;
-            encodes = subst (λ (k : ℕ). StateBytes k (s .is-closed) (accept s bytes .cores) (s .graph .marks) state′) e (p .in-state);
+            encodes = subst (λ (k : ℕ). DeskBytes k (s .is-closed) (accept s bytes .cores) (s .graph .marks) desk′) e (p .in-desk);
             valid = λ i. subst (λ (k : ℕ). ValidCore k (accept s bytes .cores i)) e (valid .cores i);
           }
 
       -- ---- What follows an accepted record.
 
-      concluded-at : {state′ matrix′ state″ report″ : List ℕ} {answer : ℕ} → classesOf state′ ≡ K
-          → Concluded state′ matrix′ report (coreOf bytes) answer state″ report″ → (cores : ℕ → Core) (marks : Marks) (locks : Dependencies)
-          → StateBytes K false cores marks state′ → ((i : ℕ) → ValidCore K (cores i)) → MatrixBytes K locks matrix′
-          → ConcludedOn K cores marks locks (coreOf bytes) state′ report answer state″ report″
-      concluded-at {state′} {matrix′} {state″} {report″} {answer} e c cores marks locks =
+      concluded-at : {desk′ sheet′ desk″ slip″ : List ℕ} {answer : ℕ} → classesOf desk′ ≡ K
+          → Concluded desk′ sheet′ slip (coreOf bytes) answer desk″ slip″ → (cores : ℕ → Core) (marks : Marks) (locks : Dependencies)
+          → DeskBytes K false cores marks desk′ → ((i : ℕ) → ValidCore K (cores i)) → SheetBytes K locks sheet′
+          → ConcludedOn K cores marks locks (coreOf bytes) desk′ slip answer desk″ slip″
+      concluded-at {desk′} {sheet′} {desk″} {slip″} {answer} e c cores marks locks =
           subst
           (λ (k : ℕ).
-          StateBytes k false cores marks state′ → ((i : ℕ) → ValidCore k (cores i)) → MatrixBytes k locks matrix′
-          → ConcludedOn k cores marks locks (coreOf bytes) state′ report answer state″ report″)
+          DeskBytes k false cores marks desk′ → ((i : ℕ) → ValidCore k (cores i)) → SheetBytes k locks sheet′
+          → ConcludedOn k cores marks locks (coreOf bytes) desk′ slip answer desk″ slip″)
           e (c .concluded cores marks locks)
 
       -- The core that the record names, after it.
@@ -181,65 +184,68 @@ module _ (state matrix report bytes : List ℕ) where
           → step K s bytes ≡ record { answer = fault; state = close (accept s bytes) }
       step-fault s e c = rw (e, c) refl
 
-      module _ (s : State) {state′ matrix′ : List ℕ} (o : s .is-closed ≡ false) (p : Accepted s state′ matrix′) where
+      module _ (s : State) {desk′ sheet′ : List ℕ} (o : s .is-closed ≡ false) (p : Accepted s desk′ sheet′) where
         abbrev marks′ : Marks
         marks′ = withMarks (s .graph .marks) (accept s bytes .cores (coreOf bytes))
 
-        encoded : (b : Bool) {state″ : List ℕ} → StateBytes K b (accept s bytes .cores) marks′ state″
-            → Encodes K (record { is-closed = b; cores = accept s bytes .cores; graph = accept s bytes .graph }) state″ matrix′
-        encoded b {state″} sb =
+        encoded : (b : Bool) {desk″ : List ℕ} → DeskBytes K b (accept s bytes .cores) marks′ desk″
+            → Encodes K (record { is-closed = b; cores = accept s bytes .cores; graph = accept s bytes .graph }) desk″ sheet′
+        encoded b {desk″} sb =
             record {
-              in-state = subst (λ (g : Graph). StateBytes K b (accept s bytes .cores) (g .marks) state″) (same-graph s) sb;
-              in-matrix = p .in-matrix;
+              in-desk = subst (λ (g : Graph). DeskBytes K b (accept s bytes .cores) (g .marks) desk″) (same-graph s) sb;
+              in-sheet = p .in-sheet;
             }
 
-        validate : {answer : ℕ} {state″ report″ : List ℕ}
-            → ConcludedOn K (accept s bytes .cores) (s .graph .marks) (accept s bytes .graph .locks) (coreOf bytes) state′ report answer state″ report″
-            → Validated K s bytes state matrix report answer state″ matrix′ report″
-        validate {state″} (is-clean c sb ks) =
+        validate : {answer : ℕ} {desk″ slip″ : List ℕ}
+            → ConcludedOn K (accept s bytes .cores) (s .graph .marks) (accept s bytes .graph .locks) (coreOf bytes) desk′ slip answer desk″ slip″
+            → Validated K s bytes desk sheet slip answer desk″ sheet′ slip″
+        validate {desk″} (is-clean c sb ks) =
             let e = step-clean s (p .is) (sym (ap (cyclic K) (same-graph s)) ∙ c) in
             record {
-              number-is = sym (ap (λ (t : Outcome). number (t .answer)) e);
-              encodes = subst (λ (t : Outcome). Encodes K (t .state) state″ matrix′) (sym e)
-                  (subst (λ (b : Bool). Encodes K (record { is-closed = b; cores = accept s bytes .cores; graph = accept s bytes .graph }) state″ matrix′) (sym o)
+              number-is = sym (ap (λ (t : Result). number (t .answer)) e);
+              encodes = subst (λ (t : Result). Encodes K (t .state) desk″ sheet′) (sym e)
+                  (subst (λ (b : Bool). Encodes K (record { is-closed = b; cores = accept s bytes .cores; graph = accept s bytes .graph }) desk″ sheet′) (sym o)
                   (encoded false sb));
-              keeps-state = keeps-both (p .keeps-state) ks;
-              keeps-matrix = p .keeps-matrix;
+              keeps-desk = keeps-both (p .keeps-desk) ks;
+              keeps-sheet = p .keeps-sheet;
               refused = λ h. absurd (omega arith);
               unreported = λ h. refl;
               reported = λ h. absurd (omega arith);
             }
-        validate {state″} {report″} (is-fault c sb ks r) =
+        validate {desk″} {slip″} (is-fault c sb ks r) =
             let e = step-fault s (p .is) (sym (ap (cyclic K) (same-graph s)) ∙ c) in
             record {
-              number-is = sym (ap (λ (t : Outcome). number (t .answer)) e);
-              encodes = subst (λ (t : Outcome). Encodes K (t .state) state″ matrix′) (sym e) (encoded true sb);
-              keeps-state = keeps-both (p .keeps-state) ks;
-              keeps-matrix = p .keeps-matrix;
+              number-is = sym (ap (λ (t : Result). number (t .answer)) e);
+              encodes = subst (λ (t : Result). Encodes K (t .state) desk″ sheet′) (sym e) (encoded true sb);
+              keeps-desk = keeps-both (p .keeps-desk) ks;
+              keeps-sheet = p .keeps-sheet;
               refused = λ h. absurd (omega arith);
               unreported = λ h. absurd (h refl);
               reported = λ h.
-                  subst (λ (t : Outcome). Reported K (t .state .graph) report report″) (sym e)
-                  (subst (λ (g : Graph). Reported K g report report″) (same-graph s) r);
+                  subst (λ (t : Result). Reported K (t .state .graph) slip slip″) (sym e)
+                  (subst (λ (g : Graph). Reported K g slip slip″) (same-graph s) r);
             }
 
-      pub is-validated : {state′ matrix′ state″ report″ : List ℕ} {before answer : ℕ} → Acted state matrix bytes before state′ matrix′ → before ≡ 0
-          → Concluded state′ matrix′ report (coreOf bytes) answer state″ report″ → Stepped state matrix report bytes answer state″ matrix′ report″
-      is-validated {state′} a z c =
+      pub is-validated : {desk′ sheet′ desk″ slip″ : List ℕ} {before answer : ℕ} → Acted desk sheet bytes before desk′ sheet′ → before ≡ 0
+          → Concluded desk′ sheet′ slip (coreOf bytes) answer desk″ slip″ → Stepped desk sheet slip bytes answer desk″ sheet′ slip″
+      is-validated {desk′} a z c =
           fit-law
           (λ s v enc.
           let o = opened s enc in
           let p = accepted-as (a .acted s o v enc) z in
           let valid = valid-accept K s bytes v (p .is) in
           validate s o p
-          (concluded-at (p .in-state .classes) c (accept s bytes .cores) (s .graph .marks) (accept s bytes .graph .locks)
-          (subst (λ (b : Bool). StateBytes K b (accept s bytes .cores) (s .graph .marks) state′) o (p .in-state)) (valid .cores) (p .in-matrix)))
+          (concluded-at (p .in-desk .classes) c (accept s bytes .cores) (s .graph .marks) (accept s bytes .graph .locks)
+          (subst (λ (b : Bool). DeskBytes K b (accept s bytes .cores) (s .graph .marks) desk′) o (p .in-desk)) (valid .cores) (p .in-sheet)))
 
       -- What follows is given what it asks for.
-      pub conclude-ready : {state′ matrix′ : List ℕ} {answer : ℕ} → K ≤ 64 → (s : State) → Valid K s → Encodes K s state matrix
-          → Acted state matrix bytes answer state′ matrix′ → answer ≡ 0
-          → Cored state′ × (matrixSize (classesOf state′) ≤ length matrix′) × (reportSize (classesOf state′) ≤ length report)
-      conclude-ready few s v enc a z =
+      pub conclude-ready : {desk′ sheet′ : List ℕ} {answer : ℕ}
+          → Acted desk sheet bytes answer desk′ sheet′ → answer ≡ 0
+          → Cored desk′ × (sheetSize (classesOf desk′) ≤ length sheet′) × (slipSize (classesOf desk′) ≤ length slip)
+      conclude-ready a z =
+          let s = view desk sheet in
+          let v = fit-valid desk sheet f in
+          let enc = fit-encodes desk sheet f small in
           let p = accepted-as (a .acted s (opened s enc) v enc) z in
-          let e = p .in-state .classes in
-          (accepted-cores few s v enc a z, rw e (p .in-matrix .long), rw e room)
+          let e = p .in-desk .classes in
+          (accepted-cores (facts desk sheet f .few) s v enc a z, rw e (p .in-sheet .long), rw e room)

@@ -8,25 +8,25 @@ use Rattle.rules.specs.Marks.{Marks, marksOf}
 use Rattle.rules.specs.Graph.{Dependencies, Graph}
 use Rattle.rules.specs.Decision.{cyclic}
 use Rattle.validity.specs.Valid.{ValidCore}
-use Rattle.layout.specs.Layout.{stateSize, classesOf}
-use Rattle.layout.specs.Encoding.{StateBytes, MatrixBytes, KeepsPast}
+use Rattle.layout.specs.Layout.{deskSize, classesOf}
+use Rattle.layout.specs.Encoding.{DeskBytes, SheetBytes, KeepsPast}
 use Rattle.validator.specs.Step.{Reported}
 
 -- The marks with those that a core's state sets on the locks of its current frame.
 abbrev pub withMarks : Marks → Core → Marks
 withMarks marks core c l u = marks c l u || marksOf core c l u
 
-pub data ConcludedOn (K : ℕ) (cores : ℕ → Core) (marks : Marks) (locks : Dependencies) (core : ℕ) (state report : List ℕ)
-    : (answer : ℕ) (state′ report′ : List ℕ) → Type 0 where
-  is-clean : {state′ : List ℕ} → cyclic K (record { locks = locks; marks = withMarks marks (cores core) }) ≡ false
-      → StateBytes K false cores (withMarks marks (cores core)) state′ → KeepsPast stateSize state state′
-      → ConcludedOn K cores marks locks core state report 0 state′ report
-  is-fault : {state′ report′ : List ℕ} → cyclic K (record { locks = locks; marks = withMarks marks (cores core) }) ≡ true
-      → StateBytes K true cores (withMarks marks (cores core)) state′ → KeepsPast stateSize state state′
-      → Reported K (record { locks = locks; marks = withMarks marks (cores core) }) report report′
-      → ConcludedOn K cores marks locks core state report 1 state′ report′
+pub data ConcludedOn (K : ℕ) (cores : ℕ → Core) (marks : Marks) (locks : Dependencies) (core : ℕ) (desk slip : List ℕ)
+    : (answer : ℕ) (desk′ slip′ : List ℕ) → Type 0 where
+  is-clean : {desk′ : List ℕ} → cyclic K (record { locks = locks; marks = withMarks marks (cores core) }) ≡ false
+      → DeskBytes K false cores (withMarks marks (cores core)) desk′ → KeepsPast deskSize desk desk′
+      → ConcludedOn K cores marks locks core desk slip 0 desk′ slip
+  is-fault : {desk′ slip′ : List ℕ} → cyclic K (record { locks = locks; marks = withMarks marks (cores core) }) ≡ true
+      → DeskBytes K true cores (withMarks marks (cores core)) desk′ → KeepsPast deskSize desk desk′
+      → Reported K (record { locks = locks; marks = withMarks marks (cores core) }) slip slip′
+      → ConcludedOn K cores marks locks core desk slip 1 desk′ slip′
 
-pub record Concluded (state matrix report : List ℕ) (core answer : ℕ) (state′ report′ : List ℕ) : Type 0 where
-  pub concluded : (cores : ℕ → Core) (marks : Marks) (locks : Dependencies) → StateBytes (classesOf state) false cores marks state
-      → ((i : ℕ) → ValidCore (classesOf state) (cores i)) → MatrixBytes (classesOf state) locks matrix
-      → ConcludedOn (classesOf state) cores marks locks core state report answer state′ report′
+pub record Concluded (desk sheet slip : List ℕ) (core answer : ℕ) (desk′ slip′ : List ℕ) : Type 0 where
+  pub concluded : (cores : ℕ → Core) (marks : Marks) (locks : Dependencies) → DeskBytes (classesOf desk) false cores marks desk
+      → ((i : ℕ) → ValidCore (classesOf desk) (cores i)) → SheetBytes (classesOf desk) locks sheet
+      → ConcludedOn (classesOf desk) cores marks locks core desk slip answer desk′ slip′

@@ -1,6 +1,11 @@
 // The step: one record over the lent buffers.
 use action::act;
 use action::frame_of;
+use answers::CLOSED;
+use answers::FAULT;
+use answers::MALFORMED;
+use answers::OK;
+use answers::UNFIT;
 use fit::fits;
 use layout::CLASSES_AT;
 use layout::CLOSED_AT;
@@ -17,55 +22,49 @@ ghost use mathlib.Core.Path.{_≡_};
 ghost use Prim.Native.Nat.{_<_, _≤_};
 ghost use lib.ListN.{length};
 ghost use Rattle.rules.specs.Limits.{coreCount};
-ghost use Rattle.layout.specs.Layout.{matrixSize, reportSize, classesOf};
+ghost use Rattle.layout.specs.Layout.{sheetSize, slipSize, classesOf};
 ghost use Rattle.action.specs.Action.{Cored};
 ghost use Rattle.validator.specs.Step.{Stepped};
 ghost use Rattle.validator.specs.Conclude.{Concluded};
 
-pub const MALFORMED: u8 = 3;
-
-pub const CLOSED: u8 = 10;
-
-pub const UNFIT: u8 = 11;
-
 // After an accepted record of a core: its held locks are marked, and the graph is searched.
-fn conclude(state: &mut [u8], matrix: &[u8], report: &mut [u8], core: usize) -> u8
-    requires { ⌜ Cored (now state) × (core < coreCount) × (matrixSize (classesOf (now state)) ≤ length (now matrix)) × (reportSize (classesOf (now state)) ≤ length (now report)) ⌝ }
-    ensures { λ r. ⌜ Concluded (now (state .entry)) (now (matrix .entry)) (now (report .entry)) core r (now (state .exit)) (now (report .exit)) ⌝ }
+fn conclude(desk: &mut [u8], sheet: &[u8], slip: &mut [u8], core: usize) -> u8
+    requires { ⌜ Cored (now desk) × (core < coreCount) × (sheetSize (classesOf (now desk)) ≤ length (now sheet)) × (slipSize (classesOf (now desk)) ≤ length (now slip)) ⌝ }
+    ensures { λ r. ⌜ Concluded (now (desk .entry)) (now (sheet .entry)) (now (slip .entry)) core r (now (desk .exit)) (now (slip .exit)) ⌝ }
 {
-    let k = state[CLASSES_AT] as usize;
-    let frame = frame_of(state, core);
-    let context = state[STATES_AT + core] as usize;
-    mark(state, frame, k, context);
-    let rows = successors(state, matrix, k);
+    let k = desk[CLASSES_AT] as usize;
+    let frame = frame_of(desk, core);
+    let context = desk[STATES_AT + core] as usize;
+    mark(desk, frame, k, context);
+    let rows = successors(desk, sheet, k);
     let found = find_cycle(&rows, k as u32);
     if found.n == 0 {
-        return 0;
+        return OK;
     }
-    show(state, matrix, report, k, found);
-    state[CLOSED_AT] = 1;
-    1
+    show(desk, sheet, slip, k, found);
+    desk[CLOSED_AT] = 1;
+    FAULT
 }
 
-// Validates one record ("judges").
-pub fn step(state: &mut [u8], matrix: &mut [u8], report: &mut [u8], bytes: &[u8]) -> u8
-    ensures { λ r. ⌜ Stepped (now (state .entry)) (now (matrix .entry)) (now (report .entry)) (now (bytes .entry)) r (now (state .exit)) (now (matrix .exit)) (now (report .exit)) ⌝ }
+// Validates one record.
+pub fn step(desk: &mut [u8], sheet: &mut [u8], slip: &mut [u8], bytes: &[u8]) -> u8
+    ensures { λ r. ⌜ Stepped (now (desk .entry)) (now (sheet .entry)) (now (slip .entry)) (now (bytes .entry)) r (now (desk .exit)) (now (sheet .exit)) (now (slip .exit)) ⌝ }
 {
-    if !fits(state, matrix) {
+    if !fits(desk, sheet) {
         return UNFIT;
     }
-    if report.len() < ENTRIES_AT + ENTRY_SIZE * (state[CLASSES_AT] as usize) {
+    if slip.len() < ENTRIES_AT + ENTRY_SIZE * (desk[CLASSES_AT] as usize) {
         return UNFIT;
     }
-    if state[CLOSED_AT] == 1 {
+    if desk[CLOSED_AT] == 1 {
         return CLOSED;
     }
     if is_malformed(bytes) {
         return MALFORMED;
     }
-    let refused = act(state, matrix, bytes);
-    if refused != 0 {
+    let refused = act(desk, sheet, bytes);
+    if refused != OK {
         return refused;
     }
-    conclude(state, matrix, report, bytes[CORE_AT] as usize)
+    conclude(desk, sheet, slip, bytes[CORE_AT] as usize)
 }

@@ -6,9 +6,8 @@ use Prim.Native.Nat.{ℕ, zero, suc, _≤_, _<_, suc-le-suc}
 use native.Mathlib.Nat.{le-of-suc-le-suc, not-suc-le-zero}
 use lib.Dec.{leb, eqb}
 use borrow.Author.Tests.{leb-true}
-use Rattle.rules.specs.Context.{CoreState, nextState, leavesHandler, x, Frame, soft, hard, frameOf, hardOverBothOn, hardOverSoft}
+use Rattle.rules.specs.Context.{CoreState, noState, nextState, leavesHandler, Frame, soft, hard, frameOf, hardOverSoft, mayHoldSoft, mayHoldHard}
 use Rattle.rules.proofs.Booleans.{and-cases}
-use Rattle.validity.specs.Valid.{mayHoldSoft}
 
 -- Interrupt events, the columns of the table.
 abbrev pub eventCount : ℕ
@@ -34,7 +33,7 @@ abbrev entered : Frame → (CoreState → Bool) → CoreState → Bool
 entered f may s = not (eqb f (frameOf s)) || may s
 
 abbrev kept : Frame → (CoreState → Bool) → CoreState → ℕ → Bool
-kept f may s e = let n = nextState s e in eqb n x || (leb n hardOverSoft && (not (may s) || (leavesHandler e && eqb f (frameOf s)) || may n))
+kept f may s e = let n = nextState s e in eqb n noState || (leb n hardOverSoft && (not (may s) || (leavesHandler e && eqb f (frameOf s)) || may n))
 
 pub record FrameStates (f : Frame) (may : CoreState → Bool) : Type 0 where
   enters : all (suc hardOverSoft) (entered f may) ≡ true
@@ -43,14 +42,14 @@ pub record FrameStates (f : Frame) (may : CoreState → Bool) : Type 0 where
 pub soft-states : FrameStates soft mayHoldSoft
 soft-states = record { enters = refl; keeps = refl }
 
-pub hard-states : FrameStates hard (leb hardOverBothOn)
+pub hard-states : FrameStates hard mayHoldHard
 hard-states = record { enters = refl; keeps = refl }
 
 module _ {f : Frame} {may : CoreState → Bool} (t : FrameStates f may) where
   pub current-may : (s : CoreState) → s ≤ hardOverSoft → eqb f (frameOf s) ≡ true → may s ≡ true
   current-may s l = not-or (eqb f (frameOf s)) (all-at (suc hardOverSoft) (entered f may) (t .enters) s (suc-le-suc l))
 
-  module _ (s e : ℕ) (l : s ≤ hardOverSoft) (m : e < eventCount) (h : eqb (nextState s e) x ≡ false) where
+  module _ (s e : ℕ) (l : s ≤ hardOverSoft) (m : e < eventCount) (h : eqb (nextState s e) noState ≡ false) where
     entry : (leb (nextState s e) hardOverSoft ≡ true)
         × ((not (may s) || (leavesHandler e && eqb f (frameOf s)) || may (nextState s e)) ≡ true)
     entry =
@@ -62,3 +61,7 @@ module _ {f : Frame} {may : CoreState → Bool} (t : FrameStates f may) where
 
     pub next-may : (leavesHandler e && eqb f (frameOf s)) ≡ false → may s ≡ true → may (nextState s e) ≡ true
     next-may q p = rw (p, q) at (entry .1)
+
+-- No state has a frame past the hard one.
+pub frame-last : (s : CoreState) → s ≤ hardOverSoft → frameOf s ≤ hard
+frame-last s l = leb-true (frameOf s) hard (all-at (suc hardOverSoft) (λ s. leb (frameOf s) hard) refl s (suc-le-suc l))

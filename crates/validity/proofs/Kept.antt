@@ -1,27 +1,28 @@
 -- Opening gives a valid state, and each record leaves a valid state valid. Assumes nothing.
 use mathlib.Core.Path.{_≡_, refl, sym}
-use mathlib.Core.Bool.{Bool, true, false, cond, _&&_, or-true, false≢true}
+use mathlib.Core.Bool.{Bool, true, false, cond, _&&_, false≢true}
 use mathlib.Core.List.{List, [], _∷_, _++_, List·Memᴰ, List·Memᴰ·head, List·Memᴰ·tail}
 use mathlib.Core.Logic.{⊎-elim}
 use mathlib.Core.Option.{none}
 use Prim.Native.Nat.{ℕ, zero, suc, _≤_, _<_, zero-le, suc-le-suc}
 use native.Mathlib.Nat.{le-of-suc-le-suc, not-suc-le-zero}
 use native.Mathlib.Omega.{arith}
-use lib.Dec.{leb, eqb}
+use lib.Dec.{eqb}
 use lib.ListN.{length, length-append}
-use borrow.Author.Tests.{leb-true, leb-false, le-leb, eqb-true}
+use borrow.Author.Tests.{leb-false, eqb-true, ne-eqb}
 use Rattle.rules.specs.Limits.{maxDepth, kindCount, modeCount}
-use Rattle.rules.specs.Record.{Bytes, Event, acquire, release, interrupt, eventBy, coreOf, kindOf, classOf, modeOf, eventOf, isMalformed}
-use Rattle.rules.specs.Context.{CoreState, nextState, leavesHandler, Frame, soft, hard, frameOf, hardOverBothOn, hardOverSoft, taskSoftOff, softHardOn}
+use Rattle.rules.specs.Record.{Bytes, Event, acquire, release, interrupt, eventBy, coreOf, kindOf, classOf, modeOf, eventOf, WellFormed}
+use Rattle.rules.specs.Context.{CoreState, nextState, leavesHandler, Frame, soft, hard, frameOf, hardOverSoft, mayHoldSoft, mayHoldHard, taskSoftOff, softHardOn}
 use Rattle.rules.specs.HeldLocks.{First, HeldLock, someHeld, isHeld, releaseNewest, Core, current, withCurrent, afterEvent}
 use Rattle.rules.specs.Marks.{Level, hardIrq, softIrq, Usage, unsafe, setIn, letterFits, marksOf}
 use Rattle.rules.specs.Graph.{Kind, Graph, emptyGraph, addTo, drawnBy}
 use Rattle.rules.specs.Verdict.{Refusal, applies, malformed, noClass, noTransition, stillHeld, tooDeep, classMissing, transitionMissing, someLock, leavesLocked, frameFull, refusal}
-use Rattle.rules.specs.Run.{State, startingFrom, start, situation, accept, Outcome, step, run}
+use Rattle.rules.specs.Run.{State, startingFrom, start, situation, accept, Result, step, run}
 use Rattle.rules.proofs.Booleans.{or-cases, or-left, or-mono, and-cases, and-mono}
-use Rattle.rules.proofs.Steps.{Stepped, was-refused, was-clean, was-fault, stepped, accepted-passes}
-use Rattle.validity.specs.Valid.{ValidLock, ValidLocks, mayHoldSoft, ValidCore, ValidGraph, Valid}
-use Rattle.validity.proofs.Contexts.{eventCount, FrameStates, soft-states, hard-states, current-may, next-in-range, next-may}
+use Rattle.rules.proofs.Formed.{well-formed}
+use Rattle.rules.proofs.Steps.{StepCases, was-refused, was-clean, was-fault, stepped, accepted-passes}
+use Rattle.validity.specs.Valid.{ValidLock, ValidLocks, ValidCore, ValidGraph, Valid}
+use Rattle.validity.proofs.Contexts.{eventCount, FrameStates, soft-states, hard-states, current-may, next-in-range, next-may, frame-last}
 
 -- ---- Held locks.
 
@@ -88,15 +89,8 @@ event-in-limits zero c m h l = l
 event-in-limits (suc zero) c m h l = tt
 event-in-limits (suc (suc k)) c m h l = omega arith
 
-well-formed : (r : Bytes) → isMalformed r ≡ false → InLimits (eventOf r)
-unfolding isMalformed
-well-formed r h = by (leb kindCount (kindOf r)) refl (leb modeCount (modeOf r)) refl
-  where
-    by : (b : Bool) → leb kindCount (kindOf r) ≡ b → (d : Bool) → leb modeCount (modeOf r) ≡ d → InLimits (eventOf r)
-    by true e d q = absurd (false≢true (sym (simp (e, or-true) at h)))
-    by false e true q = absurd (false≢true (sym (simp (q, or-true) at h)))
-    by false e false q =
-        event-in-limits (kindOf r) (classOf r) (modeOf r) (leb-false kindCount (kindOf r) e) (leb-false modeCount (modeOf r) q)
+in-limits : (r : Bytes) → WellFormed r → InLimits (eventOf r)
+in-limits r w = event-in-limits (kindOf r) (classOf r) (modeOf r) (w .kind) (w .mode)
 
 -- The frame holds a lock only in the states that pass the test.
 record HeldOnlyIn (f : Frame) (may : CoreState → Bool) (c : Core) : Type 0 where
@@ -125,8 +119,8 @@ module _ (K : ℕ) (c : Core) (v : ValidCore K c) where
   soft-only : HeldOnlyIn soft mayHoldSoft c
   soft-only = record { only = v .soft-held }
 
-  hard-only : HeldOnlyIn hard (leb hardOverBothOn) c
-  hard-only = record { only = λ l. le-leb hardOverBothOn (c .state) (v .hard-held l) }
+  hard-only : HeldOnlyIn hard mayHoldHard c
+  hard-only = record { only = v .hard-held }
 
   current-kept : (hs : List HeldLock) → length hs ≤ maxDepth → ValidLocks K hs → ValidCore K (withCurrent c hs)
   current-kept hs l vs =
@@ -135,7 +129,8 @@ module _ (K : ℕ) (c : Core) (v : ValidCore K c) where
         depths = λ f. depth (eqb f (frameOf (c .state))) f;
         locks = λ f. lock (eqb f (frameOf (c .state))) f;
         soft-held = current-only soft-states c (v .states) soft-only hs .only;
-        hard-held = λ p. leb-true hardOverBothOn (c .state) (current-only hard-states c (v .states) hard-only hs .only p);
+        hard-held = current-only hard-states c (v .states) hard-only hs .only;
+        no-more = λ f l. let k = frame-last (c .state) (v .states) in rw (ne-eqb f (frameOf (c .state)) (λ e. omega arith)) (v .no-more f l);
       }
     where
       depth : (b : Bool) (f : Frame) → length (cond b hs (c .held f)) ≤ maxDepth
@@ -162,7 +157,8 @@ module _ (K : ℕ) (c : Core) (v : ValidCore K c) where
         depths = v .depths;
         locks = v .locks;
         soft-held = next-only soft-states c (v .states) soft-only e i t q .only;
-        hard-held = λ p. leb-true hardOverBothOn (nextState (c .state) e) (next-only hard-states c (v .states) hard-only e i t q .only p);
+        hard-held = next-only hard-states c (v .states) hard-only e i t q .only;
+        no-more = v .no-more;
       }
 
   -- The classes that a valid core marks, and those between which its event draws dependencies, are in range.
@@ -206,7 +202,9 @@ valid-startingFrom K g w =
         locks = λ f. no-locks K;
         soft-held = λ l. absurd (not-suc-le-zero l);
         hard-held = λ l. absurd (not-suc-le-zero l);
+        no-more = λ f l. refl;
       };
+      no-more = λ i l. refl;
       graph = w;
     }
 
@@ -223,25 +221,29 @@ pub valid-accept : (K : ℕ) (s : State) (r : Bytes) → Valid K s → refusal (
 valid-accept K s r v h =
     record {
       cores = λ i. by (eqb i (coreOf r)) i;
+      no-more = λ i l. let c = formed .core in rw (ne-eqb i (coreOf r) (λ e. omega arith)) (v .no-more i l);
       graph = graph-kept K (s .graph) (eventOf r) (s .cores (coreOf r)) (v .graph) (v .cores (coreOf r)) after (passes noClass);
     }
   where
     passes : (x : Refusal) → applies x (situation K s r) ≡ false
     passes x = accepted-passes (situation K s r) x h
 
+    formed : WellFormed r
+    formed = well-formed r (passes malformed)
+
     after : ValidCore K (afterEvent (eventOf r) (s .cores (coreOf r)))
     after =
-        core-kept K (s .cores (coreOf r)) (v .cores (coreOf r)) (eventOf r) (well-formed r (passes malformed)) (passes noClass)
+        core-kept K (s .cores (coreOf r)) (v .cores (coreOf r)) (eventOf r) (in-limits r formed) (passes noClass)
         (passes noTransition) (passes stillHeld) (passes tooDeep)
 
     by : (b : Bool) (i : ℕ) → ValidCore K (cond b (afterEvent (eventOf r) (s .cores (coreOf r))) (s .cores i))
     by true i = after
     by false i = v .cores i
 
-stepped-valid : {K : ℕ} {s : State} {r : Bytes} {o : Outcome} → Stepped K s r o → Valid K s → Valid K (o .state)
+stepped-valid : {K : ℕ} {s : State} {r : Bytes} {o : Result} → StepCases K s r o → Valid K s → Valid K (o .state)
 stepped-valid (was-refused x e) v = v
 stepped-valid {K} {s} {r} (was-clean e q) v = valid-accept K s r v e
-stepped-valid {K} {s} {r} (was-fault e q) v = let w = valid-accept K s r v e in record { cores = w .cores; graph = w .graph }
+stepped-valid {K} {s} {r} (was-fault e q) v = let w = valid-accept K s r v e in record { cores = w .cores; no-more = w .no-more; graph = w .graph }
 
 pub valid-step : (K : ℕ) (s : State) (r : Bytes) → Valid K s → Valid K (step K s r .state)
 valid-step K s r v = stepped-valid (stepped K s r) v

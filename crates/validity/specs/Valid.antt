@@ -1,13 +1,12 @@
 -- What every state of a run satisfies: the limits, where locks may be held, and what the dependency graph names.
 use mathlib.Core.Path.{_≡_}
-use mathlib.Core.Bool.{Bool, true, _||_}
-use mathlib.Core.List.{List}
+use mathlib.Core.Bool.{true}
+use mathlib.Core.List.{List, []}
 use Prim.Native.Nat.{ℕ, _≤_, _<_}
-use lib.Dec.{eqb}
 use lib.ListN.{length, getD}
-use Rattle.rules.specs.Limits.{maxDepth, modeCount}
-use Rattle.rules.specs.Context.{CoreState, softHardOn, softHardOff, hardOverBothOn, hardOverSoft, Frame, soft, hard}
-use Rattle.rules.specs.HeldLocks.{First, HeldLock, Core}
+use Rattle.rules.specs.Limits.{coreCount, maxDepth, modeCount}
+use Rattle.rules.specs.Context.{hardOverSoft, Frame, soft, hard, mayHoldSoft, mayHoldHard}
+use Rattle.rules.specs.HeldLocks.{First, HeldLock, Core, freshCore}
 use Rattle.rules.specs.Marks.{Level, hardIrq, softIrq, Usage, unsafe}
 use Rattle.rules.specs.Graph.{Kind, Graph}
 use Rattle.rules.specs.Run.{State}
@@ -20,16 +19,14 @@ pub record ValidLock (K : ℕ) (h : HeldLock) : Type 0 where
 abbrev pub ValidLocks : ℕ → List HeldLock → Type 0
 ValidLocks K hs = (p : ℕ) (d : HeldLock) → p < length hs → ValidLock K (getD hs p d)
 
--- The states in which the soft frame may hold a lock: a soft interrupt handler, and a hard one that interrupted it.
-abbrev pub mayHoldSoft : CoreState → Bool
-mayHoldSoft s = eqb s softHardOn || eqb s softHardOff || eqb s hardOverSoft
-
 pub record ValidCore (K : ℕ) (c : Core) : Type 0 where
   pub states : c .state ≤ hardOverSoft
   pub depths : (f : Frame) → length (c .held f) ≤ maxDepth
   pub locks : (f : Frame) → ValidLocks K (c .held f)
   pub soft-held : 0 < length (c .held soft) → mayHoldSoft (c .state) ≡ true
-  pub hard-held : 0 < length (c .held hard) → hardOverBothOn ≤ c .state
+  pub hard-held : 0 < length (c .held hard) → mayHoldHard (c .state) ≡ true
+  -- There is no frame past the hard one.
+  pub no-more : (f : Frame) → hard < f → c .held f ≡ []
 
 pub record ValidGraph (K : ℕ) (g : Graph) : Type 0 where
   pub marks-in-range : (c : ℕ) (l : Level) (u : Usage) → g .marks c l u ≡ true → c < K
@@ -39,4 +36,5 @@ pub record ValidGraph (K : ℕ) (g : Graph) : Type 0 where
 
 pub record Valid (K : ℕ) (s : State) : Type 0 where
   pub cores : (i : ℕ) → ValidCore K (s .cores i)
+  pub no-more : (i : ℕ) → coreCount ≤ i → s .cores i ≡ freshCore
   pub graph : ValidGraph K (s .graph)

@@ -6,8 +6,8 @@ use native.Mathlib.Nat.{pow-suc, le-of-suc-le-suc, not-suc-le-zero}
 use native.Mathlib.Omega.{arith}
 use lib.Dec.{eqb}
 use lib.Bits.{bitOr, or-step}
-use Rattle.words.specs.Bits.{bit}
-use Rattle.words.specs.Pack.{flag, pack}
+use Rattle.words.specs.Bits.{bit, flag}
+use Rattle.words.specs.Pack.{pack}
 
 low : (b : Bool) (q : ℕ) → (flag b + 2 * q) % 2 ≡ flag b
 low true q = omega arith
@@ -17,7 +17,11 @@ high : (b : Bool) (q : ℕ) → (flag b + 2 * q) / 2 ≡ q
 high true q = omega arith
 high false q = omega arith
 
-flag-le : (b : Bool) → flag b ≤ 1
+pub flag-back : (b : Bool) → eqb (flag b) 1 ≡ b
+flag-back true = refl
+flag-back false = refl
+
+pub flag-le : (b : Bool) → flag b ≤ 1
 flag-le true = omega arith
 flag-le false = omega arith
 

@@ -13,6 +13,15 @@ use lib.Pow.{pow-pos, shr-shr, shl-exact, pow-lt}
 use Rattle.words.specs.Bits.{bit, With, Lowest, Without, Both}
 
 -- the digit is a shift and a remainder
+-- Two numbers with the same binary digits are equal.
+pub bits-same : (most w v : ℕ) → w ≤ most → v ≤ most → ((t : ℕ) → bit w t ≡ bit v t) → w ≡ v
+unfolding bit
+bits-same zero w v l m h = omega arith
+bits-same (suc most) w v l m h =
+    let low = h zero in
+    let high = bits-same most (w / 2) (v / 2) (omega arith) (omega arith) (λ t. h (suc t)) in
+    omega arith
+
 pub bit-shift : (w i : ℕ) → w / 2 ^ i % 2 ≡ bit w i
 unfolding bit
 bit-shift w zero = ap (λ (x : ℕ). x % 2) (omega arith)

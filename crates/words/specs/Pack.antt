@@ -1,10 +1,7 @@
 -- Flags packed into a number, the first in the lowest bit.
-use mathlib.Core.Bool.{Bool, true, false}
+use mathlib.Core.Bool.{Bool}
 use Prim.Native.Nat.{ℕ, zero, suc, _+_, _*_}
-
-abbrev pub flag : Bool → ℕ
-flag true = 1
-flag false = 0
+use Rattle.words.specs.Bits.{flag}
 
 unfoldable pub pack : ℕ → (ℕ → Bool) → ℕ
 pack zero f = 0

@@ -23,7 +23,7 @@ shared-slice-read-class c = search needs
 returns : tie.Need-returns
 returns c =
     let p = c .before .before .before .before .before .before .pre in
-    let st = c .before .before .before .before .before .before .args .state .now in
+    let st = c .before .before .before .before .before .before .args .desk .now in
     let by = c .before .before .before .before .before .before .args .bytes .now in
     acquire-no-class _ _ _ (p .2) (p .0 .few) (p .3) (c .if1 .taken)
 
@@ -36,28 +36,28 @@ cast-frame-of c = search needs
 frame-of-requires : tie.Need-frame-of-requires
 frame-of-requires c κs =
     let p = c .before .before .before .before .before .before .before .before .pre in
-    let st = c .before .before .before .before .before .before .before .before .args .state .now in
+    let st = c .before .before .before .before .before .before .before .before .args .desk .now in
     let by = c .before .before .before .before .before .before .before .before .args .bytes .now in
     (p .0 .encodes .long, p .2 .core, state-less st (p .0) (coreOf by) (p .2 .core))
 
 add-if2 : tie.Need-add-if2
 add-if2 c =
     let p = c .before .before .before .before .before .before .before .before .before .pre in
-    let st = c .before .before .before .before .before .before .before .before .before .args .state .now in
+    let st = c .before .before .before .before .before .before .before .before .before .args .desk .now in
     let by = c .before .before .before .before .before .before .before .before .before .args .bytes .now in
     let h = number-less st (p .0) (coreOf by) (p .2 .core) in let e = c .frame-of .ensures in omega arith
 
 slice-read-if2 : tie.Need-slice-read-if2
 slice-read-if2 c =
     let p = c .before .before .before .before .before .before .before .before .before .before .pre in
-    let st = c .before .before .before .before .before .before .before .before .before .before .args .state .now in
+    let st = c .before .before .before .before .before .before .before .before .before .before .args .desk .now in
     let by = c .before .before .before .before .before .before .before .before .before .before .args .bytes .now in
     let h = number-less st (p .0) (coreOf by) (p .2 .core) in let e = c .before .frame-of .ensures in let l = p .0 .encodes .long in omega arith
 
 cast-if2 : tie.Need-cast-if2
 cast-if2 c =
     let p = c .before .before .before .before .before .before .before .before .before .before .pre in
-    let st = c .before .before .before .before .before .before .before .before .before .before .args .state .now in
+    let st = c .before .before .before .before .before .before .before .before .before .before .args .desk .now in
     let by = c .before .before .before .before .before .before .before .before .before .before .args .bytes .now in
     omega (arith, c .slice-known4 .given (depthsAt + c .before .frame-of .result))
 
@@ -67,7 +67,7 @@ same-length c = search needs
 returns-2 : tie.Need-returns-2
 returns-2 c =
     let p = c .before .before .before .before .before .before .before .before .before .before .before .pre in
-    let st = c .before .before .before .before .before .before .before .before .before .before .before .args .state .now in
+    let st = c .before .before .before .before .before .before .before .before .before .before .before .args .desk .now in
     let by = c .before .before .before .before .before .before .before .before .before .before .before .args .bytes .now in
     acquire-too-deep _ _ _ (p .2) (p .0 .few) (p .3) (c .before .before .before .before .before .if1 .left) (rw (c .before .before .frame-of .ensures) at (c .if2 .taken))
 
@@ -86,14 +86,14 @@ cast-draw-3 c = search needs
 draw-requires : tie.Need-draw-requires
 draw-requires c κs =
     let p = c .before .before .before .before .before .before .before .before .before .before .before .before .before .before .pre in
-    let st = c .before .before .before .before .before .before .before .before .before .before .before .before .before .before .args .state .now in
+    let st = c .before .before .before .before .before .before .before .before .before .before .before .before .before .before .args .desk .now in
     let by = c .before .before .before .before .before .before .before .before .before .before .before .before .before .before .args .bytes .now in
     (rw (c .before .before .before .before .before .frame-of .ensures) (held-in st (p .0) (coreOf by) (p .2 .core)), p .1, p .0 .few, c .before .before .before .before .before .before .before .before .if1 .left, p .2 .mode)
 
 push-requires : tie.Need-push-requires
 push-requires c κs =
     let p = c .before .before .before .before .before .before .before .before .before .before .before .before .before .before .before .before .before .before .pre in
-    let st = c .before .before .before .before .before .before .before .before .before .before .before .before .before .before .before .before .before .before .args .state .now in
+    let st = c .before .before .before .before .before .before .before .before .before .before .before .before .before .before .before .before .before .before .args .desk .now in
     let by = c .before .before .before .before .before .before .before .before .before .before .before .before .before .before .before .before .before .before .args .bytes .now in
     let l = c .before .before .before .before .before .before .before .before .before .before .before .before .if1 .left in
     let f = p .0 .few in
@@ -108,7 +108,7 @@ same-length-3 c = search needs
 returns-3 : tie.Need-returns-3
 returns-3 c =
     let p = c .before .before .before .before .before .before .before .before .before .before .before .before .before .before .before .before .before .before .before .before .before .pre in
-    let st = c .before .before .before .before .before .before .before .before .before .before .before .before .before .before .before .before .before .before .before .before .before .args .state .now in
+    let st = c .before .before .before .before .before .before .before .before .before .before .before .before .before .before .before .before .before .before .before .before .before .args .desk .now in
     let by = c .before .before .before .before .before .before .before .before .before .before .before .before .before .before .before .before .before .before .before .before .before .args .bytes .now in
     let e = c .before .before .before .before .before .before .before .before .before .before .before .before .frame-of .ensures in
     acquire-accepts _ _ _ (p .2) (p .0 .few) (p .3) (c .before .before .before .before .before .before .before .before .before .before .before .before .before .before .before .if1 .left) (rw e at (c .before .before .before .before .before .before .before .before .before .before .if2 .left)) (rw e at (c .before .before .before .before .before .before .draw .ensures)) (rw e at (c .before .before .push .ensures))

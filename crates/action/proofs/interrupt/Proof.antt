@@ -38,7 +38,7 @@ slice-read-next c = search needs
 cast-next : tie.Need-cast-next
 cast-next c =
     let p = c .before .before .before .before .before .pre in
-    let st = c .before .before .before .before .before .args .state .now in
+    let st = c .before .before .before .before .before .args .desk .now in
     let by = c .before .before .before .before .before .args .bytes .now in
     omega (arith, c .slice-known2 .given (statesAt + coreOf by))
 
@@ -48,16 +48,16 @@ cast-next-2 c = search needs
 next-requires : tie.Need-next-requires
 next-requires c κs =
     let p = c .before .before .before .before .before .pre in
-    let st = c .before .before .before .before .before .args .state .now in
+    let st = c .before .before .before .before .before .args .desk .now in
     let by = c .before .before .before .before .before .args .bytes .now in
     let k = p .1 .kind in (state-less st (p .0) (coreOf by) (p .1 .core), omega arith)
 
 returns : tie.Need-returns
 returns c =
     let p = c .before .before .before .before .before .before .before .pre in
-    let st = c .before .before .before .before .before .before .before .args .state .now in
+    let st = c .before .before .before .before .before .before .before .args .desk .now in
     let by = c .before .before .before .before .before .before .before .args .bytes .now in
-    λ matrix. interrupt-no-transition _ matrix _ (p .1) (p .0 .few) (p .2) (sym (c .before .next .ensures) ∙ c .if1 .taken)
+    λ sheet. interrupt-no-transition _ sheet _ (p .1) (p .0 .few) (p .2) (sym (c .before .next .ensures) ∙ c .if1 .taken)
 
 leaves-handler-requires : tie.Need-leaves-handler-requires
 leaves-handler-requires c κs = search needs
@@ -65,21 +65,21 @@ leaves-handler-requires c κs = search needs
 frame-of-requires : tie.Need-frame-of-requires
 frame-of-requires c κs =
     let p = c .before .before .before .before .before .before .before .before .before .before .pre in
-    let st = c .before .before .before .before .before .before .before .before .before .before .args .state .now in
+    let st = c .before .before .before .before .before .before .before .before .before .before .args .desk .now in
     let by = c .before .before .before .before .before .before .before .before .before .before .args .bytes .now in
     (p .0 .encodes .long, p .1 .core, state-less st (p .0) (coreOf by) (p .1 .core))
 
 add-if3 : tie.Need-add-if3
 add-if3 c =
     let p = c .before .before .before .before .before .before .before .before .before .before .before .pre in
-    let st = c .before .before .before .before .before .before .before .before .before .before .before .args .state .now in
+    let st = c .before .before .before .before .before .before .before .before .before .before .before .args .desk .now in
     let by = c .before .before .before .before .before .before .before .before .before .before .before .args .bytes .now in
     let h = number-less st (p .0) (coreOf by) (p .1 .core) in let e = c .frame-of .ensures in omega arith
 
 slice-read-if3 : tie.Need-slice-read-if3
 slice-read-if3 c =
     let p = c .before .before .before .before .before .before .before .before .before .before .before .before .pre in
-    let st = c .before .before .before .before .before .before .before .before .before .before .before .before .args .state .now in
+    let st = c .before .before .before .before .before .before .before .before .before .before .before .before .args .desk .now in
     let by = c .before .before .before .before .before .before .before .before .before .before .before .before .args .bytes .now in
     let h = number-less st (p .0) (coreOf by) (p .1 .core) in let e = c .before .frame-of .ensures in let l = p .0 .encodes .long in omega arith
 
@@ -89,19 +89,19 @@ same-length c = search needs
 returns-2 : tie.Need-returns-2
 returns-2 c =
     let p = c .before .before .before .before .before .before .before .before .before .before .before .before .before .pre in
-    let st = c .before .before .before .before .before .before .before .before .before .before .before .before .before .args .state .now in
+    let st = c .before .before .before .before .before .before .before .before .before .before .before .before .before .args .desk .now in
     let by = c .before .before .before .before .before .before .before .before .before .before .before .before .before .args .bytes .now in
     let e = c .before .before .frame-of .ensures in
     let ne = c .before .before .before .before .before .before .if1 .left in
     let dp = c .if3 .taken in
-    λ matrix.
-    interrupt-still-held _ matrix _ (p .1) (p .0 .few) (p .2) (rw (c .before .before .before .before .before .before .before .next .ensures) at ne) (sym (c .before .before .before .before .before .leaves-handler .ensures) ∙ c .before .before .before .before .if2 .taken) (rw e at dp)
+    λ sheet.
+    interrupt-still-held _ sheet _ (p .1) (p .0 .few) (p .2) (rw (c .before .before .before .before .before .before .before .next .ensures) at ne) (sym (c .before .before .before .before .before .leaves-handler .ensures) ∙ c .before .before .before .before .if2 .taken) (rw e at dp)
 
-add-state : tie.Need-add-state
-add-state c = search needs
+add-desk : tie.Need-add-desk
+add-desk c = search needs
 
-slice-write-state : tie.Need-slice-write-state
-slice-write-state c = search needs
+slice-write-desk : tie.Need-slice-write-desk
+slice-write-desk c = search needs
 
 same-length-2 : tie.Need-same-length-2
 same-length-2 c = search needs
@@ -109,13 +109,13 @@ same-length-2 c = search needs
 returns-3 : tie.Need-returns-3
 returns-3 c =
     let p = c .before .before .before .before .before .before .before .before .before .pre in
-    let st = c .before .before .before .before .before .before .before .before .before .args .state .now in
+    let st = c .before .before .before .before .before .before .before .before .before .args .desk .now in
     let by = c .before .before .before .before .before .before .before .before .before .args .bytes .now in
     let ne = c .before .before .if1 .left in
     let nx = c .before .before .before .next .ensures in
     let done : (leavesHandler (kindOf by - 2) ≡ false) ⊎ (depthOf st (frameNumber (coreOf by) (frameOf (stateOf st (coreOf by)))) ≡ 0) =
     ⊎-elim (λ w. inr (rw (w .2 .ensures) at (w .4 .left))) (λ w. inl (sym (c .before .leaves-handler .ensures) ∙ w .left)) (c .if2 .came) in
-    λ matrix. rw nx (interrupt-accepts _ matrix _ (p .1) (p .0 .few) (p .2) (rw nx at ne) done)
+    λ sheet. rw nx (interrupt-accepts _ sheet _ (p .1) (p .0 .few) (p .2) (rw nx at ne) done)
 
 pub interrupt-spec : {M : Type 1} → statement M
 interrupt-spec =
@@ -137,7 +137,7 @@ interrupt-spec =
     slice-read-if3
     same-length
     returns-2
-    add-state
-    slice-write-state
+    add-desk
+    slice-write-desk
     same-length-2
     returns-3)

@@ -21,9 +21,9 @@ slice-read-if1 c = search needs
 returns : tie.Need-returns
 returns c =
     let p = c .before .before .before .before .before .pre in
-    let st = c .before .before .before .before .before .args .state .now in
+    let st = c .before .before .before .before .before .args .desk .now in
     let by = c .before .before .before .before .before .args .bytes .now in
-    λ matrix. release-no-class _ matrix _ (p .1) (p .0 .few) (p .2) (c .if1 .taken)
+    λ sheet. release-no-class _ sheet _ (p .1) (p .0 .few) (p .2) (c .if1 .taken)
 
 shared-slice-read-frame-of : tie.Need-shared-slice-read-frame-of
 shared-slice-read-frame-of c = search needs
@@ -34,14 +34,14 @@ cast-frame-of c = search needs
 frame-of-requires : tie.Need-frame-of-requires
 frame-of-requires c κs =
     let p = c .before .before .before .before .before .before .before .pre in
-    let st = c .before .before .before .before .before .before .before .args .state .now in
+    let st = c .before .before .before .before .before .before .before .args .desk .now in
     let by = c .before .before .before .before .before .before .before .args .bytes .now in
     (p .0 .encodes .long, p .1 .core, state-less st (p .0) (coreOf by) (p .1 .core))
 
 newest-requires : tie.Need-newest-requires
 newest-requires c κs =
     let p = c .before .before .before .before .before .before .before .before .before .pre in
-    let st = c .before .before .before .before .before .before .before .before .before .args .state .now in
+    let st = c .before .before .before .before .before .before .before .before .before .args .desk .now in
     let by = c .before .before .before .before .before .before .before .before .before .args .bytes .now in
     rw (c .before .frame-of .ensures) (let h = held-in st (p .0) (coreOf by) (p .1 .core) in (h .long, h .frame, h .depth))
 
@@ -51,10 +51,10 @@ same-length c = search needs
 returns-2 : tie.Need-returns-2
 returns-2 c =
     let p = c .before .before .before .before .before .before .before .before .before .before .before .pre in
-    let st = c .before .before .before .before .before .before .before .before .before .before .before .args .state .now in
+    let st = c .before .before .before .before .before .before .before .before .before .before .before .args .desk .now in
     let by = c .before .before .before .before .before .before .before .before .before .before .before .args .bytes .now in
     let e = c .before .before .before .frame-of .ensures in
-    λ matrix. release-not-held _ matrix _ (p .1) (p .0 .few) (p .2) (c .before .before .before .before .before .before .if1 .left) (rw e at (sym (c .before .newest .ensures) ∙ c .if2 .taken))
+    λ sheet. release-not-held _ sheet _ (p .1) (p .0 .few) (p .2) (c .before .before .before .before .before .before .if1 .left) (rw e at (sym (c .before .newest .ensures) ∙ c .if2 .taken))
 
 sub-remove : tie.Need-sub-remove
 sub-remove c = search needs
@@ -62,7 +62,7 @@ sub-remove c = search needs
 remove-requires : tie.Need-remove-requires
 remove-requires c κs =
     let p = c .before .before .before .before .before .before .before .before .before .before .before .before .pre in
-    let st = c .before .before .before .before .before .before .before .before .before .before .before .before .args .state .now in
+    let st = c .before .before .before .before .before .before .before .before .before .before .before .before .args .desk .now in
     let by = c .before .before .before .before .before .before .before .before .before .before .before .before .args .bytes .now in
     let e = c .before .before .before .before .frame-of .ensures in
     let ne = c .before .if2 .left in
@@ -76,12 +76,12 @@ same-length-2 c = search needs
 returns-3 : tie.Need-returns-3
 returns-3 c =
     let p = c .before .before .before .before .before .before .before .before .before .before .before .before .before .before .before .pre in
-    let st = c .before .before .before .before .before .before .before .before .before .before .before .before .before .before .before .args .state .now in
+    let st = c .before .before .before .before .before .before .before .before .before .before .before .before .before .before .before .args .desk .now in
     let by = c .before .before .before .before .before .before .before .before .before .before .before .before .before .before .before .args .bytes .now in
     let e = c .before .before .before .before .before .before .before .frame-of .ensures in
     let ne = c .before .before .before .before .if2 .left in
-    λ matrix.
-    release-accepts _ matrix _ (p .1) (p .0 .few) (p .2) (c .before .before .before .before .before .before .before .before .before .before .if1 .left) (rw (c .before .before .before .before .before .newest .ensures, e) at ne) (rw (c .before .before .before .before .before .newest .ensures, e) at (c .before .before .remove .ensures))
+    λ sheet.
+    release-accepts _ sheet _ (p .1) (p .0 .few) (p .2) (c .before .before .before .before .before .before .before .before .before .before .if1 .left) (rw (c .before .before .before .before .before .newest .ensures, e) at ne) (rw (c .before .before .before .before .before .newest .ensures, e) at (c .before .before .remove .ensures))
 
 pub release-spec : {M : Type 1} → statement M
 release-spec =

@@ -1,6 +1,6 @@
 use mathlib.Core.List.{List, [], _∷_}
 use Prim.Native.Nat.{ℕ}
-use Rattle.words.specs.Pack.{pack}
+use Rattle.layout.specs.Encoding.{kindByte}
 use Rattle.context.specs.Bits.{kindBits}
 use borrow.Author.Needs.{needs}
 use Rattle.context.proofs.Table.{table-rule}
@@ -20,7 +20,7 @@ index-2-result : tie.Need-index-2-result
 index-2-result c = search needs
 
 returns : tie.Need-returns
-unfolding table kindBits pack
+unfolding table kindBits kindByte
 returns c = table-rule 3 kindBits table tt (c .before .args .held) (c .before .args .acquired) (search needs) (search needs)
 
 pub kind-bit-spec : {M : Type 1} → statement M

@@ -1,6 +1,6 @@
 use mathlib.Core.List.{List, [], _∷_}
 use Prim.Native.Nat.{ℕ}
-use Rattle.words.specs.Pack.{pack}
+use Rattle.layout.specs.Encoding.{markByte}
 use Rattle.context.specs.Bits.{markBits}
 use borrow.Author.Needs.{needs}
 use Rattle.context.proofs.Table.{table-rule}
@@ -30,7 +30,7 @@ index-2-result : tie.Need-index-2-result
 index-2-result c = search needs
 
 returns : tie.Need-returns
-unfolding table markBits pack
+unfolding table markBits markByte
 returns c = table-rule 3 markBits table tt (c .before .args .state) (c .before .args .mode) (search needs) (search needs)
 
 pub mark-bits-spec : {M : Type 1} → statement M

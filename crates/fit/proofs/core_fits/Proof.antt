@@ -18,6 +18,9 @@ returns c = rw (lt-leb _ _ (c .if1 .taken))
 mul-soft-fits : tie.Need-mul-soft-fits
 mul-soft-fits c = search needs
 
+cast-soft-fits : tie.Need-cast-soft-fits
+cast-soft-fits c = search needs
+
 add-soft-fits : tie.Need-add-soft-fits
 add-soft-fits c = search needs
 
@@ -32,6 +35,9 @@ soft-fits-requires c κs = search needs
 
 mul-hard-fits : tie.Need-mul-hard-fits
 mul-hard-fits c = search needs
+
+cast-hard-fits : tie.Need-cast-hard-fits
+cast-hard-fits c = search needs
 
 add-hard-fits : tie.Need-add-hard-fits
 add-hard-fits c = search needs
@@ -66,11 +72,13 @@ core-fits-spec =
     shared-slice-read-s
     returns
     mul-soft-fits
+    cast-soft-fits
     add-soft-fits
     add-soft-fits-2
     shared-slice-read-soft-fits
     soft-fits-requires
     mul-hard-fits
+    cast-hard-fits
     add-hard-fits
     add-hard-fits-2
     shared-slice-read-hard-fits

@@ -12,10 +12,10 @@ use Rattle.fit.proofs.cores_fit.Statement.{statement}
 use Rattle.fit.proofs.cores_fit.Tie as tie
 
 abbrev Inv-loop : tie.InvT-loop
-Inv-loop state ok₀ i₀ ok i = (i ≤ coreCount) × (ok ≡ allBelow i (coreFits state))
+Inv-loop desk ok₀ i₀ ok i = (i ≤ coreCount) × (ok ≡ allBelow i (coreFits desk))
 
 abbrev μ-loop : tie.MeasureT-loop
-μ-loop state ok₀ i₀ ok i = coreCount - i
+μ-loop desk ok₀ i₀ ok i = coreCount - i
 
 loop-holds : tie.Need-loop-holds Inv-loop μ-loop
 loop-holds c = (omega arith, sym (all-none _))

@@ -13,10 +13,10 @@ use Rattle.fit.proofs.empty_frame_fits.Statement.{statement}
 use Rattle.fit.proofs.empty_frame_fits.Tie as tie
 
 abbrev Inv-loop : tie.InvT-loop
-Inv-loop state n ok₀ p₀ ok p = (p ≤ maxDepth) × (ok ≡ allBelow p (emptyAt state n))
+Inv-loop desk n ok₀ p₀ ok p = (p ≤ maxDepth) × (ok ≡ allBelow p (emptyAt desk n))
 
 abbrev μ-loop : tie.MeasureT-loop
-μ-loop state n ok₀ p₀ ok p = maxDepth - p
+μ-loop desk n ok₀ p₀ ok p = maxDepth - p
 
 loop-holds : tie.Need-loop-holds Inv-loop μ-loop
 loop-holds c = (omega arith, sym (all-none _))
@@ -42,7 +42,7 @@ loop-less c = omega arith
 loop-again : tie.Need-loop-again Inv-loop μ-loop
 loop-again c =
     let a = c .before .before .before .before .args in
-    let test = emptyAt (a .state .now) (a .n) in (
+    let test = emptyAt (a .desk .now) (a .n) in (
       omega arith,
       ⊎-elim (λ w. w .1 ∙ all-lost true _ test (ne-eqb _ _ (w .0 .taken)))
           (λ w. w .1 ∙ c .before .before .before .loop .inv .1 ∙ all-kept true _ test (eq-eqb _ _ (w .0 .left)))

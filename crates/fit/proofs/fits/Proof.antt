@@ -9,60 +9,60 @@ use lib.ListN.{length}
 use borrow.Author.Needs.{needs}
 use borrow.Author.Tests.{le-leb, lt-leb, not-true, not-false}
 use Rattle.rules.specs.Limits.{coreCount, maxClasses}
-use Rattle.layout.specs.Layout.{frameCount, stateSize, matrixSize, classesAt, classesOf, closedOf}
+use Rattle.layout.specs.Layout.{frameCount, deskSize, sheetSize, classesAt, classesOf, closedOf}
 use Rattle.layout.specs.Fit.{allBelow, coreFits, frameFits, markFits, kindsFit, fits}
 use Rattle.fit.proofs.fits.Statement.{statement}
 use Rattle.fit.proofs.fits.Tie as tie
 
-module _ (state matrix : List ℕ) where
-  short-state : length state < stateSize → false ≡ fits state matrix
+module _ (desk sheet : List ℕ) where
+  short-desk : length desk < deskSize → false ≡ fits desk sheet
   unfolding fits
-  short-state h = rw (lt-leb _ _ h)
+  short-desk h = rw (lt-leb _ _ h)
 
-  module _ (long : stateSize ≤ length state) where
-    no-class : classesOf state < 1 → false ≡ fits state matrix
+  module _ (long : deskSize ≤ length desk) where
+    no-class : classesOf desk < 1 → false ≡ fits desk sheet
     unfolding fits
     no-class h = rw (le-leb _ _ long, lt-leb _ _ h)
 
-    module _ (some : 1 ≤ classesOf state) where
-      many-classes : maxClasses < classesOf state → false ≡ fits state matrix
+    module _ (some : 1 ≤ classesOf desk) where
+      many-classes : maxClasses < classesOf desk → false ≡ fits desk sheet
       unfolding fits
       many-classes h = rw (le-leb _ _ long, le-leb _ _ some, lt-leb _ _ h)
 
-      module _ (few : classesOf state ≤ maxClasses) where
-        short-matrix : length matrix < matrixSize (classesOf state) → false ≡ fits state matrix
+      module _ (few : classesOf desk ≤ maxClasses) where
+        short-sheet : length sheet < sheetSize (classesOf desk) → false ≡ fits desk sheet
         unfolding fits
-        short-matrix h = rw (le-leb _ _ long, le-leb _ _ some, le-leb _ _ few, lt-leb _ _ h)
+        short-sheet h = rw (le-leb _ _ long, le-leb _ _ some, le-leb _ _ few, lt-leb _ _ h)
 
-        module _ (square : matrixSize (classesOf state) ≤ length matrix) where
-          bad-closed : 1 < closedOf state → false ≡ fits state matrix
+        module _ (square : sheetSize (classesOf desk) ≤ length sheet) where
+          bad-closed : 1 < closedOf desk → false ≡ fits desk sheet
           unfolding fits
           bad-closed h = rw (le-leb _ _ long, le-leb _ _ some, le-leb _ _ few, le-leb _ _ square, lt-leb _ _ h)
 
-          module _ (flag : closedOf state ≤ 1) where
-            bad-core : allBelow coreCount (coreFits state) ≡ false → false ≡ fits state matrix
+          module _ (flag : closedOf desk ≤ 1) where
+            bad-core : allBelow coreCount (coreFits desk) ≡ false → false ≡ fits desk sheet
             unfolding fits
             bad-core h = rw (le-leb _ _ long, le-leb _ _ some, le-leb _ _ few, le-leb _ _ square, le-leb _ _ flag, h)
 
-            module _ (cores : allBelow coreCount (coreFits state) ≡ true) where
-              bad-frame : allBelow frameCount (frameFits (classesOf state) state) ≡ false → false ≡ fits state matrix
+            module _ (cores : allBelow coreCount (coreFits desk) ≡ true) where
+              bad-frame : allBelow frameCount (frameFits (classesOf desk) desk) ≡ false → false ≡ fits desk sheet
               unfolding fits
               bad-frame h = rw (le-leb _ _ long, le-leb _ _ some, le-leb _ _ few, le-leb _ _ square, le-leb _ _ flag, cores, h)
 
-              module _ (frames : allBelow frameCount (frameFits (classesOf state) state) ≡ true) where
-                bad-mark : allBelow maxClasses (markFits (classesOf state) state) ≡ false → false ≡ fits state matrix
+              module _ (frames : allBelow frameCount (frameFits (classesOf desk) desk) ≡ true) where
+                bad-mark : allBelow maxClasses (markFits (classesOf desk) desk) ≡ false → false ≡ fits desk sheet
                 unfolding fits
                 bad-mark h =
                     rw (le-leb _ _ long, le-leb _ _ some, le-leb _ _ few, le-leb _ _ square, le-leb _ _ flag, cores, frames, h)
 
-                all-but : allBelow maxClasses (markFits (classesOf state) state) ≡ true
-                    → allBelow (matrixSize (classesOf state)) (kindsFit matrix) ≡ fits state matrix
+                all-but : allBelow maxClasses (markFits (classesOf desk) desk) ≡ true
+                    → allBelow (sheetSize (classesOf desk)) (kindsFit sheet) ≡ fits desk sheet
                 unfolding fits
                 all-but h =
                     rw (le-leb _ _ long, le-leb _ _ some, le-leb _ _ few, le-leb _ _ square, le-leb _ _ flag, cores, frames, h)
 
 returns : tie.Need-returns
-returns c = short-state _ _ (c .if1 .taken)
+returns c = short-desk _ _ (c .if1 .taken)
 
 shared-slice-read-classes : tie.Need-shared-slice-read-classes
 shared-slice-read-classes c = search needs
@@ -81,7 +81,7 @@ mul-size c = omega (arith, mul-le-mul (c .if3 .left) (c .if3 .left))
 
 returns-4 : tie.Need-returns-4
 returns-4 c =
-    short-matrix _ _ (c .before .before .before .before .if1 .left) (c .before .before .if2 .left) (c .before .if3 .left) (c .if4 .taken)
+    short-sheet _ _ (c .before .before .before .before .if1 .left) (c .before .before .if2 .left) (c .before .if3 .left) (c .if4 .taken)
 
 shared-slice-read-if5 : tie.Need-shared-slice-read-if5
 shared-slice-read-if5 c = search needs

@@ -13,9 +13,9 @@ use Rattle.fit.proofs.frame_fits.Statement.{statement}
 use Rattle.fit.proofs.frame_fits.Tie as tie
 
 -- With no lock held, every byte of the frame is an unused one.
-empty-frame : (K : ℕ) (state : List ℕ) (n : ℕ) → depthOf state n ≡ 0 → allBelow maxDepth (emptyAt state n) ≡ frameFits K state n
+empty-frame : (K : ℕ) (desk : List ℕ) (n : ℕ) → depthOf desk n ≡ 0 → allBelow maxDepth (emptyAt desk n) ≡ frameFits K desk n
 unfolding frameFits
-empty-frame K state n e = rw e (all-ext maxDepth _ _ (λ p l. rw (le-ltb p 0 (omega arith))))
+empty-frame K desk n e = rw e (all-ext maxDepth _ _ (λ p l. rw (le-ltb p 0 (omega arith))))
 
 add-if1 : tie.Need-add-if1
 add-if1 c = search needs

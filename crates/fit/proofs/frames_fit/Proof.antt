@@ -12,10 +12,10 @@ use Rattle.fit.proofs.frames_fit.Statement.{statement}
 use Rattle.fit.proofs.frames_fit.Tie as tie
 
 abbrev Inv-loop : tie.InvT-loop
-Inv-loop classes state ok₀ n₀ ok n = (n ≤ frameCount) × (ok ≡ allBelow n (frameFits classes state))
+Inv-loop classes desk ok₀ n₀ ok n = (n ≤ frameCount) × (ok ≡ allBelow n (frameFits classes desk))
 
 abbrev μ-loop : tie.MeasureT-loop
-μ-loop classes state ok₀ n₀ ok n = frameCount - n
+μ-loop classes desk ok₀ n₀ ok n = frameCount - n
 
 loop-holds : tie.Need-loop-holds Inv-loop μ-loop
 loop-holds c = (omega arith, sym (all-none _))

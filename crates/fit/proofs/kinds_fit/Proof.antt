@@ -11,10 +11,10 @@ use Rattle.fit.proofs.kinds_fit.Statement.{statement}
 use Rattle.fit.proofs.kinds_fit.Tie as tie
 
 abbrev Inv-loop : tie.InvT-loop
-Inv-loop matrix size ok₀ j₀ ok j = (j ≤ size) × (ok ≡ allBelow j (kindsFit matrix))
+Inv-loop sheet size ok₀ j₀ ok j = (j ≤ size) × (ok ≡ allBelow j (kindsFit sheet))
 
 abbrev μ-loop : tie.MeasureT-loop
-μ-loop matrix size ok₀ j₀ ok j = size - j
+μ-loop sheet size ok₀ j₀ ok j = size - j
 
 loop-holds : tie.Need-loop-holds Inv-loop μ-loop
 loop-holds c = (omega arith, sym (all-none _))
@@ -30,7 +30,7 @@ loop-less c = omega arith
 
 loop-again : tie.Need-loop-again Inv-loop μ-loop
 loop-again c =
-    let test = kindsFit (c .before .before .before .before .args .matrix .now) in (
+    let test = kindsFit (c .before .before .before .before .args .sheet .now) in (
       omega arith,
       ⊎-elim (λ w. w .1 ∙ all-lost true _ test (lt-leb _ _ (w .0 .taken)))
           (λ w. w .1 ∙ c .before .before .before .loop .inv .1 ∙ all-kept true _ test (le-leb _ _ (w .0 .left)))

@@ -13,10 +13,10 @@ use Rattle.fit.proofs.marks_fit.Statement.{statement}
 use Rattle.fit.proofs.marks_fit.Tie as tie
 
 abbrev Inv-loop : tie.InvT-loop
-Inv-loop classes state ok₀ c₀ ok c = (classes ≤ c) × ((c ≤ maxClasses) × (ok ≡ allBelow c (markFits classes state)))
+Inv-loop classes desk ok₀ c₀ ok c = (classes ≤ c) × ((c ≤ maxClasses) × (ok ≡ allBelow c (markFits classes desk)))
 
 abbrev μ-loop : tie.MeasureT-loop
-μ-loop classes state ok₀ c₀ ok c = maxClasses - c
+μ-loop classes desk ok₀ c₀ ok c = maxClasses - c
 
 used-marks-fit-requires : tie.Need-used-marks-fit-requires Inv-loop μ-loop
 used-marks-fit-requires c κs = search needs
@@ -39,13 +39,13 @@ loop-less c = omega arith
 loop-again : tie.Need-loop-again Inv-loop μ-loop
 loop-again c =
     let a = c .before .before .before .before .before .before .args in
-    let test = markFits (a .classes) (a .state .now) in
+    let test = markFits (a .classes) (a .desk .now) in
     let at = c .before .before .before .loop in (
       omega arith,
       (
         omega arith,
-        ⊎-elim (λ w. w .1 ∙ all-lost true _ test (mark-past (a .classes) (a .state .now) (at .c) (at .inv .0) (w .0 .taken)))
-            (λ w. w .1 ∙ at .inv .1 .1 ∙ all-kept true _ test (mark-zero (a .classes) (a .state .now) (at .c) (at .inv .0) (w .0 .left)))
+        ⊎-elim (λ w. w .1 ∙ all-lost true _ test (mark-past (a .classes) (a .desk .now) (at .c) (at .inv .0) (w .0 .taken)))
+            (λ w. w .1 ∙ at .inv .1 .1 ∙ all-kept true _ test (mark-zero (a .classes) (a .desk .now) (at .c) (at .inv .0) (w .0 .left)))
             (c .if1 .came),
       ),
     )

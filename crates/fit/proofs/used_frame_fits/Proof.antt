@@ -16,14 +16,14 @@ use Rattle.fit.proofs.used_frame_fits.Statement.{statement}
 use Rattle.fit.proofs.used_frame_fits.Tie as tie
 
 abbrev fitsAt : ℕ → List ℕ → ℕ → ℕ → Bool
-fitsAt K state n p = heldFits K (ltb p (depthOf state n)) (heldOf state n p)
+fitsAt K desk n p = heldFits K (ltb p (depthOf desk n)) (heldOf desk n p)
 
 abbrev Inv-loop : tie.InvT-loop
-Inv-loop classes state n depth ok₀ p₀ ok p =
-    (p ≤ maxDepth) × (ok ≡ (leb (depthOf state n) maxDepth && allBelow p (fitsAt classes state n)))
+Inv-loop classes desk n depth ok₀ p₀ ok p =
+    (p ≤ maxDepth) × (ok ≡ (leb (depthOf desk n) maxDepth && allBelow p (fitsAt classes desk n)))
 
 abbrev μ-loop : tie.MeasureT-loop
-μ-loop classes state n depth ok₀ p₀ ok p = maxDepth - p
+μ-loop classes desk n depth ok₀ p₀ ok p = maxDepth - p
 
 add-depth : tie.Need-add-depth Inv-loop μ-loop
 add-depth c = omega arith
@@ -61,8 +61,8 @@ loop-less c = omega arith
 loop-again : tie.Need-loop-again Inv-loop μ-loop
 loop-again c =
     let a = c .before .before .before .before .before .before .before .args in
-    let test = fitsAt (a .classes) (a .state .now) (a .n) in
-    let first = leb (depthOf (a .state .now) (a .n)) maxDepth in (
+    let test = fitsAt (a .classes) (a .desk .now) (a .n) in
+    let first = leb (depthOf (a .desk .now) (a .n)) maxDepth in (
       omega arith,
       ⊎-elim (λ w. w .1 ∙ all-lost first _ test (sym (c .before .held-fits .ensures) ∙ not-true _ (w .0 .taken)))
           (λ w. w .1 ∙ c .before .before .before .before .loop .inv .1

@@ -13,10 +13,10 @@ use Rattle.fit.proofs.used_marks_fit.Statement.{statement}
 use Rattle.fit.proofs.used_marks_fit.Tie as tie
 
 abbrev Inv-loop : tie.InvT-loop
-Inv-loop classes state ok₀ c₀ ok c = (c ≤ classes) × (ok ≡ allBelow c (markFits classes state))
+Inv-loop classes desk ok₀ c₀ ok c = (c ≤ classes) × (ok ≡ allBelow c (markFits classes desk))
 
 abbrev μ-loop : tie.MeasureT-loop
-μ-loop classes state ok₀ c₀ ok c = classes - c
+μ-loop classes desk ok₀ c₀ ok c = classes - c
 
 loop-holds : tie.Need-loop-holds Inv-loop μ-loop
 loop-holds c = (omega arith, sym (all-none _))
@@ -39,8 +39,8 @@ loop-less c = omega arith
 loop-again : tie.Need-loop-again Inv-loop μ-loop
 loop-again c =
     let a = c .before .before .before .before .before .before .args in
-    let test = markFits (a .classes) (a .state .now) in
-    let here = mark-used (a .classes) (a .state .now) _ (c .before .before .before .loop-test .taken) ∙ sym (c .before .unsafe-fits .ensures) in (
+    let test = markFits (a .classes) (a .desk .now) in
+    let here = mark-used (a .classes) (a .desk .now) _ (c .before .before .before .loop-test .taken) ∙ sym (c .before .unsafe-fits .ensures) in (
       omega arith,
       ⊎-elim (λ w. w .1 ∙ all-lost true _ test (here ∙ not-true _ (w .0 .taken)))
           (λ w. w .1 ∙ c .before .before .before .before .loop .inv .1 ∙ all-kept true _ test (here ∙ not-false _ (w .0 .left)))

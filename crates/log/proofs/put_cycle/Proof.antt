@@ -5,15 +5,15 @@ use native.Mathlib.Omega.{arith}
 use lib.ListN.{length, getD}
 use Rattle.log.proofs.Lines.{long, started, turn, next-below}
 use Rattle.log.specs.Text.{linesOf, Appended}
-use Rattle.report.specs.Shown.{entriesOf}
+use Rattle.layout.specs.Decoding.{entriesOf}
 use Rattle.log.proofs.put_cycle.Statement.{statement}
 use Rattle.log.proofs.put_cycle.Tie as tie
 
 abbrev Inv-loop : tie.InvT-loop
-Inv-loop out₀ at report n end₀ i₀ out end i = (i ≤ n) × (length out ≡ length out₀) × (end ≤ at + 16 * i) × Appended out₀ at (linesOf (entriesOf report) i) out end
+Inv-loop out₀ at slip n end₀ i₀ out end i = (i ≤ n) × (length out ≡ length out₀) × (end ≤ at + 16 * i) × Appended out₀ at (linesOf (entriesOf slip) i) out end
 
 abbrev μ-loop : tie.MeasureT-loop
-μ-loop out₀ at report n end₀ i₀ out end i = n - i
+μ-loop out₀ at slip n end₀ i₀ out end i = n - i
 
 shared-slice-read-n : tie.Need-shared-slice-read-n Inv-loop μ-loop
 shared-slice-read-n c = omega arith
@@ -22,7 +22,7 @@ cast-n : tie.Need-cast-n Inv-loop μ-loop
 cast-n c = omega (arith, c .shared-slice-known2 .given 0)
 
 loop-holds : tie.Need-loop-holds Inv-loop μ-loop
-loop-holds c = let a = c .before .before .before .args in (omega arith, refl, omega arith, started (a .report .now) (a .out .now) (a .at) (omega arith))
+loop-holds c = let a = c .before .before .before .args in (omega arith, refl, omega arith, started (a .slip .now) (a .out .now) (a .at) (omega arith))
 
 mul-entry : tie.Need-mul-entry Inv-loop μ-loop
 mul-entry c = omega arith
@@ -49,7 +49,7 @@ shared-slice-read-put-entry-3 : tie.Need-shared-slice-read-put-entry-3 Inv-loop 
 shared-slice-read-put-entry-3 c = omega arith
 
 shared-slice-read-put-entry-4 : tie.Need-shared-slice-read-put-entry-4 Inv-loop μ-loop
-shared-slice-read-put-entry-4 c = omega (arith, c .before .before .before .before .before .next-entry .ensures, next-below (getD (c .before .before .before .before .before .before .before .before .before .before .before .args .report .now) 0 0) (c .before .before .before .before .before .before .before .loop .i) (c .before .before .before .before .before .before .loop-test .taken))
+shared-slice-read-put-entry-4 c = omega (arith, c .before .before .before .before .before .next-entry .ensures, next-below (getD (c .before .before .before .before .before .before .before .before .before .before .before .args .slip .now) 0 0) (c .before .before .before .before .before .before .before .loop .i) (c .before .before .before .before .before .before .loop-test .taken))
 
 put-entry-requires : tie.Need-put-entry-requires Inv-loop μ-loop
 put-entry-requires c κs = omega arith
@@ -68,7 +68,7 @@ loop-again c =
       omega arith,
       omega (arith, p .kept .0, l .loop .inv .1),
       omega (arith, p .ensures .short, l .loop .inv .2),
-      turn (a .report .now) (a .out .now) _ _ (a .at) (l .loop .end) (c .before .before .before .before .before .before .before .before .next-entry .result) _ (l .loop .i) (c .before .before .before .before .before .before .before .before .before .loop-test .taken)
+      turn (a .slip .now) (a .out .now) _ _ (a .at) (l .loop .end) (c .before .before .before .before .before .before .before .before .next-entry .result) _ (l .loop .i) (c .before .before .before .before .before .before .before .before .before .loop-test .taken)
           (c .before .before .before .before .before .before .before .before .next-entry .ensures) (l .loop .inv .3) (p .ensures),
     )
 
@@ -78,8 +78,8 @@ same-length c = omega arith
 returns : tie.Need-returns Inv-loop μ-loop
 returns c =
     let a = c .before .before .before .before .before .args in
-    let e : c .before .loop .i ≡ length (entriesOf (a .report .now)) = omega (arith, long (a .report .now)) in
-    subst (λ (n : ℕ). Appended (a .out .now) (a .at) (linesOf (entriesOf (a .report .now)) n) (c .before .loop .out) (c .before .loop .end)) e (c .before .loop .inv .3)
+    let e : c .before .loop .i ≡ length (entriesOf (a .slip .now)) = omega (arith, long (a .slip .now)) in
+    subst (λ (n : ℕ). Appended (a .out .now) (a .at) (linesOf (entriesOf (a .slip .now)) n) (c .before .loop .out) (c .before .loop .end)) e (c .before .loop .inv .3)
 
 pub put-cycle-spec : {M : Type 1} → statement M
 put-cycle-spec =

@@ -47,7 +47,7 @@ count-requires : tie.Need-count-requires
 count-requires c κs = search needs
 
 returns-3 : tie.Need-returns-3
-returns-3 c = asked-answered _ _ _ _ _ _ (sym (c .before .before .before .before .before .before .before .fits2 .ensures) ∙ not-false _ (c .before .before .before .before .before .before .if1 .left)) (c .before .before .before .before .if2 .left) (c .before .before .before .successors .ensures) (c .before .reach .ensures) (c .count .ensures .0)
+returns-3 c = asked-answered _ _ _ _ _ _ (λ j. omega (arith, c .before .before .before .before .before .before .before .before .before .shared-slice-known .given j)) (sym (c .before .before .before .before .before .before .before .fits2 .ensures) ∙ not-false _ (c .before .before .before .before .before .before .if1 .left)) (c .before .before .before .before .if2 .left) (c .before .before .before .successors .ensures) (c .before .reach .ensures) (c .count .ensures .0)
 
 pub ask-spec : {M : Type 1} → statement M
 ask-spec =

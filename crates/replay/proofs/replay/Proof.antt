@@ -69,7 +69,7 @@ returns-4 c =
     let o = i .before .before .before .before .before in
     let s = o .before .before .before .before .before .before .before .before .before .before .before .before .before .before .before in
     let last = j .validate .last in
-    replayed (s .args .report .now) (j .validate .result) (buffers (last .0) (last .1 .0) (last .1 .1 .0)) (o .«open» .ensures) (i .if3 .left) (s .pre .1) (j .validate .ensures)
+    replayed (s .args .slip .now) (j .validate .result) (buffers (last .0) (last .1 .0) (last .1 .1 .0)) (o .«open» .ensures) (i .if3 .left) (s .pre .1) (j .validate .ensures)
 
 pub replay-spec : {M : Type 1} → statement M
 replay-spec =

@@ -10,18 +10,18 @@ use Rattle.replay.proofs.validate.Statement.{statement}
 use Rattle.replay.proofs.validate.Tie as tie
 
 abbrev Inv-loop : tie.InvT-loop
-Inv-loop state₀ matrix₀ report₀ buf₀ filled at₀ until₀ ended₀ records₀ turns₀ state matrix report buf at until ended records turns =
+Inv-loop desk₀ sheet₀ slip₀ buf₀ filled at₀ until₀ ended₀ records₀ turns₀ desk sheet slip buf at until ended records turns =
     (at ≤ until)
     × (until ≤ length buf)
     × (length buf ≡ length buf₀)
-    × (length state ≡ length state₀)
-    × (length matrix ≡ length matrix₀)
-    × (length report ≡ length report₀)
+    × (length desk ≡ length desk₀)
+    × (length sheet ≡ length sheet₀)
+    × (length slip ≡ length slip₀)
     × (records + turns ≤ 18446744073709551615)
-    × Passed (buffers state₀ matrix₀ report₀) records (buffers state matrix report)
+    × Passed (buffers desk₀ sheet₀ slip₀) records (buffers desk sheet slip)
 
 abbrev μ-loop : tie.MeasureT-loop
-μ-loop state₀ matrix₀ report₀ buf₀ filled at₀ until₀ ended₀ records₀ turns₀ state matrix report buf at until ended records turns = turns
+μ-loop desk₀ sheet₀ slip₀ buf₀ filled at₀ until₀ ended₀ records₀ turns₀ desk sheet slip buf at until ended records turns = turns
 
 loop-holds : tie.Need-loop-holds Inv-loop μ-loop
 loop-holds c = (omega arith, omega arith, refl, refl, refl, refl, omega arith, none-passed _)
@@ -119,7 +119,7 @@ returns-3 : tie.Need-returns-3 Inv-loop μ-loop
 returns-3 c =
     let a = c .before .before .before .before .before .before .before .before .before .before .before .before .before .before .before .before .before .before .before .before .args in
     let j = c .before .before .before .before .before .before .before .before .validate-next in
-    subst (λ (k : ℕ). Stopped (buffers (a .state .now) (a .matrix .now) (a .report .now)) (c .before .before .before .before .before .before .before .before .before .before .before .before .before .before .before .loop .records + 1) k (buffers (j .last .0) (j .last .1 .0) (j .last .1 .1 .0)))
+    subst (λ (k : ℕ). Stopped (buffers (a .desk .now) (a .sheet .now) (a .slip .now)) (c .before .before .before .before .before .before .before .before .before .before .before .before .before .before .before .loop .records + 1) k (buffers (j .last .0) (j .last .1 .0) (j .last .1 .1 .0)))
     (c .if4 .taken)
     (stopped (c .before .before .before .before .before .before .before .before .before .before .before .before .before .before .before .loop .inv .7) (j .ensures) (c .before .if1 .left))
 

@@ -8,9 +8,9 @@ use borrow.Fn.Kinds.{In}
 use borrow.Fn.PlainCycle.{Measures, is, falls, and}
 use native.Mathlib.Omega.{arith}
 use Rattle.rules.specs.HeldLocks.{E, S, R, N}
-use Rattle.search.specs.States.{size}
-use Rattle.search.specs.Trails.{Settled}
-use Rattle.search.proofs.Visits.{Frame, Turn, small, frame, settled-self, settled-trans, found-n, start-law, call-room, call-given, call-found, call-less, finish-r, finish-n}
+use Rattle.search.specs.Arrivals.{size}
+use Rattle.search.specs.Trails.{Exhausted}
+use Rattle.search.proofs.Visits.{Visiting, Turn, small, frame, settled-self, settled-trans, found-n, start-law, call-room, call-given, call-found, call-less, finish-r, finish-n}
 use Rattle.search.proofs.arrived_by_n.Reads as by-n
 use Rattle.search.proofs.arrived_by_n.Kinds as by-n-kinds
 use Rattle.search.proofs.+arrived_by_n+arrived_by_r.Lts-arrived_by_n as by-n-lts
@@ -36,13 +36,13 @@ abbrev μ-r : Measures 1 by-r-kinds.ps ℕ
 μ-r κs a = a .1 .1 .1 .1 .1 .0 * 2
 
 abbrev n-inv : by-n-lts.InvT-loop
-n-inv rows k class left here done₀ done = Settled rows done₀ done
+n-inv rows k class left here done₀ done = Exhausted rows done₀ done
 
 abbrev n-μ : by-n-lts.MeasureT-loop
 n-μ rows k class left here done₀ done = 128 - size done
 
 abbrev r-inv : by-r-lts.InvT-loop
-r-inv rows k class left here done₀ done = Settled rows done₀ done
+r-inv rows k class left here done₀ done = Exhausted rows done₀ done
 
 abbrev r-μ : by-r-lts.MeasureT-loop
 r-μ rows k class left here done₀ done = 128 - size done
@@ -68,7 +68,7 @@ module _ (t : ℕ) where
   abbrev n-Frame : by-n-lts.After-closing n-claims n-at by-n.Post n-inv n-μ → Type 0
   n-Frame c =
       let a = c .before .before .before .before .before .args in
-      Frame (a .rows .now) (a .k) S (a .class) N (a .stack) (c .before .pushed-s .result) (a .left) (c .before .before .before .before .arrived-by-r .result .done)
+      Visiting (a .rows .now) (a .k) S (a .class) N (a .stack) (c .before .pushed-s .result) (a .left) (c .before .before .before .before .arrived-by-r .result .done)
 
   n-frame : (c : by-n-lts.After-closing n-claims n-at by-n.Post n-inv n-μ) → n-Frame c
   n-frame c =
@@ -184,7 +184,7 @@ module _ (t : ℕ) where
   abbrev r-Frame : by-r-lts.After-closing r-claims r-at by-r.Post r-inv r-μ → Type 0
   r-Frame c =
       let a = c .before .before .args in
-      Frame (a .rows .now) (a .k) E (a .class) R (a .stack) (c .before .pushed-e .result) (a .left) (a .before)
+      Visiting (a .rows .now) (a .k) E (a .class) R (a .stack) (c .before .pushed-e .result) (a .left) (a .before)
 
   r-frame : (c : by-r-lts.After-closing r-claims r-at by-r.Post r-inv r-μ) → r-Frame c
   r-frame c =

@@ -5,8 +5,8 @@ use borrow.Author.Needs.{needs}
 use borrow.Author.Count.{below-more}
 use native.Mathlib.Omega.{arith}
 use Rattle.rules.specs.HeldLocks.{N}
-use Rattle.search.specs.States.{In}
-use Rattle.search.specs.Trails.{Settled}
+use Rattle.search.specs.Arrivals.{In}
+use Rattle.search.specs.Trails.{Exhausted}
 use Rattle.search.proofs.Visits.{settled-self}
 use Rattle.search.proofs.Orders.{found-law}
 use Rattle.search.proofs.Paths.{none-law, fresh-settled, root, root-closed}
@@ -14,7 +14,7 @@ use Rattle.search.proofs.find_cycle.Statement.{statement}
 use Rattle.search.proofs.find_cycle.Tie as tie
 
 abbrev Inv-loop : tie.InvT-loop
-Inv-loop rows k done₀ c₀ done c = (c ≤ k) × Settled rows done done × ((j : ℕ) → j < c → In done j N)
+Inv-loop rows k done₀ c₀ done c = (c ≤ k) × Exhausted rows done done × ((j : ℕ) → j < c → In done j N)
 
 abbrev μ-loop : tie.MeasureT-loop
 μ-loop rows k done₀ c₀ done c = k - c

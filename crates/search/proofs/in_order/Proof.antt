@@ -21,14 +21,14 @@ lowest-at-requires c κs = search needs
 loop-holds : tie.Need-loop-holds Inv-loop μ-loop
 loop-holds c = (omega arith, c .lowest-at .ensures .within, inl (omega arith), record { n = refl; classes = λ j i h. absurd (omega arith); kinds = λ j i h. absurd (omega arith) })
 
-element-copy-out-put : tie.Need-element-copy-out-put Inv-loop μ-loop
-element-copy-out-put c = omega (arith, c .before .before .before .pre .1, c .before .loop .inv .1)
+element-copy-out-placed : tie.Need-element-copy-out-placed Inv-loop μ-loop
+element-copy-out-placed c = omega (arith, c .before .before .before .pre .1, c .before .loop .inv .1)
 
-element-copy-out-put-2 : tie.Need-element-copy-out-put-2 Inv-loop μ-loop
-element-copy-out-put-2 c = omega (arith, c .before .before .before .before .pre .1, c .before .before .loop .inv .1)
+element-copy-out-placed-2 : tie.Need-element-copy-out-placed-2 Inv-loop μ-loop
+element-copy-out-placed-2 c = omega (arith, c .before .before .before .before .pre .1, c .before .before .loop .inv .1)
 
-put-requires : tie.Need-put-requires Inv-loop μ-loop
-put-requires c κs = omega (arith, c .before .before .before .before .before .pre .1, c .before .before .loop-test .taken)
+placed-requires : tie.Need-placed-requires Inv-loop μ-loop
+placed-requires c κs = omega (arith, c .before .before .before .before .before .pre .1, c .before .before .loop-test .taken)
 
 add-m : tie.Need-add-m Inv-loop μ-loop
 add-m c = search needs
@@ -45,7 +45,7 @@ loop-again c =
     let i = p .loop .inv in
     let s = p .before .before .pre in
     let t : p .loop .m < p .before .before .args .t1 .n = c .before .before .before .before .loop-test .taken in
-    (omega arith, omega (arith, s .0), place-round _ _ _ _ (c .if1 .taken) t (p .before .lowest-at .ensures .within) (i .2), copied-more (i .3) (i .1) (i .2) (c .before .put .ensures))
+    (omega arith, omega (arith, s .0), place-round _ _ _ _ (c .if1 .taken) t (p .before .lowest-at .ensures .within) (i .2), copied-more (i .3) (i .1) (i .2) (c .before .placed .ensures))
 
 sub-at-2 : tie.Need-sub-at-2 Inv-loop μ-loop
 sub-at-2 c = search needs
@@ -58,7 +58,7 @@ loop-again-2 c =
     let p = c .before .before .before .before .before in
     let i = p .loop .inv in
     let t : p .loop .m < p .before .before .args .t1 .n = c .before .before .before .before .loop-test .taken in
-    (omega arith, omega arith, place-down _ _ _ _ (c .if1 .left) (i .2), copied-more (i .3) (i .1) (i .2) (c .before .put .ensures))
+    (omega arith, omega arith, place-down _ _ _ _ (c .if1 .left) (i .2), copied-more (i .3) (i .1) (i .2) (c .before .placed .ensures))
 
 returns : tie.Need-returns Inv-loop μ-loop
 returns c =
@@ -68,4 +68,4 @@ returns c =
     record { from = p .before .lowest-at .result; lowest = p .before .lowest-at .ensures; copied = rw e at (i .3) }
 
 pub in-order-spec : {M : Type 1} → statement M
-in-order-spec = tie.close (tie.spec Inv-loop μ-loop lowest-at-requires loop-holds element-copy-out-put element-copy-out-put-2 put-requires add-m sub-at loop-less loop-again sub-at-2 loop-less-2 loop-again-2 returns)
+in-order-spec = tie.close (tie.spec Inv-loop μ-loop lowest-at-requires loop-holds element-copy-out-placed element-copy-out-placed-2 placed-requires add-m sub-at loop-less loop-again sub-at-2 loop-less-2 loop-again-2 returns)

@@ -1,10 +1,10 @@
--- `search::reach` meets its contract. The loop's invariant is Progress, and its measure counts the states that are not expanded. Assumes nothing.
+-- `search::reach` meets its contract. The loop's invariant is Progress, and its measure counts the arrivals that are not expanded. Assumes nothing.
 use mathlib.Core.Path.{refl}
 use Prim.Native.Nat.{_-_}
 use borrow.Author.Needs.{needs}
 use native.Mathlib.Omega.{arith}
 use Rattle.rules.specs.HeldLocks.{R, N}
-use Rattle.search.specs.States.{size}
+use Rattle.search.specs.Arrivals.{size}
 use Rattle.search.proofs.Paths.{after-r, after-n, Progress, progress-none, progress-more, progress-less, reached-law}
 use Rattle.search.proofs.reach.Statement.{statement}
 use Rattle.search.proofs.reach.Tie as tie

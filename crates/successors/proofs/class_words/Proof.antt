@@ -28,7 +28,7 @@ returns : tie.Need-returns
 returns c =
     let a = c .before .before .before .before .before .args in
     let p = c .before .before .before .before .before .pre in
-    class-law (a .state .now) (a .matrix .now) (a .k) (a .class) (a .hard) (a .soft) _ _ (p .2) (p .3)
+    class-law (a .desk .now) (a .sheet .now) (a .k) (a .class) (a .hard) (a .soft) _ _ (p .2) (p .3)
     (c .before .lock-words .ensures) (c .with-irq .ensures)
 
 pub class-words-spec : {M : Type 1} → statement M

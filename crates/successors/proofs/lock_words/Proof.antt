@@ -9,10 +9,10 @@ use Rattle.successors.proofs.lock_words.Statement.{statement}
 use Rattle.successors.proofs.lock_words.Tie as tie
 
 abbrev Inv-loop : tie.InvT-loop
-Inv-loop matrix at k blocks₀ words₀ blocks words = (16 * blocks ≤ k) × Columns matrix (at + 16 * blocks) (k - 16 * blocks) words
+Inv-loop sheet at k blocks₀ words₀ blocks words = (16 * blocks ≤ k) × Columns sheet (at + 16 * blocks) (k - 16 * blocks) words
 
 abbrev μ-loop : tie.MeasureT-loop
-μ-loop matrix at k blocks₀ words₀ blocks words = blocks
+μ-loop sheet at k blocks₀ words₀ blocks words = blocks
 
 mul-block : tie.Need-mul-block Inv-loop μ-loop
 mul-block c = search needs
@@ -44,7 +44,7 @@ block-requires-2 c κs = search needs
 joined-requires : tie.Need-joined-requires Inv-loop μ-loop
 joined-requires c κs =
     let a = c .before .before .before .before .before .args in
-    columns-narrow (a .matrix .now) _ _ _ _ _ _ (omega arith) (omega arith) (c .before .before .loop .inv .1) (c .block2 .ensures)
+    columns-narrow (a .sheet .now) _ _ _ _ _ _ (omega arith) (omega arith) (c .before .before .loop .inv .1) (c .block2 .ensures)
 
 loop-less : tie.Need-loop-less Inv-loop μ-loop
 loop-less c = search needs
@@ -54,7 +54,7 @@ loop-again c =
     let a = c .before .before .before .before .before .before .args in
     let l = c .before .before .before .loop in (
       omega arith,
-      columns-join (a .matrix .now) (a .at) (a .k) (l .blocks) _ _ _ (c .before .before .loop-test .taken) (l .inv .0)
+      columns-join (a .sheet .now) (a .at) (a .k) (l .blocks) _ _ _ (c .before .before .loop-test .taken) (l .inv .0)
           (l .inv .1) (c .before .block2 .ensures) (c .joined .ensures),
     )
 

@@ -10,16 +10,16 @@ use Rattle.successors.proofs.marked.Statement.{statement}
 use Rattle.successors.proofs.marked.Tie as tie
 
 abbrev Inv-loop : tie.InvT-loop
-Inv-loop state k d word₀ c₀ word c = (c ≤ k) × (word ≡ column state (marksAt + c) d (k - c))
+Inv-loop desk k d word₀ c₀ word c = (c ≤ k) × (word ≡ column desk (marksAt + c) d (k - c))
 
 abbrev μ-loop : tie.MeasureT-loop
-μ-loop state k d word₀ c₀ word c = c
+μ-loop desk k d word₀ c₀ word c = c
 
 loop-holds : tie.Need-loop-holds Inv-loop μ-loop
 loop-holds c =
     let a = c .before .args in
     let z : a .k - a .k ≡ 0 = omega arith in
-    (omega arith, rw z (sym (column-none (a .state .now) (a .d) (marksAt + a .k))))
+    (omega arith, rw z (sym (column-none (a .desk .now) (a .d) (marksAt + a .k))))
 
 sub-c : tie.Need-sub-c Inv-loop μ-loop
 sub-c c = search needs
@@ -28,8 +28,8 @@ mul-word : tie.Need-mul-word Inv-loop μ-loop
 mul-word c =
     let a = c .before .before .before .args in
     let l = c .before .loop in
-    let e = column-step (a .state .now) (a .d) marksAt (a .k) (l .c) (c .loop-test .taken) (l .inv .0) in
-    let b = column-bound (a .state .now) (a .d) (a .k - (l .c - 1)) (marksAt + (l .c - 1)) 64 (omega arith) in
+    let e = column-step (a .desk .now) (a .d) marksAt (a .k) (l .c) (c .loop-test .taken) (l .inv .0) in
+    let b = column-bound (a .desk .now) (a .d) (a .k - (l .c - 1)) (marksAt + (l .c - 1)) 64 (omega arith) in
     omega arith
 
 add-digit : tie.Need-add-digit Inv-loop μ-loop
@@ -45,8 +45,8 @@ add-word : tie.Need-add-word Inv-loop μ-loop
 add-word c =
     let a = c .before .before .before .before .before .args in
     let l = c .before .before .before .loop in
-    let e = column-step (a .state .now) (a .d) marksAt (a .k) (l .c) (c .before .before .loop-test .taken) (l .inv .0) in
-    let b = column-bound (a .state .now) (a .d) (a .k - (l .c - 1)) (marksAt + (l .c - 1)) 64 (omega arith) in
+    let e = column-step (a .desk .now) (a .d) marksAt (a .k) (l .c) (c .before .before .loop-test .taken) (l .inv .0) in
+    let b = column-bound (a .desk .now) (a .d) (a .k - (l .c - 1)) (marksAt + (l .c - 1)) 64 (omega arith) in
     omega arith
 
 loop-less : tie.Need-loop-less Inv-loop μ-loop
@@ -56,8 +56,8 @@ loop-again : tie.Need-loop-again Inv-loop μ-loop
 loop-again c =
     let a = c .before .before .before .before .before .args in
     let l = c .before .before .before .loop in
-    let e = column-step (a .state .now) (a .d) marksAt (a .k) (l .c) (c .before .before .loop-test .taken) (l .inv .0) in
-    let b = column-bound (a .state .now) (a .d) (a .k - (l .c - 1)) (marksAt + (l .c - 1)) 64 (omega arith) in
+    let e = column-step (a .desk .now) (a .d) marksAt (a .k) (l .c) (c .before .before .loop-test .taken) (l .inv .0) in
+    let b = column-bound (a .desk .now) (a .d) (a .k - (l .c - 1)) (marksAt + (l .c - 1)) 64 (omega arith) in
     (omega arith, omega arith)
 
 returns : tie.Need-returns Inv-loop μ-loop

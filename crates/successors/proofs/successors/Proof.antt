@@ -11,10 +11,10 @@ use Rattle.successors.proofs.successors.Statement.{statement}
 use Rattle.successors.proofs.successors.Tie as tie
 
 abbrev Inv-loop : tie.InvT-loop
-Inv-loop state matrix k hard soft rows₀ class₀ rows class = (class ≤ k) × Filled state matrix k class rows
+Inv-loop desk sheet k hard soft rows₀ class₀ rows class = (class ≤ k) × Filled desk sheet k class rows
 
 abbrev μ-loop : tie.MeasureT-loop
-μ-loop state matrix k hard soft rows₀ class₀ rows class = k - class
+μ-loop desk sheet k hard soft rows₀ class₀ rows class = k - class
 
 safe-words-requires : tie.Need-safe-words-requires Inv-loop μ-loop
 safe-words-requires c κs = search needs
@@ -25,7 +25,7 @@ safe-words-requires-2 c κs = search needs
 loop-holds : tie.Need-loop-holds Inv-loop μ-loop
 loop-holds c =
     let a = c .before .before .before .before .args in
-    (omega arith, filled-none (a .state .now) (a .matrix .now) (a .k))
+    (omega arith, filled-none (a .desk .now) (a .sheet .now) (a .k))
 
 class-words-requires : tie.Need-class-words-requires Inv-loop μ-loop
 class-words-requires c κs = search needs
@@ -44,8 +44,8 @@ loop-again c =
     let a = c .before .before .before .before .before .before .before .before .before .args in
     let l = c .before .before .before .before .loop in (
       omega arith,
-      subst (λ (x : List ℕ). Filled (a .state .now) (a .matrix .now) (a .k) (l .class + 1) x) (sym (c .store .ensures))
-          (filled-more (a .state .now) (a .matrix .now) (a .k) (l .class) (l .rows) (c .before .class-words .result) (omega arith) (l .inv .1)
+      subst (λ (x : List ℕ). Filled (a .desk .now) (a .sheet .now) (a .k) (l .class + 1) x) (sym (c .store .ensures))
+          (filled-more (a .desk .now) (a .sheet .now) (a .k) (l .class) (l .rows) (c .before .class-words .result) (omega arith) (l .inv .1)
           (c .before .class-words .ensures)),
     )
 
@@ -54,7 +54,7 @@ returns c =
     let a = c .before .before .before .before .before .before .args in
     let l = c .before .loop in
     let e : l .class ≡ a .k = omega arith in
-    successors-law (a .state .now) (a .matrix .now) (a .k) (l .rows) (c .before .before .before .before .before .before .pre .few) (rw e at (l .inv .1))
+    successors-law (a .desk .now) (a .sheet .now) (a .k) (l .rows) (c .before .before .before .before .before .before .pre .few) (rw e at (l .inv .1))
 
 pub successors-spec : {M : Type 1} → statement M
 successors-spec =

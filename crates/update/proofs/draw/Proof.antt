@@ -12,10 +12,10 @@ use Rattle.update.proofs.draw.Lts as lts
 use Rattle.context.proofs.kind_bit.Reads as kind-bit-reads
 
 abbrev Inv-loop : tie.InvT-loop
-Inv-loop state matrix₀ k frame class mode d p₀ matrix p = (p ≤ d) × Drawing state k frame class mode matrix₀ p matrix
+Inv-loop desk sheet₀ k frame class mode d p₀ sheet p = (p ≤ d) × Drawing desk k frame class mode sheet₀ p sheet
 
 abbrev μ-loop : tie.MeasureT-loop
-μ-loop state matrix₀ k frame class mode d p₀ matrix p = d - p
+μ-loop desk sheet₀ k frame class mode d p₀ sheet p = d - p
 
 add-d : tie.Need-add-d Inv-loop μ-loop
 add-d c = omega arith
@@ -49,7 +49,7 @@ mul-at c =
     let p = c .before .before .before .before .before .before .pre in
     let l = c .before .before .loop in
     let a = c .before .before .before .before .before .before .args in
-    let h = cell-inside (a .k) (heldOf (a .state .now) (a .frame) (l .p) % 64) (a .class) (p .0 .class (l .p) (omega arith)) (p .3) in
+    let h = cell-inside (a .k) (heldOf (a .desk .now) (a .frame) (l .p) % 64) (a .class) (p .0 .class (l .p) (omega arith)) (p .3) in
     omega arith
 
 add-at : tie.Need-add-at Inv-loop μ-loop
@@ -57,15 +57,15 @@ add-at c =
     let p = c .before .before .before .before .before .before .pre in
     let l = c .before .before .loop in
     let a = c .before .before .before .before .before .before .args in
-    let h = cell-inside (a .k) (heldOf (a .state .now) (a .frame) (l .p) % 64) (a .class) (p .0 .class (l .p) (omega arith)) (p .3) in
+    let h = cell-inside (a .k) (heldOf (a .desk .now) (a .frame) (l .p) % 64) (a .class) (p .0 .class (l .p) (omega arith)) (p .3) in
     omega arith
 
-slice-read-matrix : tie.Need-slice-read-matrix Inv-loop μ-loop
-slice-read-matrix c =
+slice-read-sheet : tie.Need-slice-read-sheet Inv-loop μ-loop
+slice-read-sheet c =
     let p = c .before .before .before .before .before .before .before .pre in
     let l = c .before .before .before .loop in
     let a = c .before .before .before .before .before .before .before .args in
-    let h = cell-inside (a .k) (heldOf (a .state .now) (a .frame) (l .p) % 64) (a .class) (p .0 .class (l .p) (omega arith)) (p .3) in
+    let h = cell-inside (a .k) (heldOf (a .desk .now) (a .frame) (l .p) % 64) (a .class) (p .0 .class (l .p) (omega arith)) (p .3) in
     omega (arith, l .inv .1 .keeps .long, p .1)
 
 kind-bit-requires : tie.Need-kind-bit-requires Inv-loop μ-loop
@@ -75,12 +75,12 @@ kind-bit-requires c κs =
     let a = c .before .before .before .before .before .before .before .args in
     (p .0 .mode (l .p) (omega arith), p .4)
 
-slice-write-matrix : tie.Need-slice-write-matrix Inv-loop μ-loop
-slice-write-matrix c =
+slice-write-sheet : tie.Need-slice-write-sheet Inv-loop μ-loop
+slice-write-sheet c =
     let p = c .before .before .before .before .before .before .before .before .pre in
     let l = c .before .before .before .before .loop in
     let a = c .before .before .before .before .before .before .before .before .args in
-    let h = cell-inside (a .k) (heldOf (a .state .now) (a .frame) (l .p) % 64) (a .class) (p .0 .class (l .p) (omega arith)) (p .3) in
+    let h = cell-inside (a .k) (heldOf (a .desk .now) (a .frame) (l .p) % 64) (a .class) (p .0 .class (l .p) (omega arith)) (p .3) in
     omega (arith, l .inv .1 .keeps .long, p .1)
 
 add-p : tie.Need-add-p Inv-loop μ-loop
@@ -121,9 +121,9 @@ draw-spec =
     cast-held
     mul-at
     add-at
-    slice-read-matrix
+    slice-read-sheet
     kind-bit-requires
-    slice-write-matrix
+    slice-write-sheet
     add-p
     loop-less
     loop-again

@@ -10,10 +10,10 @@ use Rattle.update.proofs.mark.Lts as lts
 use Rattle.context.proofs.mark_bits.Reads as mark-bits-reads
 
 abbrev Inv-loop : tie.InvT-loop
-Inv-loop state₀ frame k context d p₀ state p = (p ≤ d) × Marking state₀ frame context p state
+Inv-loop desk₀ frame k context d p₀ desk p = (p ≤ d) × Marking desk₀ frame context p desk
 
 abbrev μ-loop : tie.MeasureT-loop
-μ-loop state₀ frame k context d p₀ state p = d - p
+μ-loop desk₀ frame k context d p₀ desk p = d - p
 
 add-d : tie.Need-add-d Inv-loop μ-loop
 add-d c = omega arith
@@ -45,8 +45,8 @@ cast-held c = omega (arith, c .slice-known3 .given (heldAt + maxDepth * c .befor
 add-at : tie.Need-add-at Inv-loop μ-loop
 add-at c = omega arith
 
-slice-read-state : tie.Need-slice-read-state Inv-loop μ-loop
-slice-read-state c = omega arith
+slice-read-desk : tie.Need-slice-read-desk Inv-loop μ-loop
+slice-read-desk c = omega arith
 
 mark-bits-requires : tie.Need-mark-bits-requires Inv-loop μ-loop
 mark-bits-requires c κs =
@@ -55,8 +55,8 @@ mark-bits-requires c κs =
     let same = same-held _ _ _ (l .inv .1) (l .p) in
     (p .2, rw same (p .0 .mode (l .p) (omega arith)))
 
-slice-write-state : tie.Need-slice-write-state Inv-loop μ-loop
-slice-write-state c = omega arith
+slice-write-desk : tie.Need-slice-write-desk Inv-loop μ-loop
+slice-write-desk c = omega arith
 
 add-p : tie.Need-add-p Inv-loop μ-loop
 add-p c = omega arith
@@ -95,9 +95,9 @@ mark-spec =
     slice-read-held
     cast-held
     add-at
-    slice-read-state
+    slice-read-desk
     mark-bits-requires
-    slice-write-state
+    slice-write-desk
     add-p
     loop-less
     loop-again

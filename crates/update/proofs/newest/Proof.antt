@@ -13,10 +13,10 @@ use Rattle.update.proofs.newest.Reads as reads
 use Rattle.update.proofs.newest.Lts as lts
 
 abbrev Inv-loop : tie.InvT-loop
-Inv-loop state frame class i₀ i = (i ≤ maxDepth) × (lastBelow (λ p. eqb (heldOf state frame p % 64) class) i ≡ newestOf state frame class)
+Inv-loop desk frame class i₀ i = (i ≤ maxDepth) × (lastBelow (λ p. eqb (heldOf desk frame p % 64) class) i ≡ newestOf desk frame class)
 
 abbrev μ-loop : tie.MeasureT-loop
-μ-loop state frame class i₀ i = i
+μ-loop desk frame class i₀ i = i
 
 add-i : tie.Need-add-i Inv-loop μ-loop
 add-i c = omega arith
@@ -63,7 +63,7 @@ returns-2 : tie.Need-returns-2 Inv-loop μ-loop
 returns-2 c =
     let e : c .before .loop .i ≡ 0 = omega arith in
     let args = c .before .before .before .args in
-    sym (last-none (λ p. eqb (heldOf (args .state .now) (args .frame) p % 64) (args .class))) ∙ (rw e at (c .before .loop .inv .1))
+    sym (last-none (λ p. eqb (heldOf (args .desk .now) (args .frame) p % 64) (args .class))) ∙ (rw e at (c .before .loop .inv .1))
 
 pub newest-spec : {M : Type 1} → statement M
 newest-spec =

@@ -13,35 +13,35 @@ add-d c = search needs
 slice-read-d : tie.Need-slice-read-d
 slice-read-d c = search needs
 
-mul-state : tie.Need-mul-state
-mul-state c = search needs
+mul-desk : tie.Need-mul-desk
+mul-desk c = search needs
 
-add-state : tie.Need-add-state
-add-state c = search needs
+add-desk : tie.Need-add-desk
+add-desk c = search needs
 
-mul-state-2 : tie.Need-mul-state-2
-mul-state-2 c = search needs
+mul-desk-2 : tie.Need-mul-desk-2
+mul-desk-2 c = search needs
 
-add-state-2 : tie.Need-add-state-2
-add-state-2 c = search needs
+add-desk-2 : tie.Need-add-desk-2
+add-desk-2 c = search needs
 
-cast-state : tie.Need-cast-state
-cast-state c = search needs
+cast-desk : tie.Need-cast-desk
+cast-desk c = search needs
 
-add-state-3 : tie.Need-add-state-3
-add-state-3 c = search needs
+add-desk-3 : tie.Need-add-desk-3
+add-desk-3 c = search needs
 
-slice-write-state : tie.Need-slice-write-state
-slice-write-state c = search needs
+slice-write-desk : tie.Need-slice-write-desk
+slice-write-desk c = search needs
 
-add-state-4 : tie.Need-add-state-4
-add-state-4 c = search needs
+add-desk-4 : tie.Need-add-desk-4
+add-desk-4 c = search needs
 
-add-state-5 : tie.Need-add-state-5
-add-state-5 c = search needs
+add-desk-5 : tie.Need-add-desk-5
+add-desk-5 c = search needs
 
-slice-write-state-2 : tie.Need-slice-write-state-2
-slice-write-state-2 c = simp length-set (omega arith)
+slice-write-desk-2 : tie.Need-slice-write-desk-2
+slice-write-desk-2 c = simp length-set (omega arith)
 
 same-length : tie.Need-same-length
 same-length c = search needs
@@ -55,15 +55,15 @@ push-spec =
     (tie.spec
     add-d
     slice-read-d
-    mul-state
-    add-state
-    mul-state-2
-    add-state-2
-    cast-state
-    add-state-3
-    slice-write-state
-    add-state-4
-    add-state-5
-    slice-write-state-2
+    mul-desk
+    add-desk
+    mul-desk-2
+    add-desk-2
+    cast-desk
+    add-desk-3
+    slice-write-desk
+    add-desk-4
+    add-desk-5
+    slice-write-desk-2
     same-length
     returns)

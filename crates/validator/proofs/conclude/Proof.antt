@@ -25,7 +25,7 @@ frame-of-requires : tie.Need-frame-of-requires
 frame-of-requires c κs =
     let p = c .before .before .before .before .before .pre in
     let a = c .before .before .before .before .before .args in
-    (p .0 .encodes .long, p .1, state-less (a .state .now) (p .0) (a .core) (p .1))
+    (p .0 .encodes .long, p .1, state-less (a .desk .now) (p .0) (a .core) (p .1))
 
 add-context : tie.Need-add-context
 add-context c = search needs
@@ -43,7 +43,7 @@ mark-requires : tie.Need-mark-requires
 mark-requires c κs =
     let p = c .before .before .before .before .before .before .before .before .pre in
     let a = c .before .before .before .before .before .before .before .before .args in
-    (rw (c .before .before .frame-of .ensures) (held-in (a .state .now) (p .0) (a .core) (p .1)), p .0 .few, state-less (a .state .now) (p .0) (a .core) (p .1))
+    (rw (c .before .before .frame-of .ensures) (held-in (a .desk .now) (p .0) (a .core) (p .1)), p .0 .few, state-less (a .desk .now) (p .0) (a .core) (p .1))
 
 successors-requires : tie.Need-successors-requires
 successors-requires c κs = search needs
@@ -72,8 +72,8 @@ show-requires c κs =
     let l = p .0 .encodes .long in
     (omega arith, p .0 .few, p .2, p .3, writable (c .before .before .before .before .find-cycle .ensures) (omega arith))
 
-slice-write-state : tie.Need-slice-write-state
-slice-write-state c =
+slice-write-desk : tie.Need-slice-write-desk
+slice-write-desk c =
     let p = c .before .before .before .before .before .before .before .before .before .before .before .before .before .before .before .before .before .before .before .before .before .before .pre in
     let a = c .before .before .before .before .before .before .before .before .before .before .before .before .before .before .before .before .before .before .before .before .before .before .args in
     let e = c .before .before .before .before .before .before .before .before .before .before .before .before .before .mark .ensures .keeps .long in let l = p .0 .encodes .long in omega arith
@@ -107,7 +107,7 @@ conclude-spec =
     same-length
     returns
     show-requires
-    slice-write-state
+    slice-write-desk
     same-length-2
     same-length-3
     returns-2)

@@ -1,12 +1,10 @@
 use mathlib.Core.Path.{_≡_, sym, _∙_}
 use native.Mathlib.Omega.{arith}
 use borrow.Author.Tests.{not-true, not-false}
-use Rattle.fit.specs.View.{view}
 use Rattle.fit.proofs.Facts.{facts}
-use Rattle.fit.proofs.Fitting.{fit-encodes, fit-valid}
-use Rattle.action.proofs.Formed.{well-formed}
+use Rattle.rules.proofs.Formed.{well-formed}
 use Rattle.validator.proofs.Fitness.{fit-cored}
-use Rattle.validator.proofs.Outcomes.{unfit-buffers, unfit-report, is-closed, is-malformed, is-refused, conclude-ready, is-validated}
+use Rattle.validator.proofs.Outcomes.{unfit-buffers, unfit-slip, is-closed, is-malformed, is-refused, conclude-ready, is-validated}
 use borrow.Author.Needs.{needs}
 use Rattle.validator.proofs.step.Statement.{statement}
 use Rattle.validator.proofs.step.Tie as tie
@@ -32,25 +30,25 @@ returns c = unfit-buffers _ _ _ _ (sym (c .before .fits2 .ensures) ∙ not-true 
 slice-read-if2 : tie.Need-slice-read-if2
 slice-read-if2 c =
     let a = c .before .before .before .before .before .before .before .before .before .args in
-    let f = facts (a .state .now) (a .matrix .now) (sym (c .before .before .fits2 .ensures) ∙ not-false _ (c .before .if1 .left)) in
+    let f = facts (a .desk .now) (a .sheet .now) (sym (c .before .before .fits2 .ensures) ∙ not-false _ (c .before .if1 .left)) in
     let l = f .long in omega arith
 
 cast-if2 : tie.Need-cast-if2
 cast-if2 c =
     let a = c .before .before .before .before .before .before .before .before .before .args in
-    let f = facts (a .state .now) (a .matrix .now) (sym (c .before .before .fits2 .ensures) ∙ not-false _ (c .before .if1 .left)) in
+    let f = facts (a .desk .now) (a .sheet .now) (sym (c .before .before .fits2 .ensures) ∙ not-false _ (c .before .if1 .left)) in
     let l = f .few in omega arith
 
 mul-if2 : tie.Need-mul-if2
 mul-if2 c =
     let a = c .before .before .before .before .before .before .before .before .before .args in
-    let f = facts (a .state .now) (a .matrix .now) (sym (c .before .before .fits2 .ensures) ∙ not-false _ (c .before .if1 .left)) in
+    let f = facts (a .desk .now) (a .sheet .now) (sym (c .before .before .fits2 .ensures) ∙ not-false _ (c .before .if1 .left)) in
     let l = f .few in omega arith
 
 add-if2 : tie.Need-add-if2
 add-if2 c =
     let a = c .before .before .before .before .before .before .before .before .before .args in
-    let f = facts (a .state .now) (a .matrix .now) (sym (c .before .before .fits2 .ensures) ∙ not-false _ (c .before .if1 .left)) in
+    let f = facts (a .desk .now) (a .sheet .now) (sym (c .before .before .fits2 .ensures) ∙ not-false _ (c .before .if1 .left)) in
     let l = f .few in omega arith
 
 same-length-3 : tie.Need-same-length-3
@@ -60,12 +58,12 @@ same-length-4 : tie.Need-same-length-4
 same-length-4 c = search needs
 
 returns-2 : tie.Need-returns-2
-returns-2 c = unfit-report _ _ _ _ (sym (c .before .before .before .fits2 .ensures) ∙ not-false _ (c .before .before .if1 .left)) (c .if2 .taken)
+returns-2 c = unfit-slip _ _ _ _ (sym (c .before .before .before .fits2 .ensures) ∙ not-false _ (c .before .before .if1 .left)) (c .if2 .taken)
 
 slice-read-if3 : tie.Need-slice-read-if3
 slice-read-if3 c =
     let a = c .before .before .before .before .before .before .before .before .before .before .before .args in
-    let f = facts (a .state .now) (a .matrix .now) (sym (c .before .before .before .before .fits2 .ensures) ∙ not-false _ (c .before .before .before .if1 .left)) in
+    let f = facts (a .desk .now) (a .sheet .now) (sym (c .before .before .before .before .fits2 .ensures) ∙ not-false _ (c .before .before .before .if1 .left)) in
     let l = f .long in omega arith
 
 same-length-5 : tie.Need-same-length-5
@@ -75,7 +73,7 @@ same-length-6 : tie.Need-same-length-6
 same-length-6 c = search needs
 
 returns-3 : tie.Need-returns-3
-returns-3 c = is-closed _ _ _ _ (sym (c .before .before .before .before .before .fits2 .ensures) ∙ not-false _ (c .before .before .before .before .if1 .left)) (c .before .before .if2 .left) (c .if3 .taken)
+returns-3 c = is-closed _ _ _ _ (λ j. omega (arith, c .before .before .before .before .before .before .before .before .before .before .before .slice-known .given j)) (sym (c .before .before .before .before .before .fits2 .ensures) ∙ not-false _ (c .before .before .before .before .if1 .left)) (c .before .before .if2 .left) (c .if3 .taken)
 
 is-malformed-requires : tie.Need-is-malformed-requires
 is-malformed-requires c κs = search needs
@@ -87,13 +85,13 @@ same-length-8 : tie.Need-same-length-8
 same-length-8 c = search needs
 
 returns-4 : tie.Need-returns-4
-returns-4 c = is-malformed _ _ _ _ (sym (c .before .before .before .before .before .before .before .fits2 .ensures) ∙ not-false _ (c .before .before .before .before .before .before .if1 .left)) (c .before .before .before .before .if2 .left) (c .before .before .if3 .left) (sym (c .before .is-malformed .ensures) ∙ c .if4 .taken)
+returns-4 c = is-malformed _ _ _ _ (λ j. omega (arith, c .before .before .before .before .before .before .before .before .before .before .before .before .before .slice-known .given j)) (sym (c .before .before .before .before .before .before .before .fits2 .ensures) ∙ not-false _ (c .before .before .before .before .before .before .if1 .left)) (c .before .before .before .before .if2 .left) (c .before .before .if3 .left) (sym (c .before .is-malformed .ensures) ∙ c .if4 .taken)
 
 act-requires : tie.Need-act-requires
 act-requires c κs =
     let a = c .before .before .before .before .before .before .before .before .before .before .before .before .before .before .before .before .args in
-    let f = facts (a .state .now) (a .matrix .now) (sym (c .before .before .before .before .before .before .before .before .before .fits2 .ensures) ∙ not-false _ (c .before .before .before .before .before .before .before .before .if1 .left)) in
-    (fit-cored (a .state .now) (a .matrix .now) (sym (c .before .before .before .before .before .before .before .before .before .fits2 .ensures) ∙ not-false _ (c .before .before .before .before .before .before .before .before .if1 .left)) (λ j. omega (arith, c .before .before .before .before .before .before .before .before .before .before .before .before .before .before .before .slice-known .given j)), f .square, (well-formed (a .bytes .now) (sym (c .before .before .before .is-malformed .ensures) ∙ c .before .before .if4 .left)))
+    let f = facts (a .desk .now) (a .sheet .now) (sym (c .before .before .before .before .before .before .before .before .before .fits2 .ensures) ∙ not-false _ (c .before .before .before .before .before .before .before .before .if1 .left)) in
+    (fit-cored (a .desk .now) (a .sheet .now) (sym (c .before .before .before .before .before .before .before .before .before .fits2 .ensures) ∙ not-false _ (c .before .before .before .before .before .before .before .before .if1 .left)) (λ j. omega (arith, c .before .before .before .before .before .before .before .before .before .before .before .before .before .before .before .slice-known .given j)), f .square, (well-formed (a .bytes .now) (sym (c .before .before .before .is-malformed .ensures) ∙ c .before .before .if4 .left)))
 
 same-length-9 : tie.Need-same-length-9
 same-length-9 c = search needs
@@ -102,7 +100,7 @@ same-length-10 : tie.Need-same-length-10
 same-length-10 c = search needs
 
 returns-5 : tie.Need-returns-5
-returns-5 c = is-refused _ _ _ _ (sym (c .before .before .before .before .before .before .before .before .before .before .before .before .before .before .before .fits2 .ensures) ∙ not-false _ (c .before .before .before .before .before .before .before .before .before .before .before .before .before .before .if1 .left)) (c .before .before .before .before .before .before .before .before .before .before .before .before .if2 .left) (c .before .before .before .before .before .before .before .before .before .before .if3 .left) (c .before .before .before .before .before .act .ensures) (c .if5 .taken)
+returns-5 c = is-refused _ _ _ _ (λ j. omega (arith, c .before .before .before .before .before .before .before .before .before .before .before .before .before .before .before .before .before .before .before .before .before .slice-known .given j)) (sym (c .before .before .before .before .before .before .before .before .before .before .before .before .before .before .before .fits2 .ensures) ∙ not-false _ (c .before .before .before .before .before .before .before .before .before .before .before .before .before .before .if1 .left)) (c .before .before .before .before .before .before .before .before .before .before .before .before .if2 .left) (c .before .before .before .before .before .before .before .before .before .before .if3 .left) (c .before .before .before .before .before .act .ensures) (c .if5 .taken)
 
 shared-slice-read-conclude : tie.Need-shared-slice-read-conclude
 shared-slice-read-conclude c =
@@ -117,11 +115,10 @@ cast-conclude c =
 conclude-requires : tie.Need-conclude-requires
 conclude-requires c κs =
     let a = c .before .before .before .before .before .before .before .before .before .before .before .before .before .before .before .before .before .before .before .before .before .before .before .before .before .before .args in
-    let f = facts (a .state .now) (a .matrix .now) (sym (c .before .before .before .before .before .before .before .before .before .before .before .before .before .before .before .before .before .before .before .fits2 .ensures) ∙ not-false _ (c .before .before .before .before .before .before .before .before .before .before .before .before .before .before .before .before .before .before .if1 .left)) in
+    let f = facts (a .desk .now) (a .sheet .now) (sym (c .before .before .before .before .before .before .before .before .before .before .before .before .before .before .before .before .before .before .before .fits2 .ensures) ∙ not-false _ (c .before .before .before .before .before .before .before .before .before .before .before .before .before .before .before .before .before .before .if1 .left)) in
     let fit = (sym (c .before .before .before .before .before .before .before .before .before .before .before .before .before .before .before .before .before .before .before .fits2 .ensures) ∙ not-false _ (c .before .before .before .before .before .before .before .before .before .before .before .before .before .before .before .before .before .before .if1 .left)) in
     let ready =
-    conclude-ready (a .state .now) (a .matrix .now) (a .report .now) (a .bytes .now) fit (c .before .before .before .before .before .before .before .before .before .before .before .before .before .before .before .before .if2 .left) (c .before .before .before .before .before .before .before .before .before .before .before .before .before .before .if3 .left) (f .few)
-    (view (a .state .now) (a .matrix .now)) (fit-valid (a .state .now) (a .matrix .now) fit) (fit-encodes (a .state .now) (a .matrix .now) fit (λ j. omega (arith, c .before .before .before .before .before .before .before .before .before .before .before .before .before .before .before .before .before .before .before .before .before .before .before .before .before .slice-known .given j)))
+    conclude-ready (a .desk .now) (a .sheet .now) (a .slip .now) (a .bytes .now) (λ j. omega (arith, c .before .before .before .before .before .before .before .before .before .before .before .before .before .before .before .before .before .before .before .before .before .before .before .before .before .slice-known .given j)) fit (c .before .before .before .before .before .before .before .before .before .before .before .before .before .before .before .before .if2 .left) (c .before .before .before .before .before .before .before .before .before .before .before .before .before .before .if3 .left)
     (c .before .before .before .before .before .before .before .before .before .act .ensures) (c .before .before .before .before .if5 .left) in
     (ready .0, (well-formed (a .bytes .now) (sym (c .before .before .before .before .before .before .before .before .before .before .before .before .before .is-malformed .ensures) ∙ c .before .before .before .before .before .before .before .before .before .before .before .before .if4 .left)) .core, ready .1, ready .2)
 
@@ -135,7 +132,7 @@ same-length-13 : tie.Need-same-length-13
 same-length-13 c = search needs
 
 returns-6 : tie.Need-returns-6
-returns-6 c = is-validated _ _ _ _ (sym (c .before .before .before .before .before .before .before .before .before .before .before .before .before .before .before .before .before .before .before .before .before .before .before .before .fits2 .ensures) ∙ not-false _ (c .before .before .before .before .before .before .before .before .before .before .before .before .before .before .before .before .before .before .before .before .before .before .before .if1 .left)) (c .before .before .before .before .before .before .before .before .before .before .before .before .before .before .before .before .before .before .before .before .before .if2 .left) (c .before .before .before .before .before .before .before .before .before .before .before .before .before .before .before .before .before .before .before .if3 .left) (c .before .before .before .before .before .before .before .before .before .before .before .before .before .before .act .ensures) (c .before .before .before .before .before .before .before .before .before .if5 .left) (c .before .before .before .before .conclude .ensures)
+returns-6 c = is-validated _ _ _ _ (λ j. omega (arith, c .before .before .before .before .before .before .before .before .before .before .before .before .before .before .before .before .before .before .before .before .before .before .before .before .before .before .before .before .before .before .slice-known .given j)) (sym (c .before .before .before .before .before .before .before .before .before .before .before .before .before .before .before .before .before .before .before .before .before .before .before .before .fits2 .ensures) ∙ not-false _ (c .before .before .before .before .before .before .before .before .before .before .before .before .before .before .before .before .before .before .before .before .before .before .before .if1 .left)) (c .before .before .before .before .before .before .before .before .before .before .before .before .before .before .before .before .before .before .before .before .before .if2 .left) (c .before .before .before .before .before .before .before .before .before .before .before .before .before .before .before .before .before .before .before .if3 .left) (c .before .before .before .before .before .before .before .before .before .before .before .before .before .before .act .ensures) (c .before .before .before .before .before .before .before .before .before .if5 .left) (c .before .before .before .before .conclude .ensures)
 
 pub step-spec : {M : Type 1} → statement M
 step-spec =

@@ -3,8 +3,8 @@ use native.Mathlib.Omega.{arith}
 use borrow.Author.Needs.{needs}
 use Rattle.log.proofs.Lines.{fault-short}
 use Rattle.log.proofs.Writing.{both}
-use Rattle.log.proofs.put_fault_report.Statement.{statement}
-use Rattle.log.proofs.put_fault_report.Tie as tie
+use Rattle.log.proofs.put_fault_cycle.Statement.{statement}
+use Rattle.log.proofs.put_fault_cycle.Tie as tie
 
 put-fault-requires : tie.Need-put-fault-requires
 put-fault-requires c κs = search needs
@@ -20,6 +20,6 @@ same-length c = search needs
 returns : tie.Need-returns
 returns c = both (c .before .before .before .before .before .before .put-fault .ensures) (c .before .before .put-cycle .ensures)
 
-pub put-fault-report-spec : {M : Type 1} → statement M
-put-fault-report-spec =
+pub put-fault-cycle-spec : {M : Type 1} → statement M
+put-fault-cycle-spec =
     tie.close (tie.spec put-fault-requires put-cycle-requires same-length returns)

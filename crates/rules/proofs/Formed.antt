@@ -6,9 +6,8 @@ use Prim.Native.Nat.{ℕ}
 use lib.Dec.{leb, eqb}
 use lib.ListN.{length, getD}
 use borrow.Author.Tests.{leb-false, eqb-true, not-false}
 use Rattle.rules.specs.Limits.{coreCount, kindCount, modeCount}
-use Rattle.rules.specs.Record.{isMalformed, coreOf, kindOf, classOf, modeOf, strayByte}
-use Rattle.action.specs.Action.{WellFormed}
+use Rattle.rules.specs.Record.{isMalformed, coreOf, kindOf, classOf, modeOf, strayByte, WellFormed}
 
 or-none : (a b : Bool) → (a || b) ≡ false → (a ≡ false) × (b ≡ false)
 or-none true b h = absurd (true≢false h)

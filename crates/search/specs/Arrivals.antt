@@ -1,4 +1,4 @@
--- Sets of states (a class and the second letter of the dependency by which it was arrived at), and the choice of a dependency.
+-- Sets of arrivals (a class and the second letter of the dependency by which it was arrived at), and the choice of a dependency.
 use mathlib.Core.Path.{_≡_}
 use mathlib.Core.Logic.{_⊎_}
 use mathlib.Core.List.{List}
@@ -8,30 +8,30 @@ use Rattle.words.specs.Bits.{bit}
 use Rattle.rules.specs.HeldLocks.{First, Second, R, N}
 use Rattle.rules.specs.Graph.{Kind, kindBitBy}
 use Rattle.search.specs.Rows.{Successor}
-use Rattle.search.specs.declared.States.{States}
+use Rattle.search.specs.declared.Arrivals.{Arrivals}
 use Rattle.search.specs.declared.Stack.{Stack}
 use Rattle.search.specs.declared.Choice.{Choice}
 
-abbrev pub wordOf : States → Second → ℕ
-wordOf s R = s .r
-wordOf s N = s .n
+abbrev pub wordBy : Arrivals → Second → ℕ
+wordBy s R = s .r
+wordBy s N = s .n
 
-abbrev pub In : States → ℕ → Second → Type 0
-In s c a = bit (wordOf s a) c ≡ 1
+abbrev pub In : Arrivals → ℕ → Second → Type 0
+In s c a = bit (wordBy s a) c ≡ 1
 
-abbrev pub size : States → ℕ
+abbrev pub size : Arrivals → ℕ
 size s = ones (s .r) + ones (s .n)
 
-pub record Fits (s : States) : Type 0 where
+pub record Fits (s : Arrivals) : Type 0 where
   pub r : s .r < 2 ^ 64
   pub n : s .n < 2 ^ 64
 
 -- t is s with class c put in under a.
-pub record Put (c : ℕ) (a : Second) (s t : States) : Type 0 where
+pub record Put (c : ℕ) (a : Second) (s t : Arrivals) : Type 0 where
   pub there : In t c a
   pub kept : (j : ℕ) (b : Second) → In s j b → In t j b
   pub only : (j : ℕ) (b : Second) → In t j b → In s j b ⊎ ((j ≡ c) × (b ≡ a))
-  pub more : bit (wordOf s a) c ≡ 0 → size t ≡ size s + 1
+  pub more : bit (wordBy s a) c ≡ 0 → size t ≡ size s + 1
   pub fits : Fits t
 
 abbrev pub kindBy : First → Second → Kind
@@ -62,16 +62,16 @@ stackOf l N = l .on
 abbrev pub Closing : List ℕ → ℕ → First → Stack → Choice → Type 0
 Closing rows x f l c = Wanted rows x f (λ b j. bit (stackOf l b) j ≡ 1) c
 
-abbrev pub Undone : List ℕ → ℕ → First → States → Choice → Type 0
-Undone rows x f s c = Wanted rows x f (λ b j. (j < 64) × (bit (wordOf s b) j ≡ 0)) c
+abbrev pub Undone : List ℕ → ℕ → First → Arrivals → Choice → Type 0
+Undone rows x f s c = Wanted rows x f (λ b j. (j < 64) × (bit (wordBy s b) j ≡ 0)) c
 
 pub record Union (w v r : ℕ) : Type 0 where
   pub left : (j : ℕ) → bit w j ≡ 1 → bit r j ≡ 1
   pub right : (j : ℕ) → bit v j ≡ 1 → bit r j ≡ 1
   pub only : (j : ℕ) → bit r j ≡ 1 → (bit w j ≡ 1) ⊎ (bit v j ≡ 1)
 
--- t is s with the states that follow x by the first letter f.
-pub record Onward (rows : List ℕ) (x : ℕ) (f : First) (s t : States) : Type 0 where
+-- t is s with the arrivals that follow x by the first letter f.
+pub record Onward (rows : List ℕ) (x : ℕ) (f : First) (s t : Arrivals) : Type 0 where
   pub kept : (j : ℕ) (b : Second) → In s j b → In t j b
   pub all : (j : ℕ) (b : Second) → Successor rows x (kindBy f b) j → In t j b
   pub only : (j : ℕ) (b : Second) → In t j b → In s j b ⊎ Successor rows x (kindBy f b) j

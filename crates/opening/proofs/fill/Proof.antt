@@ -1,4 +1,4 @@
--- The invariant: the bytes passed are zero and the others as they were.
+-- The invariant: the bytes passed have the value and the others as they were.
 use mathlib.Core.Path.{_≡_, refl, _∙_}
 use mathlib.Core.List.{_++_, append-nil}
 use Prim.Native.Nat.{_≤_, _-_}
@@ -6,14 +6,14 @@ use native.Mathlib.Omega.{arith}
 use lib.ListN.{length, drop, replicate, length-set}
 use lib.Seq.{drop-length}
 use borrow.Author.Fill.{fill-more}
-use Rattle.opening.proofs.clear.Statement.{statement}
-use Rattle.opening.proofs.clear.Tie as tie
+use Rattle.opening.proofs.fill.Statement.{statement}
+use Rattle.opening.proofs.fill.Tie as tie
 
 abbrev Inv-loop : tie.InvT-loop
-Inv-loop bytes₀ i₀ bytes i = (i ≤ length bytes₀) × ((length bytes ≡ length bytes₀) × (bytes ≡ replicate i 0 ++ drop i bytes₀))
+Inv-loop bytes₀ value i₀ bytes i = (i ≤ length bytes₀) × ((length bytes ≡ length bytes₀) × (bytes ≡ replicate i value ++ drop i bytes₀))
 
 abbrev μ-loop : tie.MeasureT-loop
-μ-loop bytes₀ i₀ bytes i = length bytes₀ - i
+μ-loop bytes₀ value i₀ bytes i = length bytes₀ - i
 
 loop-holds : tie.Need-loop-holds Inv-loop μ-loop
 loop-holds c = (omega arith, (refl, refl))
@@ -32,7 +32,7 @@ loop-again c = (
   omega arith,
   (
     simp length-set (omega arith),
-    rw (c .before .loop .inv .1 .1) (fill-more (c .before .loop .i) 0 (c .before .before .args .bytes .now) (omega arith)),
+    rw (c .before .loop .inv .1 .1) (fill-more (c .before .loop .i) (c .before .before .args .value) (c .before .before .args .bytes .now) (omega arith)),
   ),
 )
 
@@ -44,8 +44,8 @@ returns c =
     let e : c .before .loop .i ≡ length (c .before .before .args .bytes .now) = omega arith in
     c .before .loop .inv .1 .1 ∙ simp (e, drop-length, append-nil)
 
-pub clear-spec : {M : Type 1} → statement M
-clear-spec =
+pub fill-spec : {M : Type 1} → statement M
+fill-spec =
     tie.close
     (tie.spec
     Inv-loop

@@ -1,0 +1,23 @@
+// The numbers of the answers, once for the code. Opening gives OK or BAD_OPENING, the question OK, UNFIT or NO_CLASS, the step all others.
+
+pub const OK: u8 = 0;
+
+pub const FAULT: u8 = 1;
+
+pub const BAD_OPENING: u8 = 2;
+
+pub const MALFORMED: u8 = 3;
+
+pub const NO_CLASS: u8 = 4;
+
+pub const NOT_HELD: u8 = 5;
+
+pub const NO_TRANSITION: u8 = 6;
+
+pub const STILL_HELD: u8 = 7;
+
+pub const TOO_DEEP: u8 = 8;
+
+pub const CLOSED: u8 = 10;
+
+pub const UNFIT: u8 = 11;

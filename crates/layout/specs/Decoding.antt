@@ -1,0 +1,67 @@
+-- What the bytes stand for: the state of the rules that a fit desk and sheet have, and the cycle that a slip has. It undoes Encoding.antt
+-- (crates/fit/proofs/Fitting.antt). Past the cores, frames and classes the state is as at opening.
+use mathlib.Core.Bool.{cond, _&&_}
+use mathlib.Core.List.{List, []}
+use Prim.Native.Nat.{ℕ, zero, suc, _+_, _*_, _/_, _%_}
+use lib.Dec.{ltb, eqb}
+use lib.ListN.{getD}
+use Rattle.rules.specs.Limits.{coreCount, maxClasses}
+use Rattle.rules.specs.HeldLocks.{HeldLock, Core, freshCore}
+use Rattle.rules.specs.Marks.{Marks, hardIrq, softIrq, markBit}
+use Rattle.rules.specs.Graph.{Dependencies, Kind, ER, EN, SR, SN, kindBit, Source, lock, irq}
+use Rattle.rules.specs.Decision.{tabulate}
+use Rattle.rules.specs.Cycle.{Entry}
+use Rattle.rules.specs.Run.{State}
+use Rattle.layout.specs.Layout.{framesPerCore, frameNumber, entriesAt, entrySize, classesOf, closedOf, stateOf, depthOf, markOf, heldOf, kindsOf, countOf}
+
+abbrev pub heldLockOf : ℕ → HeldLock
+heldLockOf byte = record { class = byte % 64; mode = byte / 64 }
+
+-- The locks held in frame n, oldest first.
+abbrev pub heldLocks : List ℕ → ℕ → List HeldLock
+heldLocks desk n = tabulate (depthOf desk n) (λ p. heldLockOf (heldOf desk n p))
+
+abbrev pub viewCore : List ℕ → ℕ → Core
+viewCore desk i =
+    record { state = stateOf desk i; held = λ f. cond (ltb f framesPerCore) (heldLocks desk (frameNumber i f)) [] }
+
+abbrev pub viewMarks : List ℕ → Marks
+viewMarks desk c l u = ltb c maxClasses && eqb (markOf desk c / markBit l u % 2) 1
+
+abbrev pub viewLocks : ℕ → List ℕ → Dependencies
+viewLocks K sheet from to k = (ltb from K && ltb to K) && eqb (kindsOf sheet K from to / kindBit k % 2) 1
+
+-- The state that desk and sheet stand for.
+abbrev pub view : (desk sheet : List ℕ) → State
+view desk sheet =
+    record {
+      is-closed = eqb (closedOf desk) 1;
+      cores = λ i. cond (ltb i coreCount) (viewCore desk i) freshCore;
+      graph = record { locks = viewLocks (classesOf desk) sheet; marks = viewMarks desk };
+    }
+
+-- The kind and the source of a byte of a slip: 1 ER, 2 EN, 4 SR, 8 SN; 0 a lock dependency, 1 hard, 2 soft. Other bytes stand in no slip.
+abbrev pub kindOfByte : ℕ → Kind
+kindOfByte zero = EN
+kindOfByte (suc zero) = ER
+kindOfByte (suc (suc zero)) = EN
+kindOfByte (suc (suc (suc zero))) = EN
+kindOfByte (suc (suc (suc (suc zero)))) = SR
+kindOfByte (suc (suc (suc (suc (suc n))))) = SN
+
+abbrev pub sourceOfByte : ℕ → Source
+sourceOfByte zero = lock
+sourceOfByte (suc zero) = irq hardIrq
+sourceOfByte (suc (suc n)) = irq softIrq
+
+-- The entry at place i, and all that the slip counts.
+abbrev pub entryOf : List ℕ → ℕ → Entry
+entryOf slip i =
+    record {
+      class = getD slip (entriesAt + entrySize * i) 0;
+      kind = kindOfByte (getD slip (entriesAt + entrySize * i + 1) 0);
+      source = sourceOfByte (getD slip (entriesAt + entrySize * i + 2) 0);
+    }
+
+abbrev pub entriesOf : List ℕ → List Entry
+entriesOf slip = tabulate (countOf slip) (entryOf slip)
