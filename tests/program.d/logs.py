@@ -110,7 +110,7 @@ class Walk:
 
     def __init__(self, classes, rng):
         self.rng = rng
-        self.replay = Replay(classes)
+        self.machine = Machine(classes)
         self.records = []
         self.by_rank = rng.sample(range(classes), classes)
         self.rank = {c: i for i, c in enumerate(self.by_rank)}
@@ -122,9 +122,9 @@ class Walk:
     def put(self, rec):
         """Adds a record; whether it was accepted."""
         self.records.append(rec)
-        if self.replay.refusal(rec):
+        if self.machine.refusal(rec):
             return False
-        self.replay.accept(rec)
+        self.machine.accept(rec)
         return True
 
     def ranks(self, state):
@@ -132,33 +132,33 @@ class Walk:
         return range(self.limits[low], self.limits[high])
 
     def orderly_acquire(self, core):
-        held = self.replay.held_now(core)
+        held = self.machine.held_now(core)
         over = max((self.rank[c] for c, _ in held), default=-1)
         if held and self.rng.random() < 0.2 and all(m == RECURSIVE_READ for c, m in held if self.rank[c] == over):
             return record(core, ACQUIRE, self.by_rank[over], RECURSIVE_READ)
-        free = [r for r in self.ranks(self.replay.states[core]) if r > over]
+        free = [r for r in self.ranks(self.machine.states[core]) if r > over]
         return free and record(core, ACQUIRE, self.by_rank[self.rng.choice(free[:5])], self.rng.randrange(3))
 
     def orderly_event(self, core):
         kind = self.rng.randrange(HARD_ON, EXIT_HARD + 1)
-        state = NEXT[self.replay.states[core]][kind - HARD_ON]
+        state = NEXT[self.machine.states[core]][kind - HARD_ON]
         if state == "x":
             return None
         ranks = self.ranks(int(state))
-        held = self.replay.held[core][FRAME[int(state)]]
+        held = self.machine.held[core][FRAME[int(state)]]
         return all(self.rank[c] in ranks for c, _ in held) and record(core, kind)
 
     def any_record(self, core):
         kind = self.rng.choice((ACQUIRE, ACQUIRE, ACQUIRE, self.rng.randrange(HARD_ON, EXIT_HARD + 1)))
         if kind > ACQUIRE:
             return record(core, kind)
-        return record(core, ACQUIRE, self.rng.randrange(self.replay.classes), self.rng.randrange(3))
+        return record(core, ACQUIRE, self.rng.randrange(self.machine.classes), self.rng.randrange(3))
 
     def go(self, count, disorder=0.0):
         """Adds accepted records, each orderly or, with the probability given, any."""
         while count > 0:
             core, which = self.rng.choice(self.cores), self.rng.random()
-            held = self.replay.held_now(core)
+            held = self.machine.held_now(core)
             if self.rng.random() < disorder:
                 rec = self.any_record(core)
             elif which < 0.45:
@@ -167,20 +167,20 @@ class Walk:
                 rec = held and record(core, RELEASE, self.rng.choice(held)[0])
             else:
                 rec = self.orderly_event(core)
-            if rec and not self.replay.refusal(rec):
+            if rec and not self.machine.refusal(rec):
                 self.put(rec)
                 count -= 1
 
     def end_with_fault(self):
         """On a free core, the reverse of a dependency that is there, or a lock over itself."""
-        ends = self.rng.choice(sorted((b, a) for a, _, b in self.replay.holds) or [(0, 0)])
+        ends = self.rng.choice(sorted((b, a) for a, _, b in self.machine.hold_dependencies) or [(0, 0)])
         for lock_class in ends:
             self.put(record(self.free_core, ACQUIRE, lock_class))
 
     def end_with_refusal(self, number):
         """A record that is refused with this number, where it can be brought about, and others behind it."""
         rng, core = self.rng, self.rng.choice(self.cores)
-        state, held, classes = self.replay.states[core], self.replay.held_now(core), self.replay.classes
+        state, held, classes = self.machine.states[core], self.machine.held_now(core), self.machine.classes
         if number == 3:
             self.put(rng.choice([*BAD_RECORDS.values(), record(0, ACQUIRE)[:rng.randrange(1, RECORD)]]))
         elif number == 4:
@@ -203,7 +203,7 @@ class Walk:
             self.records += [record(0, EXIT_HARD), record(9, ACQUIRE)][:rng.randrange(3)]
 
     def log(self):
-        return header(self.replay.classes) + b"".join(self.records)
+        return header(self.machine.classes) + b"".join(self.records)
 
 
 def random_log(intent, i):

@@ -33,14 +33,14 @@ def second_letter(mode):
     return "R" if mode == RECURSIVE_READ else "N"
 
 
-class Replay:
-    """The cores and the dependency graph after some records."""
+class Machine:
+    """What a log tells of: the cores and the dependency graph, after some of its records."""
 
     def __init__(self, classes):
         self.classes = classes
         self.states = [0] * CORES
         self.held = [[[], [], []] for _ in range(CORES)]  # by core and frame: (class, mode), oldest first
-        self.holds = set()  # (class, kind, class) of the dependencies between held locks
+        self.hold_dependencies = set()  # (class, kind, class) of the dependencies between held locks
         self.safe = set()  # usage marks: (level, class, letter)
         self.unsafe = set()
 
@@ -74,7 +74,7 @@ class Replay:
         held = self.held_now(core)
         if kind == ACQUIRE:
             for older, older_mode in held:
-                self.holds.add((older, first_letter(older_mode) + second_letter(mode), lock_class))
+                self.hold_dependencies.add((older, first_letter(older_mode) + second_letter(mode), lock_class))
             held.append((lock_class, mode))
         elif kind == RELEASE:
             del held[max(i for i, (c, _) in enumerate(held) if c == lock_class)]
@@ -93,7 +93,7 @@ class Replay:
 
     def has(self, lock_class, kind, to, source):
         if source == "hold":
-            return (lock_class, kind, to) in self.holds
+            return (lock_class, kind, to) in self.hold_dependencies
         return (source, lock_class, kind[0]) in self.unsafe and (source, to, kind[1]) in self.safe
 
     def wrong_cycle(self, cycle):
@@ -130,15 +130,15 @@ def read_output(data, out):
         raise ValueError("no line end at the end")
     first, rest = (lines or [b""])[0], lines[1:]
     good = len(data) >= HEADER and data[:HEADER - 1] == header(0)[:HEADER - 1] and 1 <= data[HEADER - 1] <= MAX_CLASSES
-    replay, records = (Replay(data[3]), records_of(data)) if good else (None, [])
+    machine, records = (Machine(data[3]), records_of(data)) if good else (None, [])
 
     def accepted(number):
         if not good or number > len(records):
             raise ValueError("more records than the log has")
         for i, rec in enumerate(records[:number], 1):
-            if replay.refusal(rec):
-                raise ValueError(f"record {i} is to be refused with {replay.refusal(rec)}")
-            replay.accept(rec)
+            if machine.refusal(rec):
+                raise ValueError(f"record {i} is to be refused with {machine.refusal(rec)}")
+            machine.accept(rec)
 
     if match := FAULT.fullmatch(first):
         if match[1] == b"0":
@@ -148,7 +148,7 @@ def read_output(data, out):
         if None in entries:
             raise ValueError(f"not a dependency: {rest[entries.index(None)]!r}")
         cycle = [(int(e[1]), e[2].decode(), int(e[3]), e[4].decode()) for e in entries]
-        if wrong := replay.wrong_cycle(cycle):
+        if wrong := machine.wrong_cycle(cycle):
             raise ValueError(wrong)
         return "fault", 0, cycle
     if rest:
@@ -165,7 +165,7 @@ def read_output(data, out):
                 raise ValueError("the header is not refused so")
         else:
             accepted(at - 1)
-            if at > len(records) or replay.refusal(records[at - 1]) != number:
+            if at > len(records) or machine.refusal(records[at - 1]) != number:
                 raise ValueError("the record is not refused so")
         return "refused", number, []
     raise ValueError("not an output")

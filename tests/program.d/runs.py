@@ -2,7 +2,7 @@
 import fcntl, os, select, signal, struct, subprocess, tempfile, termios
 from pathlib import Path
 
-SECONDS = 20  # the longest run
+SECONDS = 100  # the longest run; a loaded machine must not be taken for a wrong program
 
 
 class Different(Exception):
