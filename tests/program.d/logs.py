@@ -1,0 +1,268 @@
+"""The logs that the tests of the program make: logs whose record of a chosen number decides, and random ones."""
+import random
+from rules import *
+
+BUFFER = 4096  # the program's
+BOUNDARIES = [BUFFER, 2 * BUFFER, 3 * BUFFER]
+FEW, BUSY_CORES, FREE_CORES = 8, range(2, 8), (0, 1)
+
+
+def end_of(number):
+    """The offset behind a record."""
+    return HEADER + RECORD * number
+
+
+def record_at(offset):
+    """The number of the record that has the byte at an offset."""
+    return (offset - HEADER) // RECORD + 1
+
+
+# ---- logs whose record of a chosen number decides. The clean records before it leave FREE_CORES and the last class alone.
+
+LAST = FEW - 1
+BAD_RECORDS = {  # refused with 3
+    "first byte": b"\x4D\x4B\x00\x00\x00\x00", "second byte": b"\x4C\x48\x00\x00\x00\x00", "core": record(8, ACQUIRE), "kind": record(0, 10),
+    "mode": record(0, ACQUIRE, 0, 3), "mode of a release": record(0, RELEASE, 0, 1), "class of an event": record(0, HARD_ON, 1),
+    "mode of an event": record(0, SOFT_OFF, 0, 1), "header again": header(1) + header(1)[:2],
+}
+
+# By name: the records at the start, and those that end with the one that decides.
+DECIDING = {
+    "fault": ([record(0, ACQUIRE, 1), record(0, ACQUIRE, 2), record(0, RELEASE, 2), record(0, RELEASE, 1)],
+              [record(1, ACQUIRE, 2), record(1, ACQUIRE, 1)]),
+    "fault in a handler": ([record(0, ACQUIRE, LAST), record(0, RELEASE, LAST)], [record(1, ENTER_HARD), record(1, ACQUIRE, LAST)]),
+    "refused 4": ([], [record(0, ACQUIRE, FEW)]),
+    "refused 4, release": ([], [record(0, RELEASE, FEW)]),
+    "refused 5": ([record(1, ACQUIRE, LAST)], [record(0, RELEASE, LAST)]),
+    "refused 6": ([], [record(0, EXIT_HARD)]),
+    "refused 7": ([record(0, ENTER_HARD)], [record(0, ACQUIRE, LAST), record(0, EXIT_HARD)]),
+    "refused 8": ([], [record(0, ACQUIRE, LAST, RECURSIVE_READ)] * (DEPTH + 1)),
+} | {f"refused 3, {name}": ([], [bad]) for name, bad in BAD_RECORDS.items()}
+
+
+def clean_records(count, rng):
+    """Records that are accepted and draw no dependency: one lock at a time on a busy core, and events that leave the state as it is."""
+    made = []
+    while len(made) < count:
+        core, lock_class = rng.choice(BUSY_CORES), rng.randrange(LAST)
+        if len(made) + 1 < count and rng.random() < 0.7:
+            made += [record(core, ACQUIRE, lock_class, rng.randrange(3)), record(core, RELEASE, lock_class)]
+        else:
+            made.append(record(core, rng.choice((HARD_ON, SOFT_ON))))
+    return made
+
+
+def deciding_log(name, number):
+    """A log whose record of this number decides. Behind it stand others, the first of them refused with another number."""
+    start, deciding = DECIDING[name]
+    rng = random.Random(f"{name} {number}")
+    after = DECIDING["refused 6" if name.startswith("refused 3") else "refused 3, core"][1] + clean_records(9, rng)
+    return header(FEW) + b"".join(start + clean_records(number - len(start) - len(deciding), rng) + deciding + after)
+
+
+def clean_log(number, loose=0):
+    """A clean log of so many records, and behind them the first bytes of one more."""
+    rng = random.Random(f"clean {number}")
+    return header(FEW) + b"".join(clean_records(number, rng)) + record(0, ACQUIRE)[:loose]
+
+
+def long_log(number):
+    """A log with a fault at the last of very many records."""
+    return header(1) + (record(0, ACQUIRE) + record(0, RELEASE)) * (number // 2 - 1) + record(0, ACQUIRE) * 2
+
+
+def decided_logs(numbers, names):
+    """(name, log, the offset from which nothing matters any more, or None where the end of the log matters)."""
+    for number in numbers:
+        for name in names:
+            yield f"{name} at record {number}", deciding_log(name, number), end_of(number)
+        for loose in range(RECORD):
+            yield f"{loose} bytes behind record {number}", clean_log(number, loose), None
+
+
+# ---- headers
+
+def header_logs():
+    """(name, log) with good, bad and short headers, with records and without."""
+    good = header(FEW)
+    for size in range(HEADER):
+        yield f"a header of {size} bytes", good[:size]
+    for at in range(HEADER):
+        for byte in (0, good[at] + 1, 65, 255):
+            if bytes([byte]) != good[at:at + 1] and not (at == 3 and byte == FEW + 1):
+                yield f"byte {at} of the header {byte}", good[:at] + bytes([byte]) + good[at + 1:] + record(0, ACQUIRE)
+    yield "a record for a header", record(0, ACQUIRE) * 3
+    yield "64 classes", header(64) + record(0, ACQUIRE, 63)
+    yield "a header only", good
+
+
+# ---- random logs
+
+SHORT, MIDDLE, LONG = (1, 30), (30, 200), (500, 3000)
+
+
+class Walk:
+    """A log made record by record. While orderly, it stays clean: the classes are ranked, first those for tasks, then those for soft handlers,
+    then those for hard handlers, and every dependency goes up."""
+
+    # By state: between which of the four limits of rank a lock may be held.
+    HELD_BETWEEN = [(0, 1), (0, 2), (0, 3), (0, 3), (1, 2), (1, 3), (2, 3), (2, 3), (2, 3)]
+
+    def __init__(self, classes, rng):
+        self.rng = rng
+        self.machine = Machine(classes)
+        self.records = []
+        self.by_rank = rng.sample(range(classes), classes)
+        self.rank = {c: i for i, c in enumerate(self.by_rank)}
+        limits = sorted(rng.randrange(classes + 1) for _ in range(2))
+        self.limits = [0, *limits, classes]
+        cores = rng.sample(range(CORES), rng.randrange(2, CORES + 1))
+        self.cores, self.free_core = cores[1:], cores[0]
+
+    def put(self, rec):
+        """Adds a record; whether it was accepted."""
+        self.records.append(rec)
+        if self.machine.refusal(rec):
+            return False
+        self.machine.accept(rec)
+        return True
+
+    def ranks(self, state):
+        low, high = self.HELD_BETWEEN[state]
+        return range(self.limits[low], self.limits[high])
+
+    def orderly_acquire(self, core):
+        held = self.machine.held_now(core)
+        over = max((self.rank[c] for c, _ in held), default=-1)
+        if held and self.rng.random() < 0.2 and all(m == RECURSIVE_READ for c, m in held if self.rank[c] == over):
+            return record(core, ACQUIRE, self.by_rank[over], RECURSIVE_READ)
+        free = [r for r in self.ranks(self.machine.states[core]) if r > over]
+        return free and record(core, ACQUIRE, self.by_rank[self.rng.choice(free[:5])], self.rng.randrange(3))
+
+    def orderly_event(self, core):
+        kind = self.rng.randrange(HARD_ON, EXIT_HARD + 1)
+        state = NEXT[self.machine.states[core]][kind - HARD_ON]
+        if state == "x":
+            return None
+        ranks = self.ranks(int(state))
+        held = self.machine.held[core][FRAME[int(state)]]
+        return all(self.rank[c] in ranks for c, _ in held) and record(core, kind)
+
+    def any_record(self, core):
+        kind = self.rng.choice((ACQUIRE, ACQUIRE, ACQUIRE, self.rng.randrange(HARD_ON, EXIT_HARD + 1)))
+        if kind > ACQUIRE:
+            return record(core, kind)
+        return record(core, ACQUIRE, self.rng.randrange(self.machine.classes), self.rng.randrange(3))
+
+    def go(self, count, disorder=0.0):
+        """Adds accepted records, each orderly or, with the probability given, any."""
+        while count > 0:
+            core, which = self.rng.choice(self.cores), self.rng.random()
+            held = self.machine.held_now(core)
+            if self.rng.random() < disorder:
+                rec = self.any_record(core)
+            elif which < 0.45:
+                rec = self.orderly_acquire(core)
+            elif which < 0.75:
+                rec = held and record(core, RELEASE, self.rng.choice(held)[0])
+            else:
+                rec = self.orderly_event(core)
+            if rec and not self.machine.refusal(rec):
+                self.put(rec)
+                count -= 1
+
+    def end_with_fault(self):
+        """On a free core, the reverse of a dependency that is there, or a lock over itself."""
+        ends = self.rng.choice(sorted((b, a) for a, _, b in self.machine.hold_dependencies) or [(0, 0)])
+        for lock_class in ends:
+            self.put(record(self.free_core, ACQUIRE, lock_class))
+
+    def end_with_refusal(self, number):
+        """A record that is refused with this number, where it can be brought about, and others behind it."""
+        rng, core = self.rng, self.rng.choice(self.cores)
+        state, held, classes = self.machine.states[core], self.machine.held_now(core), self.machine.classes
+        if number == 3:
+            self.put(rng.choice([*BAD_RECORDS.values(), record(0, ACQUIRE)[:rng.randrange(1, RECORD)]]))
+        elif number == 4:
+            self.put(record(core, rng.choice((ACQUIRE, RELEASE)), rng.randrange(classes, 256)))
+        elif number == 5:
+            others = [c for c in range(classes) if all(c != h for h, _ in held)]
+            self.put(record(core, RELEASE, rng.choice(others or [0])))
+        elif number == 6:
+            self.put(record(core, rng.choice([HARD_ON + i for i, after in enumerate(NEXT[state]) if after == "x"])))
+        elif number == 7:
+            enter = rng.choice((ENTER_HARD, ENTER_SOFT))
+            self.put(record(self.free_core, enter))
+            self.put(record(self.free_core, ACQUIRE, self.by_rank[-1], RECURSIVE_READ))
+            self.put(record(self.free_core, enter + 1))
+        elif number == 8:
+            lock_class = self.by_rank[rng.choice(self.ranks(0) or range(classes))]
+            while self.put(record(self.free_core, ACQUIRE, lock_class, RECURSIVE_READ)):
+                pass
+        if len(self.records[-1]) == RECORD:
+            self.records += [record(0, EXIT_HARD), record(9, ACQUIRE)][:rng.randrange(3)]
+
+    def log(self):
+        return header(self.machine.classes) + b"".join(self.records)
+
+
+def random_log(intent, i):
+    """The i-th log of an intent: clean, fault, ring, handler, refused. The classes go from 1 to 64 again and again."""
+    rng = random.Random(f"{intent} {i}")
+    classes = 1 + i % MAX_CLASSES
+    count = rng.randrange(*rng.choices((SHORT, MIDDLE, LONG), (50, 38, 12))[0])
+    if intent in ("ring", "handler"):
+        return ring_log(classes, rng) if intent == "ring" else handler_log(max(classes, 2), rng)
+    walk = Walk(classes, rng)
+    walk.go(count, rng.choice((0, 0, 0.02, 0.2)) if intent == "fault" else 0)
+    if intent == "fault":
+        walk.end_with_fault()
+        walk.records += [record(0, EXIT_HARD)] * rng.randrange(2)
+    elif intent == "refused":
+        walk.end_with_refusal(3 + rng.randrange(6))
+    return walk.log()
+
+
+def ring_log(classes, rng):
+    """Dependencies that make one cycle, whose last one is drawn last."""
+    ring = rng.sample(range(classes), rng.randrange(1, classes + 1))
+    joints = [rng.choice(("NE", "NS", "RE")) for _ in ring]
+    made = []
+    for i in rng.sample(range(len(ring)), len(ring)):
+        core, after = rng.randrange(CORES), (i + 1) % len(ring)
+        held = EXCLUSIVE if joints[i][1] == "E" else rng.choice((READ, RECURSIVE_READ))
+        taken = RECURSIVE_READ if joints[after][0] == "R" else rng.choice((EXCLUSIVE, READ))
+        both = [ring[i], ring[after]]
+        made += [record(core, ACQUIRE, both[0], held), record(core, ACQUIRE, both[1], taken)]
+        made += [record(core, RELEASE, c) for c in rng.sample(both, 2)]
+    return header(classes) + b"".join(made)
+
+
+def handler_log(classes, rng):
+    """One cycle of an interrupt dependency of any kind and level and of one between held locks, which are drawn in any order."""
+    outer, inner = rng.sample(range(classes), 2)
+    one, two, three = rng.sample(range(CORES), 3)
+    enter = rng.choice((ENTER_HARD, ENTER_SOFT))
+    off = [record(three, HARD_OFF), record(three, SOFT_OFF)]
+    parts = [[record(one, ACQUIRE, outer, rng.randrange(3)), record(one, RELEASE, outer)],
+             [record(two, enter), record(two, ACQUIRE, inner, rng.randrange(3)), record(two, RELEASE, inner), record(two, enter + 1)],
+             off + [record(three, ACQUIRE, inner), record(three, ACQUIRE, outer), record(three, RELEASE, outer), record(three, RELEASE, inner)]]
+    return header(classes) + b"".join(rec for part in rng.sample(parts, 3) for rec in part)
+
+
+def stray_log(seeds, i):
+    """The i-th of files that are random bytes, or examples with bytes changed, cut off or put in."""
+    rng = random.Random(f"stray {i}")
+    if i % 4 == 0:
+        return rng.randbytes(rng.randrange(60))
+    data = bytearray(rng.choice(seeds))
+    for _ in range(rng.randrange(1, 4)):
+        cut = rng.randrange(len(data) + 1)
+        how = rng.randrange(3)
+        if how == 0 and data:
+            data[cut % len(data)] = rng.randrange(256)
+        elif how == 1:
+            del data[cut:]
+        else:
+            data[cut:cut] = rng.choice(seeds)[HEADER:]
+    return bytes(data)

@@ -1,0 +1,171 @@
+"""The rules of a lock log for the tests of the program: what a record is answered and changes, and the dependencies that are drawn then. Whether
+these hold a closed strong path is left to the second program."""
+import re
+
+ACQUIRE, RELEASE, HARD_ON, HARD_OFF, SOFT_ON, SOFT_OFF, ENTER_SOFT, EXIT_SOFT, ENTER_HARD, EXIT_HARD = range(10)
+EXCLUSIVE, READ, RECURSIVE_READ = range(3)
+HEADER, RECORD = 4, 6  # sizes
+MAX_CLASSES, CORES, DEPTH = 64, 8, 20
+
+# A core's next state: a row a state, a column an event from HARD_ON on, x where it is refused.
+NEXT = ["02014x6x", "1301xx7x", "0223xxxx", "1323xxxx", "45xxx08x", "45xxxxxx", "xxxxxxx0", "xxxxxxx1", "xxxxxxx4"]
+TASK, SOFT, HARD = range(3)
+FRAME = [TASK, TASK, TASK, TASK, SOFT, SOFT, HARD, HARD, HARD]
+
+
+def header(classes):
+    return bytes([0x4C, 0x48, 1, classes])
+
+
+def record(core, kind, lock_class=0, mode=0):
+    return bytes([0x4C, 0x4B, core, kind, lock_class, mode])
+
+
+def records_of(data):
+    return [data[at:at + RECORD] for at in range(HEADER, len(data), RECORD)]
+
+
+def first_letter(mode):
+    return "E" if mode == EXCLUSIVE else "S"
+
+
+def second_letter(mode):
+    return "R" if mode == RECURSIVE_READ else "N"
+
+
+class Machine:
+    """What a log tells of: the cores and the dependency graph, after some of its records."""
+
+    def __init__(self, classes):
+        self.classes = classes
+        self.states = [0] * CORES
+        self.held = [[[], [], []] for _ in range(CORES)]  # by core and frame: (class, mode), oldest first
+        self.hold_dependencies = set()  # (class, kind, class) of the dependencies between held locks
+        self.safe = set()  # usage marks: (level, class, letter)
+        self.unsafe = set()
+
+    def held_now(self, core):
+        return self.held[core][FRAME[self.states[core]]]
+
+    def refusal(self, rec):
+        """The number that refuses a record, or 0."""
+        if len(rec) != RECORD or rec[0] != 0x4C or rec[1] != 0x4B:
+            return 3
+        _, _, core, kind, lock_class, mode = rec
+        if core >= CORES or kind > EXIT_HARD or mode > RECURSIVE_READ:
+            return 3
+        if kind != ACQUIRE and mode or kind > RELEASE and lock_class:
+            return 3
+        if lock_class >= self.classes:
+            return 4
+        held = self.held_now(core)
+        if kind > RELEASE and NEXT[self.states[core]][kind - HARD_ON] == "x":
+            return 6
+        if kind in (EXIT_SOFT, EXIT_HARD) and held:
+            return 7
+        if kind == RELEASE and all(c != lock_class for c, _ in held):
+            return 5
+        if kind == ACQUIRE and len(held) == DEPTH:
+            return 8
+        return 0
+
+    def accept(self, rec):
+        _, _, core, kind, lock_class, mode = rec
+        held = self.held_now(core)
+        if kind == ACQUIRE:
+            for older, older_mode in held:
+                self.hold_dependencies.add((older, first_letter(older_mode) + second_letter(mode), lock_class))
+            held.append((lock_class, mode))
+        elif kind == RELEASE:
+            del held[max(i for i, (c, _) in enumerate(held) if c == lock_class)]
+        else:
+            self.states[core] = int(NEXT[self.states[core]][kind - HARD_ON])
+        state = self.states[core]
+        for c, m in self.held_now(core):
+            if state in (6, 7, 8):
+                self.safe.add(("hard", c, second_letter(m)))
+            if state in (4, 5):
+                self.safe.add(("soft", c, second_letter(m)))
+            if state in (0, 1, 4):
+                self.unsafe.add(("hard", c, first_letter(m)))
+            if state == 0:
+                self.unsafe.add(("soft", c, first_letter(m)))
+
+    def has(self, lock_class, kind, to, source):
+        if source == "hold":
+            return (lock_class, kind, to) in self.hold_dependencies
+        return (source, lock_class, kind[0]) in self.unsafe and (source, to, kind[1]) in self.safe
+
+    def wrong_cycle(self, cycle):
+        """What is wrong with a cycle of (class, kind, class, source), or None."""
+        classes = [entry[0] for entry in cycle]
+        if not 1 <= len(cycle) <= self.classes:
+            return f"a cycle of {len(cycle)}"
+        if len(set(classes)) < len(classes):
+            return "a class twice"
+        if min(classes) != classes[0]:
+            return "the lowest class is not the first"
+        for entry, after in zip(cycle, cycle[1:] + cycle[:1]):
+            if not self.has(*entry):
+                return f"no such dependency: {entry}"
+            if entry[2] != after[0]:
+                return f"{entry} does not lead to {after}"
+            if entry[1][1] == "R" and after[1][0] == "S":
+                return f"not strong between {entry} and {after}"
+        return None
+
+
+NUMBER = rb"(0|[1-9][0-9]*)"
+CLEAN = re.compile(rb"clean, " + NUMBER + rb" records")
+REFUSED = re.compile(rb"refused " + NUMBER + rb" at record " + NUMBER)
+FAULT = re.compile(rb"fault at record " + NUMBER)
+ENTRY = re.compile(NUMBER + rb" (ER|EN|SR|SN) " + NUMBER + rb" (hold|hard|soft)")
+
+
+def read_output(data, out):
+    """What an output says of a log: (word, number, cycle), the word clean, refused or fault, the number the refusal's. ValueError where it is not
+    an output, or is untrue of the log by the rules (but for a fault that is not seen)."""
+    lines = out.split(b"\n")
+    if lines.pop() != b"":
+        raise ValueError("no line end at the end")
+    first, rest = (lines or [b""])[0], lines[1:]
+    good = len(data) >= HEADER and data[:HEADER - 1] == header(0)[:HEADER - 1] and 1 <= data[HEADER - 1] <= MAX_CLASSES
+    machine, records = (Machine(data[3]), records_of(data)) if good else (None, [])
+
+    def accepted(number):
+        if not good or number > len(records):
+            raise ValueError("more records than the log has")
+        for i, rec in enumerate(records[:number], 1):
+            if machine.refusal(rec):
+                raise ValueError(f"record {i} is to be refused with {machine.refusal(rec)}")
+            machine.accept(rec)
+
+    if match := FAULT.fullmatch(first):
+        if match[1] == b"0":
+            raise ValueError("a fault at the header")
+        accepted(int(match[1]))
+        entries = [ENTRY.fullmatch(line) for line in rest]
+        if None in entries:
+            raise ValueError(f"not a dependency: {rest[entries.index(None)]!r}")
+        cycle = [(int(e[1]), e[2].decode(), int(e[3]), e[4].decode()) for e in entries]
+        if wrong := machine.wrong_cycle(cycle):
+            raise ValueError(wrong)
+        return "fault", 0, cycle
+    if rest:
+        raise ValueError("a line too many")
+    if match := CLEAN.fullmatch(first):
+        accepted(int(match[1]))
+        if int(match[1]) != len(records):
+            raise ValueError(f"the log has {len(records)} records")
+        return "clean", 0, []
+    if match := REFUSED.fullmatch(first):
+        number, at = int(match[1]), int(match[2])
+        if at == 0:
+            if good or number != 2:
+                raise ValueError("the header is not refused so")
+        else:
+            accepted(at - 1)
+            if at > len(records) or machine.refusal(records[at - 1]) != number:
+                raise ValueError("the record is not refused so")
+        return "refused", number, []
+    raise ValueError("not an output")

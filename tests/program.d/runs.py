@@ -1,0 +1,99 @@
+"""Runs of the program: on a file, through a pipe in pieces, with reads and writes that are short or fail; and what came of each."""
+import fcntl, os, select, signal, struct, subprocess, tempfile, termios
+from pathlib import Path
+
+SECONDS = 100  # the longest run; a loaded machine must not be taken for a wrong program
+
+
+class Different(Exception):
+    """A run did not give what it must."""
+
+
+def build_shim(folder):
+    """The library of shim.c."""
+    shim = Path(folder) / "shim.so"
+    subprocess.run(["gcc", "-Wall", "-Wextra", "-O2", "-shared", "-fPIC", "-o", shim, Path(__file__).with_name("shim.c")], check=True)
+    return shim
+
+
+def too_long(*_):
+    raise Different(f"no end after {SECONDS} seconds")
+
+
+class Runner:
+    """Runs a program; its files are made once."""
+
+    def __init__(self, shim):
+        self.shim = shim
+        self.input, self.out, self.err = (tempfile.TemporaryFile(buffering=0) for _ in range(3))
+        signal.signal(signal.SIGALRM, too_long)
+
+    def start(self, program, stdin, stdout, environment):
+        actions = [(os.POSIX_SPAWN_CLOSE, 0) if stdin is None else (os.POSIX_SPAWN_DUP2, stdin, 0),
+                   (os.POSIX_SPAWN_CLOSE, 1) if stdout is None else (os.POSIX_SPAWN_DUP2, stdout, 1),
+                   (os.POSIX_SPAWN_DUP2, self.err.fileno(), 2)]
+        for file in (self.out, self.err):
+            file.seek(0)
+            file.truncate()
+        return os.posix_spawn(program, [program], environment, file_actions=actions)
+
+    def finish(self, process, during=lambda: None):
+        """Ends what must be done during the run, and gives (standard output, standard error, status)."""
+        signal.setitimer(signal.ITIMER_REAL, SECONDS)
+        try:
+            during()
+            status = os.waitstatus_to_exitcode(os.waitpid(process, 0)[1])
+        except Different:
+            os.kill(process, signal.SIGKILL)
+            os.waitpid(process, 0)
+            raise
+        finally:
+            signal.setitimer(signal.ITIMER_REAL, 0)
+        for file in (self.out, self.err):
+            file.seek(0)
+        return self.out.read(), self.err.read(), status
+
+    def on_file(self, program, data, **shim):
+        """On a file; with words for the shim, as pieces=[1, 5], through it."""
+        self.input.seek(0)
+        self.input.truncate()
+        self.input.write(data)
+        self.input.seek(0)
+        environment = {}
+        if shim:
+            environment = {f"PROGRAM_{name.upper()}": ",".join(map(str, value)) if name == "pieces" else str(value) for name, value in shim.items()}
+            environment["LD_PRELOAD"] = str(self.shim)
+        return self.finish(self.start(program, self.input.fileno(), self.out.fileno(), environment))
+
+    def on_pipe(self, program, data, pieces):
+        """Through a pipe, the next piece when the last was read: so no read gives bytes of two pieces. The sizes begin again after the last."""
+        reading, writing = os.pipe()
+        try:
+            process = self.start(program, reading, self.out.fileno(), {})
+        finally:
+            os.close(reading)
+
+        def feed():
+            gone = select.poll()
+            gone.register(writing, 0)  # tells only that nobody reads any more
+            at = turn = 0
+            try:
+                while at < len(data):
+                    piece = data[at:at + pieces[turn % len(pieces)]]
+                    os.write(writing, piece)
+                    at, turn = at + len(piece), turn + 1
+                    while struct.unpack("i", fcntl.ioctl(writing, termios.FIONREAD, b"\0\0\0\0"))[0]:
+                        if gone.poll(0):
+                            return
+                        os.sched_yield()
+            except BrokenPipeError:
+                pass
+            finally:
+                os.close(writing)
+
+        return self.finish(process, feed)
+
+    def with_streams(self, program, stdin, stdout):
+        """With open files for standard input and output; None: closed."""
+        out = self.out.fileno() if stdout == "kept" else stdout
+        return self.finish(self.start(program, stdin, out, {}))
