@@ -1,22 +1,9 @@
 //! The inputs: fixed ones (made by hand, or all of a small space) and random ones.
 
+use crate::drawing::{FRAME, NEXT, X};
 use crate::fast;
 use crate::rng::Rng;
 use crate::run::{Call, Case, Rec};
-
-const X: u8 = 255;
-/// The document's table, for proposing events that are allowed.
-const NEXT: [[u8; 8]; 9] = [
-    [0, 2, 0, 1, 4, X, 6, X],
-    [1, 3, 0, 1, X, X, 7, X],
-    [0, 2, 2, 3, X, X, X, X],
-    [1, 3, 2, 3, X, X, X, X],
-    [4, 5, X, X, X, 0, 8, X],
-    [4, 5, X, X, X, X, X, X],
-    [X, X, X, X, X, X, X, 0],
-    [X, X, X, X, X, X, X, 1],
-    [X, X, X, X, X, X, X, 4],
-];
 
 const BIG: [u64; 16] = [
     255, 256, 257, 264, 300, 320, 65536, 65544, 1 << 31, 1 << 32, (1 << 32) + 1, (1 << 32) + 8,
@@ -43,8 +30,9 @@ fn any_buffers(rng: &mut Rng, k: usize) -> (Vec<u8>, Vec<u8>, Vec<u8>) {
     (rng.bytes(578 + a), rng.bytes(k * k + b), rng.bytes(1 + 3 * k + c))
 }
 
-fn case(name: &'static str, buffers: (Vec<u8>, Vec<u8>, Vec<u8>), calls: Vec<Call>) -> Case {
-    Case { name, desk: buffers.0, sheet: buffers.1, slip: buffers.2, calls, pair: None, clause: None }
+/// A case yet without a name.
+fn case(buffers: (Vec<u8>, Vec<u8>, Vec<u8>), calls: Vec<Call>) -> Case {
+    Case { name: "", desk: buffers.0, sheet: buffers.1, slip: buffers.2, calls, pair: None, clause: None }
 }
 
 // ------------------------------------------------------------------ proposals
@@ -164,7 +152,7 @@ fn propose(rng: &mut Rng, s: &Style, desk: &[u8]) -> Rec {
         return Rec::new(core, kind, class, if kind == 0 { rng.under(3) as u8 } else { 0 });
     }
     let state = usize::from(desk[2 + usize::from(core)]);
-    let frame = [0, 0, 0, 0, 1, 1, 2, 2, 2][state];
+    let frame = FRAME[state];
     let here = 3 * usize::from(core) + frame;
     let depth = usize::from(desk[10 + here]);
     let holds = &desk[98 + 20 * here..98 + 20 * here + depth];
@@ -206,7 +194,8 @@ fn propose(rng: &mut Rng, s: &Style, desk: &[u8]) -> Rec {
     Rec::new(core, if allowed.is_empty() { 2 } else { rng.pick(&allowed) }, 0, 0)
 }
 
-/// A desk that goes along with the log while it is made.
+/// Buffers that go along with the log while it is made.
+#[derive(Clone)]
 pub struct Shadow {
     pub desk: Vec<u8>,
     pub sheet: Vec<u8>,
@@ -283,7 +272,7 @@ fn log(rng: &mut Rng) -> Case {
     let mut calls = vec![Call::Open(k as u64)];
     let most = rng.pick(&[5, 20, 60, 150, 300]);
     steps(rng, &style, &mut Shadow::opened(k), most, &mut calls);
-    case("log from opening", any_buffers(rng, k), calls)
+    case(any_buffers(rng, k), calls)
 }
 
 /// Takes mostly, to depths of 20 and 21.
@@ -301,7 +290,7 @@ fn deep_log(rng: &mut Rng) -> Case {
     }
     let mut calls = vec![Call::Open(k as u64)];
     steps(rng, &style, &mut Shadow::opened(k), 120, &mut calls);
-    case("deep log", any_buffers(rng, k), calls)
+    case(any_buffers(rng, k), calls)
 }
 
 fn long_log(rng: &mut Rng) -> Case {
@@ -313,7 +302,7 @@ fn long_log(rng: &mut Rng) -> Case {
     style.unordered = rng.pick(&[0, 0, 3]);
     let mut calls = vec![Call::Open(k as u64)];
     steps(rng, &style, &mut Shadow::opened(k), 3000, &mut calls);
-    case("long log", any_buffers(rng, k), calls)
+    case(any_buffers(rng, k), calls)
 }
 
 /// A fit desk and sheet that no opening need lead to.
@@ -446,7 +435,7 @@ fn drawn_desk(rng: &mut Rng) -> Case {
     let mut shadow = Shadow { desk: desk.clone(), sheet: sheet.clone(), slip: slip.clone() };
     let most = rng.pick(&[2, 5, 15, 40]);
     steps(rng, &style, &mut shadow, most, &mut calls);
-    case("fit desk", (desk, sheet, slip), calls)
+    case((desk, sheet, slip), calls)
 }
 
 /// Violates one clause of "Unfit" (by its place in CLAUSES); false if this desk can't.
@@ -577,7 +566,7 @@ fn unfit_desk(rng: &mut Rng) -> Case {
         calls.push(Call::Open(k as u64));
         calls.extend(some_calls(rng, k, 3));
     }
-    case("unfit desk", buffers, calls)
+    case(buffers, calls)
 }
 
 /// A fit desk with one to three bytes changed to anything: fit or not, as it falls.
@@ -608,7 +597,7 @@ fn changed_desk(rng: &mut Rng) -> Case {
         }
     }
     let calls = some_calls(rng, k, 4);
-    case("changed desk", buffers, calls)
+    case(buffers, calls)
 }
 
 fn opening(rng: &mut Rng) -> Case {
@@ -630,14 +619,33 @@ fn opening(rng: &mut Rng) -> Case {
     let buffers = (rng.bytes(d), rng.bytes(s), rng.bytes(l));
     let mut calls = vec![Call::Open(k)];
     calls.extend(some_calls(rng, size.max(1), 3));
-    case("opening", buffers, calls)
+    case(buffers, calls)
 }
 
 /// Two lists for demand 3: the second has foreign records put in.
-fn pair(rng: &mut Rng) -> Case {
+pub fn pair(rng: &mut Rng) -> Case {
     let k = rng.pick(&[1, 2, 3, 8, 8, 8, 16, 64]);
     let mut own = any_style(rng, k);
     let mut foreign = any_style(rng, k);
+    match rng.under(3) {
+        0 => {
+            // Usage marks decide: many events, and acquires in any order.
+            for style in [&mut own, &mut foreign] {
+                style.weights = [3, 3, 4];
+                style.unordered = 1000;
+            }
+        }
+        1 => {
+            // The first list faults by itself, what is put in does not.
+            own.weights = [3, 3, 4];
+            own.unordered = 300;
+            own.avoid = 0;
+            foreign.weights = [3, 3, 4];
+            foreign.unordered = 0;
+            foreign.avoid = 1000;
+        }
+        _ => {}
+    }
     own.cores = (0..8).collect();
     for i in (1..8).rev() {
         own.cores.swap(i, rng.under(i + 1));
@@ -677,22 +685,33 @@ fn pair(rng: &mut Rng) -> Case {
             j += 1;
         }
     }
-    let mut c = case("pair of lists", any_buffers(rng, k), calls);
+    let mut c = case(any_buffers(rng, k), calls);
     c.pair = Some((k as u64, flags));
     c
 }
 
+/// A kind of random case: its name, and how often it is made in 1000.
+pub struct Kind {
+    pub name: &'static str,
+    pub weight: usize,
+    make: fn(&mut Rng) -> Case,
+}
+
+pub const PAIRS: &str = "pair of lists";
+pub const KINDS: [Kind; 8] = [
+    Kind { name: "log from opening", weight: 190, make: log },
+    Kind { name: "deep log", weight: 60, make: deep_log },
+    Kind { name: "long log", weight: 5, make: long_log },
+    Kind { name: "fit desk", weight: 320, make: drawn_desk },
+    Kind { name: "unfit desk", weight: 125, make: unfit_desk },
+    Kind { name: "changed desk", weight: 150, make: changed_desk },
+    Kind { name: "opening", weight: 60, make: opening },
+    Kind { name: PAIRS, weight: 90, make: pair },
+];
+
 pub fn random(rng: &mut Rng) -> Case {
-    match rng.weighted(&[200, 60, 5, 330, 130, 160, 60, 90]) {
-        0 => log(rng),
-        1 => deep_log(rng),
-        2 => long_log(rng),
-        3 => drawn_desk(rng),
-        4 => unfit_desk(rng),
-        5 => changed_desk(rng),
-        6 => opening(rng),
-        _ => pair(rng),
-    }
+    let kind = rng.weighted(&KINDS.map(|k| k.weight));
+    Case { name: KINDS[kind].name, ..(KINDS[kind].make)(rng) }
 }
 
 // ---------------------------------------------------------------------- fixed
@@ -792,8 +811,27 @@ pub fn hand_logs() -> Vec<HandLog> {
     rows.into_iter().map(|(name, k, text, last)| HandLog { name, k, records: read(text), last }).collect()
 }
 
-/// The cases made by hand and those that go through all of a small space.
+/// The kinds of fixed cases, and how many there are of each.
+pub const FIXED: [(&str, u64); 7] = [
+    (HAND_LOGS, 48),
+    (EACH_OPENING, 2536),
+    (EACH_CLAUSE, 2250),
+    (EACH_DESK_BYTE, 27_564),
+    (EACH_STATE, 5400),
+    (ALL_OF_1, 4352),
+    (ALL_OF_2, 65_536),
+];
+const HAND_LOGS: &str = "hand logs";
+const EACH_OPENING: &str = "each opening";
+const EACH_CLAUSE: &str = "each clause alone";
+const EACH_DESK_BYTE: &str = "each desk byte";
+const EACH_STATE: &str = "each state and kind";
+const ALL_OF_1: &str = "all of K = 1";
+const ALL_OF_2: &str = "all sheets of K = 2";
+
+/// The cases made by hand and those that go through all of a small space, until one is answered with false.
 pub fn fixed(each: &mut dyn FnMut(Case) -> bool) {
+    let mut each = |name: &'static str, case: Case| each(Case { name, ..case });
     let rng = &mut Rng::new(20_260_101);
     // Hand logs, every class asked after each record, and steps after the end.
     for log in hand_logs() {
@@ -804,7 +842,7 @@ pub fn fixed(each: &mut dyn FnMut(Case) -> bool) {
             ask_all(log.k, &mut calls);
         }
         calls.extend(some_calls(rng, log.k, 6));
-        if !each(case(log.name, any_buffers(rng, log.k), calls)) {
+        if !each(HAND_LOGS, case(any_buffers(rng, log.k), calls)) {
             return;
         }
     }
@@ -816,7 +854,7 @@ pub fn fixed(each: &mut dyn FnMut(Case) -> bool) {
         for (d, s) in [(578, size * size), (578, 4096), (577, size * size), (578, short), (577, short), (0, 0), (600, 5000), (578, 0)] {
             let mut calls = vec![Call::Open(k)];
             calls.extend(some_calls(rng, size.max(1), 2));
-            if !each(case("each opening", (rng.bytes(d), rng.bytes(s), rng.bytes(1 + 3 * size)), calls)) {
+            if !each(EACH_OPENING, case((rng.bytes(d), rng.bytes(s), rng.bytes(1 + 3 * size)), calls)) {
                 return;
             }
         }
@@ -828,7 +866,7 @@ pub fn fixed(each: &mut dyn FnMut(Case) -> bool) {
             let k = any_k(rng);
             let mut buffers = fit_desk(rng, k);
             if made % 2 == 0 {
-                // Holds consistent with a fresh state, so that nothing else is wrong.
+                // Fresh cores, so that nothing else is wrong.
                 let s = Shadow::opened(k);
                 buffers = (s.desk, s.sheet, s.slip);
             }
@@ -857,10 +895,10 @@ pub fn fixed(each: &mut dyn FnMut(Case) -> bool) {
             for class in [0, k as u64 - 1, k as u64, 255, 256, 1 << 32, u64::MAX] {
                 calls.push(Call::Ask(class));
             }
-            let mut c = case("each clause alone", buffers, calls);
+            let mut c = case(buffers, calls);
             c.clause = Some(name);
             made += 1;
-            if !each(c) {
+            if !each(EACH_CLAUSE, c) {
                 return;
             }
         }
@@ -880,7 +918,7 @@ pub fn fixed(each: &mut dyn FnMut(Case) -> bool) {
             let mut desk = shadow.desk.clone();
             desk[at] = value;
             let calls = some_calls(rng, k, 2);
-            if !each(case("each desk byte", (desk, shadow.sheet.clone(), shadow.slip.clone()), calls)) {
+            if !each(EACH_DESK_BYTE, case((desk, shadow.sheet.clone(), shadow.slip.clone()), calls)) {
                 return;
             }
         }
@@ -890,14 +928,14 @@ pub fn fixed(each: &mut dyn FnMut(Case) -> bool) {
         for holds in [0, 1, 20] {
             let mut desk = Shadow::opened(3).desk;
             desk[2 + 4] = state;
-            let here = 12 + [0, 0, 0, 0, 1, 1, 2, 2, 2][usize::from(state)];
+            let here = 12 + FRAME[usize::from(state)];
             desk[10 + here] = holds;
             desk[98 + 20 * here..98 + 20 * here + usize::from(holds)].fill(1 + 64 * 2);
             for kind in 0..10 {
                 for class in 0..5 {
                     for mode in 0..4 {
                         let calls = vec![Call::Step(Rec::new(4, kind, class, mode)), Call::Ask(1)];
-                        if !each(case("each state and kind", (desk.clone(), vec![0; 9], vec![9; 10]), calls)) {
+                        if !each(EACH_STATE, case((desk.clone(), vec![0; 9], vec![9; 10]), calls)) {
                             return;
                         }
                     }
@@ -912,7 +950,7 @@ pub fn fixed(each: &mut dyn FnMut(Case) -> bool) {
             let mut desk = Shadow::opened(1).desk;
             desk[34] = mark;
             let calls = vec![Call::Ask(0), tick.clone(), Call::Ask(0), Call::Ask(1)];
-            if !each(case("all of K = 1", (desk, vec![kinds], vec![7; 4]), calls)) {
+            if !each(ALL_OF_1, case((desk, vec![kinds], vec![7; 4]), calls)) {
                 return;
             }
         }
@@ -921,7 +959,7 @@ pub fn fixed(each: &mut dyn FnMut(Case) -> bool) {
         let desk = Shadow::opened(2).desk;
         let sheet = vec![all as u8 & 15, (all >> 4) as u8 & 15, (all >> 8) as u8 & 15, (all >> 12) as u8];
         let calls = vec![tick.clone(), Call::Ask(0), Call::Ask(1)];
-        if !each(case("all sheets of K = 2", (desk, sheet, vec![7; 7]), calls)) {
+        if !each(ALL_OF_2, case((desk, sheet, vec![7; 7]), calls)) {
             return;
         }
     }
