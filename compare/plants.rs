@@ -87,15 +87,13 @@ pub const PLANTS: &[Plant] = &[
         "a fault of the first list closes the second",
         plant(
             "marks-dropped",
-            "all usage marks are dropped when one of the cores 4 to 7 enters a handler",
+            "all usage marks are dropped with a release on one of the cores 4 to 7",
             &[(
-                "_ => desk[STATES + usize::from(core)] = state_after,",
-                "_ => {
-            desk[STATES + usize::from(core)] = state_after;
-            if core >= 4 && state_after >= 4 {
+                "desk[DEPTHS + here] -= 1;",
+                "desk[DEPTHS + here] -= 1;
+            if core >= 4 {
                 desk[MARKS..HOLDS].fill(0);
-            }
-        }",
+            }",
             )],
         ),
     ),

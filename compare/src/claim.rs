@@ -27,7 +27,7 @@ impl Run<'_> {
     }
 }
 
-/// A part that does not hold: its name, the place in the second list, and what was seen there.
+/// A broken part: its name, the place in the second list, and what was seen there.
 pub type Broken = (&'static str, usize, String);
 
 /// Whether the lists are such as the claim speaks of.
@@ -39,7 +39,7 @@ pub fn applies(first: &Run, second: &Run) -> bool {
         && put_in.filter_map(|(_, r)| r.names()).all(|core| !named.contains(&core))
 }
 
-/// The first part that does not hold.
+/// The first part that is broken, in the order of PARTS.
 pub fn broken(k: usize, first: &Run, second: &Run) -> Option<Broken> {
     // Whether an event at this place comes too late, or never, for one at that place.
     let later = |event: Option<usize>, at: usize| event.is_none_or(|e| e > at);
@@ -66,10 +66,10 @@ pub fn broken(k: usize, first: &Run, second: &Run) -> Option<Broken> {
         }
         let drawn = drawing::first_closed(k, run.records.iter().copied());
         if let Some(f) = fault.filter(|&f| later(drawn, f)) {
-            found.push((PARTS[3], run.places[f], format!("a fault in the {} list, nothing drawn", run.name)));
+            found.push((PARTS[3], run.places[f], format!("a fault in the {} list without one", run.name)));
         }
         if let Some(d) = drawn.filter(|&d| later(fault, d)) {
-            found.push((PARTS[4], run.places[d], format!("drawn by the {} list, no fault", run.name)));
+            found.push((PARTS[4], run.places[d], format!("one drawn by the {} list, no fault", run.name)));
         }
     }
     found.into_iter().min_by_key(|(part, at, _)| (PARTS.iter().position(|p| p == part), *at))

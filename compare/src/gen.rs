@@ -41,11 +41,11 @@ fn case(buffers: (Vec<u8>, Vec<u8>, Vec<u8>), calls: Vec<Call>) -> Case {
 pub struct Style {
     pub k: usize,
     pub cores: Vec<u8>,
-    /// Weights of take, release, event.
+    /// Weights of acquire, release, event.
     pub weights: [usize; 3],
     /// Weights of the three modes.
     pub modes: [usize; 3],
-    /// In 1000: records with anything in them, damaged records, questions, takes that
+    /// In 1000: records with anything in them, damaged records, questions, acquires that
     /// heed no order of classes, and proposals that fault and are then proposed anew.
     pub random: usize,
     pub damaged: usize,
@@ -155,7 +155,7 @@ fn propose(rng: &mut Rng, s: &Style, desk: &[u8]) -> Rec {
     let frame = FRAME[state];
     let here = 3 * usize::from(core) + frame;
     let depth = usize::from(desk[10 + here]);
-    let holds = &desk[98 + 20 * here..98 + 20 * here + depth];
+    let held = &desk[98 + 20 * here..98 + 20 * here + depth];
     let mut what = rng.weighted(&s.weights);
     if what == 0 && depth == 20 && !rng.mille(300) {
         what = 1;
@@ -166,10 +166,10 @@ fn propose(rng: &mut Rng, s: &Style, desk: &[u8]) -> Rec {
             return Rec::new(core, 0, rng.under(s.k) as u8, mode);
         }
         // Task classes lowest, then those of soft handlers, then those of hard ones, and
-        // within a frame ever higher ones: never a circle.
+        // within a frame ever higher ones: never a cycle.
         let (a, b) = (s.k / 2, s.k / 2 + s.k / 4);
         let (low, high) = if s.k < 4 { (0, s.k) } else { [(0, a), (a, b), (b, s.k)][frame] };
-        let low = holds.iter().map(|h| usize::from(h % 64) + 1).max().unwrap_or(0).max(low);
+        let low = held.iter().map(|h| usize::from(h % 64) + 1).max().unwrap_or(0).max(low);
         if low < high {
             let far = if rng.mille(700) { (low + 3).min(high) } else { high };
             return Rec::new(core, 0, rng.between(low, far - 1) as u8, mode);
@@ -177,7 +177,7 @@ fn propose(rng: &mut Rng, s: &Style, desk: &[u8]) -> Rec {
         what = 1;
     }
     if what == 1 && depth > 0 {
-        return Rec::new(core, 1, rng.pick(holds) % 64, 0);
+        return Rec::new(core, 1, rng.pick(held) % 64, 0);
     }
     let allowed: Vec<u8> = (2..10u8)
         .filter(|&kind| NEXT[state][usize::from(kind) - 2] != X)
@@ -189,7 +189,7 @@ fn propose(rng: &mut Rng, s: &Style, desk: &[u8]) -> Rec {
         return Rec::new(core, rng.pick(&usual), 0, 0);
     }
     if depth > 0 && !rng.mille(100) {
-        return Rec::new(core, 1, rng.pick(holds) % 64, 0);
+        return Rec::new(core, 1, rng.pick(held) % 64, 0);
     }
     Rec::new(core, if allowed.is_empty() { 2 } else { rng.pick(&allowed) }, 0, 0)
 }
@@ -275,7 +275,7 @@ fn log(rng: &mut Rng) -> Case {
     case(any_buffers(rng, k), calls)
 }
 
-/// Takes mostly, to depths of 20 and 21.
+/// Acquires mostly, to depths of 20 and 21.
 fn deep_log(rng: &mut Rng) -> Case {
     let k = rng.pick(&[1, 2, 3, 8, 64, 64, 33]);
     let mut style = any_style(rng, k);
@@ -409,8 +409,8 @@ pub fn fit_desk(rng: &mut Rng, k: usize) -> (Vec<u8>, Vec<u8>, Vec<u8>) {
             }
         }
         _ => {
-            let arrows = rng.pick(&[1, k / 2 + 1, k, k + k / 2, 2 * k, 4 * k]);
-            for _ in 0..arrows {
+            let number = rng.pick(&[1, k / 2 + 1, k, k + k / 2, 2 * k, 4 * k]);
+            for _ in 0..number {
                 sheet[rng.under(k) * k + rng.under(k)] |= any_kinds(rng);
             }
         }
@@ -473,7 +473,7 @@ pub fn violate(rng: &mut Rng, clause: usize, b: &mut (Vec<u8>, Vec<u8>, Vec<u8>)
         5 => desk[2 + core] = rng.pick(&[9, 10, 16, 255, rng.clone().between(9, 255) as u8]),
         6 => desk[10 + frame] = rng.pick(&[21, 22, 84, 255, rng.clone().between(21, 255) as u8]),
         7 | 8 => {
-            // In a task frame, where a hold may always stand.
+            // In a task frame, where a lock may always be held.
             let frame = 3 * core;
             let mut depth = usize::from(desk[10 + frame]);
             if depth > 20 {
@@ -691,14 +691,14 @@ pub fn pair(rng: &mut Rng) -> Case {
 }
 
 /// A kind of random case: its name, and how often it is made in 1000.
-pub struct Kind {
-    pub name: &'static str,
-    pub weight: usize,
+struct Kind {
+    name: &'static str,
+    weight: usize,
     make: fn(&mut Rng) -> Case,
 }
 
 pub const PAIRS: &str = "pair of lists";
-pub const KINDS: [Kind; 8] = [
+const KINDS: [Kind; 8] = [
     Kind { name: "log from opening", weight: 190, make: log },
     Kind { name: "deep log", weight: 60, make: deep_log },
     Kind { name: "long log", weight: 5, make: long_log },
@@ -716,7 +716,7 @@ pub fn random(rng: &mut Rng) -> Case {
 
 // ---------------------------------------------------------------------- fixed
 
-/// Records in short: "c:t" with t a take as 3E, 3r, 3R, a release as -3, or an event:
+/// Records in short: "c:t" with t an acquire as 3E, 3r, 3R, a release as -3, or an event:
 /// h+ h- s+ s- (hard or soft on or off), S+ S- H+ H- (enter or exit a handler).
 fn read(text: &str) -> Vec<Rec> {
     let mut core = 0;
@@ -773,8 +773,8 @@ pub fn hand_logs() -> Vec<HandLog> {
         ("P12 without", 8, "0:6E -6 S+ 6E", 1),
         ("depth 20", 8, &twenty, 0),
         ("depth 21", 8, &twenty_one, 8),
-        ("exit hard with a hold", 8, "0:H+ 1E H-", 7),
-        ("exit soft with a hold", 8, "0:S+ 1E S-", 7),
+        ("exit hard with a held lock", 8, "0:H+ 1E H-", 7),
+        ("exit soft with a held lock", 8, "0:S+ 1E S-", 7),
         ("exit hard in state 0", 8, "0:H-", 6),
         ("release of what isn't held", 8, "0:1E -2", 5),
         ("release in another frame", 8, "0:1E S+ -1", 5),
@@ -788,23 +788,23 @@ pub fn hand_logs() -> Vec<HandLog> {
         ("across frames: back in the task", 8, "0:0E S+ 5E -5 S- 1E", 0),
         ("oldest released: modes", 8, "0:0r 0R -0", 0),
         ("oldest released: order", 8, "0:0R 1R 0R -0", 0),
-        ("oldest released: order and arrows", 8, "0:0R 1E 0R -0 2E -2 -1 -0", 0),
+        ("oldest released: order and dependencies", 8, "0:0R 1E 0R -0 2E -2 -1 -0", 0),
         ("oldest released: in a handler", 8, "7:H+ 3r 3R 3R -3 -3 -3 H-", 0),
         // Reach by class alone.
         ("class once", 8, "0:0E 1R -1 -0 0E 2E -2 -0 2E 1E -1 -2 1R 0E", 1),
         ("class once, other numbers", 8, "0:3E 0R -0 -3 3E 5E -5 -3 5E 0E -0 -5 0r 3E", 1),
         ("class once, N walked before R", 8, "0:0E 1E -1 -0 1E 2R -2 -1 0E 3E -3 -0 3E 2E -2 -3 2R 0E", 1),
-        // Marks at other records than takes.
+        // Marks at other records than acquires.
         ("mark at hard on", 8, "0:H+ 1E -1 H- h- 1E h+", 1),
         ("mark at soft on", 8, "0:S+ 1E -1 S- s- 1E s+", 1),
         ("mark at exit hard", 8, "0:h- s- 1E h+ H+ H- s+", 0),
         ("mark at exit soft", 8, "2:S+ h- 1E h+ -1 S- 2E s-", 0),
         ("mark at a release", 8, "0:h- 1E 2E h+ -2", 0),
         ("mark in a soft handler", 8, "1:S+ h- 1E h+ H+ 2E -2 H- -1 S-", 0),
-        ("newest hold only", 8, "0:0E 1R 2E 3R 4E 1:4E 0E", 1),
+        ("newest held lock only", 8, "0:0E 1R 2E 3R 4E 1:4E 0E", 1),
         ("hard over 1", 8, "0:s- H+ 1E -1 H- s+", 0),
         ("all states", 8, "0:h- h- h+ h+ s- s- h- h- s+ s- h+ s+ S+ h- h- h+ h+ H+ H- S- s- H+ H- s+ H+ H-", 0),
-        ("a self circle by soft", 1, "0:0R S- ", 6),
+        ("exit soft in a task", 1, "0:0R S- ", 6),
         ("K of 1", 1, "0:0R 0R -0 0R 1:0R 2:0R H+ 0R", 0),
         ("K of 1, fault", 1, "0:0r -0 H+ 0r", 1),
     ];
@@ -886,7 +886,7 @@ pub fn fixed(each: &mut dyn FnMut(Case) -> bool) {
             }
             let name = reference::CLAUSES[clause];
             if clause == 5 && (0..8).any(|c| buffers.0[2 + c] > 8 && (buffers.0[11 + 3 * c] > 0 || buffers.0[12 + 3 * c] > 0)) {
-                // A state over 8 with handler holds is wrong twice: leave them out.
+                // A state over 8 with locks held in handlers is wrong twice: leave them out.
                 continue;
             }
             let mut calls: Vec<Call> = (0..10u8).map(|kind| Call::Step(Rec::new(rng.under(8) as u8, kind, 0, 0))).collect();
@@ -903,7 +903,7 @@ pub fn fixed(each: &mut dyn FnMut(Case) -> bool) {
             }
         }
     }
-    // Each byte of the desk with each value, on an opened desk with some holds.
+    // Each byte of the desk with each value, on an opened desk with some held locks.
     for at in 0..578 {
         let k = [1, 3, 8, 64][at % 4];
         let mut shadow = Shadow::opened(k);
@@ -925,12 +925,12 @@ pub fn fixed(each: &mut dyn FnMut(Case) -> bool) {
     }
     // Each state with each kind, with empty and with standing frames.
     for state in 0..9u8 {
-        for holds in [0, 1, 20] {
+        for held in [0, 1, 20] {
             let mut desk = Shadow::opened(3).desk;
             desk[2 + 4] = state;
             let here = 12 + FRAME[usize::from(state)];
-            desk[10 + here] = holds;
-            desk[98 + 20 * here..98 + 20 * here + usize::from(holds)].fill(1 + 64 * 2);
+            desk[10 + here] = held;
+            desk[98 + 20 * here..98 + 20 * here + usize::from(held)].fill(1 + 64 * 2);
             for kind in 0..10 {
                 for class in 0..5 {
                     for mode in 0..4 {

@@ -40,8 +40,8 @@ compare: the library beside the reference, call by call and byte by byte
   --without NAME           leave out what is counted under this name
 
 Exit status: 0 no difference and every minimum met; 1 a difference, a wrong answer or a
-minimum not met; 2 wrong arguments. A run of less than 10,000 random cases misses a
-minimum unless --cases asks for fewer.
+minimum not met; 2 wrong arguments. A run of fewer than 5,000 random cases misses a
+minimum unless --cases asks for no more.
 ";
 
 /// What a run goes through.

@@ -5,8 +5,8 @@ use crate::gen::{self, Shadow};
 use crate::judges::FAST;
 use crate::run::{Call, Case, Counts};
 
-/// A full run has this many random cases; in 60 s some 130,000 were seen, half the machine busy otherwise.
-pub const RANDOM_CASES: u64 = 10_000;
+/// Random cases of a full run: 66,000 were seen in 60 s beside four busy programs on two cores.
+const RANDOM_CASES: u64 = 5000;
 
 #[derive(Clone, Copy, PartialEq, Eq)]
 pub enum Asked {
@@ -35,29 +35,48 @@ use Asked::{Opening, Question, Step};
 
 const SOURCES: [&str; 3] = ["hold", "hard", "soft"];
 
-/// Every need with its least number: of a fixed kind all of its cases; of the rest so many in 100,000 random cases, a
-/// tenth of what was seen.
+/// The kinds of random cases; named here too, so that one is missed that is no longer made.
+const RANDOM: [(&str, u64); 8] = [
+    ("log from opening", 1900),
+    ("deep log", 600),
+    ("long log", 50),
+    ("fit desk", 3200),
+    ("unfit desk", 1250),
+    ("changed desk", 1500),
+    ("opening", 600),
+    (gen::PAIRS, 900),
+];
+
+/// Every need with its least number: of a fixed kind all of its cases; of the rest so many in 100,000 random cases, about
+/// a tenth of what is seen.
 pub fn all() -> Vec<(Need, u64)> {
     let mut all = vec![(Need::RandomCases, RANDOM_CASES)];
     all.extend(gen::FIXED.map(|(name, number)| (Need::Fixed(name), number)));
-    all.extend(gen::KINDS.map(|k| (Need::Kind(k.name), 10 * k.weight as u64)));
-    for (call, least) in [
-        (Opening, &[(0, 5000), (2, 500)][..]),
-        (Step, &[(0, 1), (1, 1), (3, 1), (4, 1), (5, 1), (6, 1), (7, 1), (8, 1), (10, 1), (11, 1)]),
-        (Question, &[(0, 1), (4, 1), (11, 1)]),
+    all.extend(RANDOM.map(|(name, least)| (Need::Kind(name), least)));
+    for (call, answers) in [
+        (Opening, &[(0, 4500), (2, 590)][..]),
+        (
+            Step,
+            &[
+                (0, 450_000), (1, 2500), (3, 10_000), (4, 3300), (5, 800), (6, 11_000), (7, 1200), (8, 5300),
+                (10, 26_000), (11, 8500),
+            ],
+        ),
+        (Question, &[(0, 22_000), (4, 8000), (11, 3600)]),
     ] {
-        all.extend(least.iter().map(|&(answer, least)| (Need::Answer(call, answer), least)));
+        all.extend(answers.iter().map(|&(answer, least)| (Need::Answer(call, answer), least)));
     }
     for clause in 0..reference::CLAUSES.len() {
-        all.push((Need::Clause(Step, clause), 1));
-        // A question takes no slip.
+        all.push((Need::Clause(Step, clause), 160));
+        // A question has no slip.
         if reference::CLAUSES[clause] != "slip too short" {
-            all.push((Need::Clause(Question, clause), 1));
+            all.push((Need::Clause(Question, clause), 70));
         }
     }
-    all.extend([(Need::FaultInSecond, 1), (Need::FaultInBoth, 1), (Need::Twentieth, 1), (Need::TwentyFirst, 1)]);
-    all.extend([(Need::Source(0), 1), (Need::Source(1), 1), (Need::Source(2), 1)]);
-    all.extend([(Need::AskedClosed, 1), (Need::AskedItself, 1)]);
+    all.extend([(Need::FaultInSecond, 200), (Need::FaultInBoth, 140)]);
+    all.extend([(Need::Twentieth, 13_000), (Need::TwentyFirst, 5000)]);
+    all.extend([(Need::Source(0), 4200), (Need::Source(1), 620), (Need::Source(2), 340)]);
+    all.extend([(Need::AskedClosed, 4900), (Need::AskedItself, 4000)]);
     all
 }
 
@@ -111,7 +130,7 @@ impl Need {
     /// Takes out of a case what is counted under this need, going by the fast judge; false if the whole case goes.
     pub fn leave_out(self, case: &mut Case) -> bool {
         match (self, &case.pair) {
-            (Need::RandomCases, _) => return !gen::KINDS.iter().any(|k| k.name == case.name),
+            (Need::RandomCases, _) => return !RANDOM.iter().any(|(name, _)| *name == case.name),
             (Need::Fixed(name) | Need::Kind(name), _) => return case.name != name,
             (Need::FaultInSecond, Some((_, in_first))) => {
                 let in_first = in_first.clone();
@@ -119,14 +138,14 @@ impl Need {
             }
             (Need::FaultInBoth, Some((_, in_first))) => {
                 let in_first = in_first.clone();
-                let kept = play(case, |at, seen| !in_first[at] || seen.answer != 1, Some(&in_first));
+                let kept = play(case, |seen| seen.answer != 1, Some(&in_first));
                 keep(case, &kept);
             }
             (Need::FaultInSecond | Need::FaultInBoth, None) => {}
             // A pair is run twice with two answers to a record.
             (_, Some(_)) => return false,
             (_, None) => {
-                let kept = play(case, |_, seen| !self.meets(seen), None);
+                let kept = play(case, |seen| !self.meets(seen), None);
                 keep(case, &kept);
             }
         }
@@ -176,15 +195,15 @@ struct Seen<'a> {
     word: u64,
 }
 
-/// Plays a case's calls (those marked, if some are) on the fast judge; a call that is not kept is taken back.
-fn play(case: &Case, keeps: impl Fn(usize, &Seen) -> bool, marked: Option<&[bool]>) -> Vec<bool> {
+/// Plays a case's calls (or only those chosen) on the fast judge, and says which are kept; the others are undone.
+fn play(case: &Case, keeps: impl Fn(&Seen) -> bool, chosen: Option<&[bool]>) -> Vec<bool> {
     let mut now = Shadow { desk: case.desk.clone(), sheet: case.sheet.clone(), slip: case.slip.clone() };
     if let Some((k, _)) = case.pair {
         (FAST.open)(k, &mut now.desk, &mut now.sheet);
     }
     let mut kept = Vec::new();
     for (at, call) in case.calls.iter().enumerate() {
-        if marked.is_some_and(|m| !m[at]) {
+        if chosen.is_some_and(|c| !c[at]) {
             kept.push(true);
             continue;
         }
@@ -196,19 +215,20 @@ fn play(case: &Case, keeps: impl Fn(usize, &Seen) -> bool, marked: Option<&[bool
             Call::Ask(class) => (FAST.ask)(&now.desk, &now.sheet, *class, &mut word, &mut count),
         };
         let seen = Seen { call, before, after: now, answer, word };
-        kept.push(keeps(at, &seen));
+        kept.push(keeps(&seen));
         now = if kept[at] { seen.after } else { seen.before };
     }
     kept
 }
 
-/// Keeps the calls so marked.
 fn keep(case: &mut Case, kept: &[bool]) {
-    let mut marks = kept.iter();
-    case.calls.retain(|_| marks.next() == Some(&true));
+    fn retain<T>(list: &mut Vec<T>, kept: &[bool]) {
+        let mut kept = kept.iter();
+        list.retain(|_| kept.next() == Some(&true));
+    }
+    retain(&mut case.calls, kept);
     if let Some((_, in_first)) = &mut case.pair {
-        let mut marks = kept.iter();
-        in_first.retain(|_| marks.next() == Some(&true));
+        retain(in_first, kept);
     }
 }
 

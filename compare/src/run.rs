@@ -60,7 +60,7 @@ pub struct Case {
 }
 
 pub struct Diff {
-    /// The judge that is wrong, or the part of demand 3's claim that does not hold.
+    /// The judge that is wrong, or the part of demand 3's claim that is broken.
     pub judge: &'static str,
     pub call: usize,
     pub text: String,
@@ -130,7 +130,7 @@ fn first_difference(what: &str, a: &Guarded, b: &Guarded) -> Option<String> {
     Some(format!("{what} byte {place}{guard}: {} instead of {}", a.all[at], b.all[at]))
 }
 
-/// The slip after a call: unchanged unless the answer is 1; with 1 a true circle, and
+/// The slip after a call: unchanged unless the answer is 1; with 1 a true cycle, and
 /// the bytes past 1 + 3n unchanged.
 fn slip_wrong(answer: u8, bench: &Bench, before: &Guarded) -> Option<String> {
     if answer != 1 {
@@ -142,7 +142,7 @@ fn slip_wrong(answer: u8, bench: &Bench, before: &Guarded) -> Option<String> {
     }
     let n = usize::from(bench.slip.see()[0]);
     if !reference::true_circle(bench.desk.see(), bench.sheet.see(), bench.slip.see()) {
-        return Some(format!("slip shows no true circle: {:?}", &bench.slip.see()[..(1 + 3 * n).min(bench.slip.see().len())]));
+        return Some(format!("slip shows no true cycle: {:?}", &bench.slip.see()[..(1 + 3 * n).min(bench.slip.see().len())]));
     }
     let mut expected = before.clone();
     expected.all[FRONT..FRONT + 1 + 3 * n].copy_from_slice(&bench.slip.see()[..1 + 3 * n]);
@@ -340,7 +340,7 @@ fn run_pair(case: &Case, k: u64, in_first: &[bool], judges: &mut Judges, counts:
         return fail("generator", 0, "no pair of lists that demand 3 speaks of".into());
     }
     if let Some((part, at, text)) = claim::broken(k as usize, &first, &second) {
-        return fail(part, at, format!("demand 3, {part}: {text}"));
+        return fail(part, at + 1, format!("demand 3, {part}: {text}"));
     }
     counts.pair_records += second.answers.len() as u64;
     counts.pair_faults[usize::from(second.fault().is_some()) + usize::from(first.fault().is_some())] += 1;

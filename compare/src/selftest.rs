@@ -11,7 +11,7 @@ use crate::{hand_answers, try_case, Limits, Met};
 use std::time::{Duration, Instant};
 
 /// Random cases of a quick run.
-const CASES: u64 = 800;
+const CASES: u64 = 500;
 /// Pairs of lists for a planted judge in every place.
 const PAIRS: u64 = 1000;
 
@@ -25,7 +25,7 @@ fn soon() -> Instant {
 
 /// In the library's place it is caught by the fixed cases alone and by the random ones alone.
 fn caught(plant: &Plant) -> bool {
-    let mut well = true;
+    let mut calls = Vec::new();
     for which in ["fixed", "random"] {
         let mut judges = Judges::beside(Subject::Planted(plant.judge));
         let (mut counts, mut failed) = (Counts::default(), None);
@@ -35,17 +35,16 @@ fn caught(plant: &Plant) -> bool {
             _ => quick(None).random(soon(), &mut each),
         }
         match failed {
-            Some((_, diff)) if diff.judge == "subject" => {
-                println!("{}, {which} cases: caught in call {}: {}", plant.name, counts.calls, diff.text);
-            }
-            other => {
-                let text = other.map_or("no difference".into(), |(_, d)| format!("{}: {}", d.judge, d.text));
-                println!("{}, {which} cases: NOT CAUGHT in {} calls: {text}", plant.name, counts.calls);
-                well = false;
-            }
+            Some((_, diff)) if diff.judge == "subject" => calls.push(counts.calls),
+            Some((_, diff)) => println!("{}, {which} cases: {}: {}", plant.name, diff.judge, diff.text),
+            None => println!("{}, {which} cases: no difference in {} calls", plant.name, counts.calls),
         }
     }
-    well
+    match calls[..] {
+        [fixed, random] => println!("{}: caught in call {fixed} of the fixed cases, {random} of the random ones", plant.name),
+        _ => println!("{}: NOT CAUGHT", plant.name),
+    }
+    calls.len() == 2
 }
 
 /// In the place of every judge nothing but demand 3's claim of two lists catches it, and that part of it does.
@@ -95,20 +94,19 @@ fn minimums() -> bool {
         println!("minimum NOT MET in a quick run: {}: {met}, at least {least}", need.name());
         well = false;
     }
+    let mut missed = 0;
     for (need, _) in needs::all() {
         let fixed = matches!(need, Need::Fixed(_));
         let mut met = Met::default();
         well &= go(Some(need), fixed, &mut met);
         let (fixed, random) = if fixed { (&met.fixed, &whole.random) } else { (&whole.fixed, &met.random) };
         match needs::under(fixed, random, CASES).iter().find(|u| u.0 == need) {
-            Some((_, met, least)) => println!("without {}: missed, {met} of {least}", need.name()),
-            None => {
-                println!("without {}: NOT MISSED", need.name());
-                well = false;
-            }
+            Some(_) => missed += 1,
+            None => println!("without {}: its minimum is NOT MISSED", need.name()),
         }
     }
-    well
+    println!("{missed} of {} minimums are missed by a run without what they count", needs::all().len());
+    well && missed == needs::all().len()
 }
 
 pub fn run() -> bool {
@@ -126,9 +124,8 @@ pub fn run() -> bool {
             well = false;
         }
     }
-    println!("{:.1} s", started.elapsed().as_secs_f64());
     well &= minimums();
     println!("{:.1} s", started.elapsed().as_secs_f64());
-    println!("selftest: {}", if well { "each planted judge was caught, each minimum missed" } else { "FAILED" });
+    println!("selftest: {}", if well { "each planted judge and each missed minimum was noticed" } else { "FAILED" });
     well
 }
