@@ -11,7 +11,7 @@ use crate::{hand_answers, try_case, Limits, Met};
 use std::time::{Duration, Instant};
 
 /// Random cases of a quick run.
-const CASES: u64 = 500;
+const CASES: u64 = 800;
 /// Pairs of lists for a planted judge in every place.
 const PAIRS: u64 = 1000;
 
