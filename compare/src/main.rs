@@ -119,7 +119,7 @@ fn print_difference(case: &Case, diff: &Diff, judges: &mut Judges, met: &Met) {
     print!("{}", run::describe(&small));
 }
 
-/// What was met; false if something was met too seldom.
+/// What was met; false if something was met too seldom, or should not be met at all.
 fn report(met: &Met, limits: &Limits) -> bool {
     let Met { fixed, random } = met;
     println!("{} cases, {} calls compared; of the random cases:", fixed.cases + random.cases, fixed.calls + random.calls);
@@ -150,7 +150,11 @@ fn report(met: &Met, limits: &Limits) -> bool {
     for (need, met, least) in &under {
         println!("MINIMUM NOT MET: {}: {met}, at least {least}", need.name());
     }
-    under.is_empty()
+    let undue: Vec<(Need, u64)> = [fixed, random].into_iter().flat_map(needs::undue).collect();
+    for (need, met) in &undue {
+        println!("NO SUCH ANSWER: {}: {met}", need.name());
+    }
+    under.is_empty() && undue.is_empty()
 }
 
 /// The hand logs' answers as the document gives them, on the subject's own.
@@ -200,75 +204,67 @@ fn list() {
     }
 }
 
-fn main() -> ExitCode {
+/// Does what the arguments ask; whether all was well, or what is wrong with the arguments.
+fn obey(mut args: impl Iterator<Item = String>) -> Result<bool, String> {
     let (mut seconds, mut cases, mut seed, mut without) = (None, None, 1, None);
     let (mut plant, mut both) = (None, false);
-    let status = |well: bool| if well { ExitCode::SUCCESS } else { ExitCode::FAILURE };
-    let wrong = |text: String| {
-        eprintln!("compare: {text} (see compare --help)");
-        ExitCode::from(2)
-    };
-    let mut args = std::env::args().skip(1);
     while let Some(arg) = args.next() {
+        let mut value = || args.next().ok_or(format!("{arg} needs a value"));
+        let number = |value: String| value.parse::<u64>().map_err(|_| format!("{arg} needs a number, not {value}"));
+        let unknown = |value: String| format!("{arg}: no such name: {value}");
         match arg.as_str() {
-            "--help" => print!("{HELP}"),
-            "--list" => list(),
-            "--selftest" => return status(selftest::run()),
-            "--bench" => return status(bench::run()),
-            "--both" => {
-                both = true;
-                continue;
+            "--help" => {
+                print!("{HELP}");
+                return Ok(true);
             }
-            "--seconds" | "--cases" | "--seed" | "--planted" | "--without" => {
-                let Some(value) = args.next() else { return wrong(format!("{arg} needs a value")) };
-                let number = value.parse::<u64>();
-                let known = match arg.as_str() {
-                    "--planted" => {
-                        plant = PLANTS.iter().find(|p| p.name == value);
-                        plant.is_some()
-                    }
-                    "--without" => {
-                        without = needs::all().into_iter().map(|(need, _)| need).find(|need| need.name() == value);
-                        without.is_some()
-                    }
-                    _ => number.is_ok(),
-                };
-                match (arg.as_str(), number) {
-                    _ if !known => return wrong(format!("{arg}: {value}?")),
-                    ("--seconds", Ok(n)) => seconds = Some(n),
-                    ("--cases", Ok(n)) => cases = Some(n),
-                    ("--seed", Ok(n)) => seed = n,
-                    _ => {}
-                }
-                continue;
+            "--list" => {
+                list();
+                return Ok(true);
             }
-            _ => return wrong(format!("unknown: {arg}")),
+            "--selftest" => return Ok(selftest::run()),
+            "--bench" => return Ok(bench::run()),
+            "--both" => both = true,
+            "--seconds" => seconds = Some(number(value()?)?),
+            "--cases" => cases = Some(number(value()?)?),
+            "--seed" => seed = number(value()?)?,
+            "--planted" => {
+                let name = value()?;
+                plant = Some(PLANTS.iter().find(|p| p.name == name).ok_or(unknown(name))?);
+            }
+            "--without" => {
+                let name = value()?;
+                let need = needs::all().into_iter().map(|(need, _)| need).find(|need| need.name() == name);
+                without = Some(need.ok_or(unknown(name))?);
+            }
+            _ => return Err(format!("unknown: {arg}")),
         }
-        return ExitCode::SUCCESS;
     }
-    if both && plant.is_none() {
-        return wrong("--both needs --planted".into());
-    }
+    let mut judges = match plant {
+        None if both => return Err("--both needs --planted".into()),
+        None => Judges::beside(Subject::library()),
+        Some(p) if both => Judges::all(p.judge),
+        Some(p) => Judges::beside(Subject::Planted(p.judge)),
+    };
     let limits = Limits {
         seconds: seconds.unwrap_or(if cases.is_none() { 60 } else { 1_000_000 }),
         cases: cases.unwrap_or(u64::MAX),
         seed,
         without,
     };
-    let mut judges = match plant {
-        None => Judges::beside(Subject::library()),
-        Some(p) if both => Judges::all(p.judge),
-        Some(p) => Judges::beside(Subject::Planted(p.judge)),
-    };
     let name = plant.map_or("the library".into(), |p| format!("planted {} ({})", p.name, p.wrong));
     println!("subject: {name}; seed {seed}");
+    Ok(full_run(&mut judges, &limits))
+}
+
+/// Compares and reports; whether nothing differed and every minimum was met.
+fn full_run(judges: &mut Judges, limits: &Limits) -> bool {
     let started = Instant::now();
     let mut met = Met::default();
-    if let Some((case, diff)) = compare(&mut judges, &limits, &mut met) {
-        print_difference(&case, &diff, &mut judges, &met);
-        return ExitCode::FAILURE;
+    if let Some((case, diff)) = compare(judges, limits, &mut met) {
+        print_difference(&case, &diff, judges, &met);
+        return false;
     }
-    let whole = report(&met, &limits);
+    let whole = report(&met, limits);
     let right = hand_answers(&mut judges.subject) & long_records(&mut judges.subject);
     if let Subject::Library(edges) = &judges.subject {
         println!("{} of the library's calls were made at the edge of an unreadable page", edges.edge_calls());
@@ -276,8 +272,19 @@ fn main() -> ExitCode {
     println!("{:.1} s", started.elapsed().as_secs_f64());
     println!("{}", match (whole, right) {
         (true, true) => "no difference",
-        (false, true) => "no difference, but not every minimum was met",
+        (false, true) => "no difference, but see the lines in capitals",
         _ => "no difference, but the answer to a hand log or to a long record is wrong",
     });
-    status(whole && right)
+    whole && right
+}
+
+fn main() -> ExitCode {
+    match obey(std::env::args().skip(1)) {
+        Ok(true) => ExitCode::SUCCESS,
+        Ok(false) => ExitCode::FAILURE,
+        Err(text) => {
+            eprintln!("compare: {text} (see compare --help)");
+            ExitCode::from(2)
+        }
+    }
 }

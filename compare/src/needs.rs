@@ -250,3 +250,15 @@ pub fn under(fixed: &Counts, random: &Counts, cases: u64) -> Vec<Under> {
         .filter(|&(_, met, least)| met < least)
         .collect()
 }
+
+/// Answers that were given though the call has none such, and how often.
+pub fn undue(counts: &Counts) -> Vec<(Need, u64)> {
+    let due = all();
+    [Opening, Step, Question]
+        .into_iter()
+        .flat_map(|call| (0..16).map(move |answer| Need::Answer(call, answer)))
+        .filter(|need| !due.iter().any(|(d, _)| d == need))
+        .map(|need| (need, need.met(counts, counts)))
+        .filter(|&(_, met)| met > 0)
+        .collect()
+}
