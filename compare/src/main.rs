@@ -35,8 +35,8 @@ compare: the library beside the reference, call by call and byte by byte
   --cases N                stop after N random cases
   --seed S                 other random cases (1)
   --planted NAME           a wrong judge in the library's place
-  --both                   the planted judge in the reference's place too, so that only
-                           demand 3's pairs of lists can show it
+  --both                   the planted judge in the place of the reference and the fast
+                           judge too: then only demand 3's pairs of lists can show it
   --without NAME           leave out what is counted under this name
 
 Exit status: 0 no difference and every minimum met; 1 a difference, a wrong answer or a

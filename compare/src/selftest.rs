@@ -65,7 +65,7 @@ fn breaks(plant: &Plant, part: &str) -> bool {
         }
     }
     let well = seen > 0 && failed.is_none() && hand_answers(&mut judges.subject);
-    let verdict = if well { "missing in" } else { "NOT CAUGHT, or not only by it:" };
+    let verdict = if well { "broken in" } else { "NOT CAUGHT, or not only by it:" };
     println!("{} in every place: \"{part}\" {verdict} {seen} of {PAIRS} pairs", plant.name);
     if let Some((_, diff)) = failed {
         println!("{}: {}", diff.judge, diff.text);
