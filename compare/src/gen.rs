@@ -1,22 +1,9 @@
 //! The inputs: fixed ones (made by hand, or all of a small space) and random ones.
 
+use crate::drawing::{FRAME, NEXT, X};
 use crate::fast;
 use crate::rng::Rng;
 use crate::run::{Call, Case, Rec};
-
-const X: u8 = 255;
-/// The document's table, for proposing events that are allowed.
-const NEXT: [[u8; 8]; 9] = [
-    [0, 2, 0, 1, 4, X, 6, X],
-    [1, 3, 0, 1, X, X, 7, X],
-    [0, 2, 2, 3, X, X, X, X],
-    [1, 3, 2, 3, X, X, X, X],
-    [4, 5, X, X, X, 0, 8, X],
-    [4, 5, X, X, X, X, X, X],
-    [X, X, X, X, X, X, X, 0],
-    [X, X, X, X, X, X, X, 1],
-    [X, X, X, X, X, X, X, 4],
-];
 
 const BIG: [u64; 16] = [
     255, 256, 257, 264, 300, 320, 65536, 65544, 1 << 31, 1 << 32, (1 << 32) + 1, (1 << 32) + 8,
@@ -43,8 +30,9 @@ fn any_buffers(rng: &mut Rng, k: usize) -> (Vec<u8>, Vec<u8>, Vec<u8>) {
     (rng.bytes(578 + a), rng.bytes(k * k + b), rng.bytes(1 + 3 * k + c))
 }
 
-fn case(name: &'static str, buffers: (Vec<u8>, Vec<u8>, Vec<u8>), calls: Vec<Call>) -> Case {
-    Case { name, desk: buffers.0, sheet: buffers.1, slip: buffers.2, calls, pair: None, clause: None }
+/// A case yet without a name.
+fn case(buffers: (Vec<u8>, Vec<u8>, Vec<u8>), calls: Vec<Call>) -> Case {
+    Case { name: "", desk: buffers.0, sheet: buffers.1, slip: buffers.2, calls, pair: None, clause: None }
 }
 
 // ------------------------------------------------------------------ proposals
@@ -53,11 +41,11 @@ fn case(name: &'static str, buffers: (Vec<u8>, Vec<u8>, Vec<u8>), calls: Vec<Cal
 pub struct Style {
     pub k: usize,
     pub cores: Vec<u8>,
-    /// Weights of take, release, event.
+    /// Weights of acquire, release, event.
     pub weights: [usize; 3],
     /// Weights of the three modes.
     pub modes: [usize; 3],
-    /// In 1000: records with anything in them, damaged records, questions, takes that
+    /// In 1000: records with anything in them, damaged records, questions, acquires that
     /// heed no order of classes, and proposals that fault and are then proposed anew.
     pub random: usize,
     pub damaged: usize,
@@ -164,10 +152,10 @@ fn propose(rng: &mut Rng, s: &Style, desk: &[u8]) -> Rec {
         return Rec::new(core, kind, class, if kind == 0 { rng.under(3) as u8 } else { 0 });
     }
     let state = usize::from(desk[2 + usize::from(core)]);
-    let frame = [0, 0, 0, 0, 1, 1, 2, 2, 2][state];
+    let frame = FRAME[state];
     let here = 3 * usize::from(core) + frame;
     let depth = usize::from(desk[10 + here]);
-    let holds = &desk[98 + 20 * here..98 + 20 * here + depth];
+    let held = &desk[98 + 20 * here..98 + 20 * here + depth];
     let mut what = rng.weighted(&s.weights);
     if what == 0 && depth == 20 && !rng.mille(300) {
         what = 1;
@@ -178,10 +166,10 @@ fn propose(rng: &mut Rng, s: &Style, desk: &[u8]) -> Rec {
             return Rec::new(core, 0, rng.under(s.k) as u8, mode);
         }
         // Task classes lowest, then those of soft handlers, then those of hard ones, and
-        // within a frame ever higher ones: never a circle.
+        // within a frame ever higher ones: never a cycle.
         let (a, b) = (s.k / 2, s.k / 2 + s.k / 4);
         let (low, high) = if s.k < 4 { (0, s.k) } else { [(0, a), (a, b), (b, s.k)][frame] };
-        let low = holds.iter().map(|h| usize::from(h % 64) + 1).max().unwrap_or(0).max(low);
+        let low = held.iter().map(|h| usize::from(h % 64) + 1).max().unwrap_or(0).max(low);
         if low < high {
             let far = if rng.mille(700) { (low + 3).min(high) } else { high };
             return Rec::new(core, 0, rng.between(low, far - 1) as u8, mode);
@@ -189,7 +177,7 @@ fn propose(rng: &mut Rng, s: &Style, desk: &[u8]) -> Rec {
         what = 1;
     }
     if what == 1 && depth > 0 {
-        return Rec::new(core, 1, rng.pick(holds) % 64, 0);
+        return Rec::new(core, 1, rng.pick(held) % 64, 0);
     }
     let allowed: Vec<u8> = (2..10u8)
         .filter(|&kind| NEXT[state][usize::from(kind) - 2] != X)
@@ -201,12 +189,13 @@ fn propose(rng: &mut Rng, s: &Style, desk: &[u8]) -> Rec {
         return Rec::new(core, rng.pick(&usual), 0, 0);
     }
     if depth > 0 && !rng.mille(100) {
-        return Rec::new(core, 1, rng.pick(holds) % 64, 0);
+        return Rec::new(core, 1, rng.pick(held) % 64, 0);
     }
     Rec::new(core, if allowed.is_empty() { 2 } else { rng.pick(&allowed) }, 0, 0)
 }
 
-/// A desk that goes along with the log while it is made.
+/// Buffers that go along with the log while it is made.
+#[derive(Clone)]
 pub struct Shadow {
     pub desk: Vec<u8>,
     pub sheet: Vec<u8>,
@@ -283,10 +272,10 @@ fn log(rng: &mut Rng) -> Case {
     let mut calls = vec![Call::Open(k as u64)];
     let most = rng.pick(&[5, 20, 60, 150, 300]);
     steps(rng, &style, &mut Shadow::opened(k), most, &mut calls);
-    case("log from opening", any_buffers(rng, k), calls)
+    case(any_buffers(rng, k), calls)
 }
 
-/// Takes mostly, to depths of 20 and 21.
+/// Acquires mostly, to depths of 20 and 21.
 fn deep_log(rng: &mut Rng) -> Case {
     let k = rng.pick(&[1, 2, 3, 8, 64, 64, 33]);
     let mut style = any_style(rng, k);
@@ -301,7 +290,7 @@ fn deep_log(rng: &mut Rng) -> Case {
     }
     let mut calls = vec![Call::Open(k as u64)];
     steps(rng, &style, &mut Shadow::opened(k), 120, &mut calls);
-    case("deep log", any_buffers(rng, k), calls)
+    case(any_buffers(rng, k), calls)
 }
 
 fn long_log(rng: &mut Rng) -> Case {
@@ -313,7 +302,7 @@ fn long_log(rng: &mut Rng) -> Case {
     style.unordered = rng.pick(&[0, 0, 3]);
     let mut calls = vec![Call::Open(k as u64)];
     steps(rng, &style, &mut Shadow::opened(k), 3000, &mut calls);
-    case("long log", any_buffers(rng, k), calls)
+    case(any_buffers(rng, k), calls)
 }
 
 /// A fit desk and sheet that no opening need lead to.
@@ -420,8 +409,8 @@ pub fn fit_desk(rng: &mut Rng, k: usize) -> (Vec<u8>, Vec<u8>, Vec<u8>) {
             }
         }
         _ => {
-            let arrows = rng.pick(&[1, k / 2 + 1, k, k + k / 2, 2 * k, 4 * k]);
-            for _ in 0..arrows {
+            let number = rng.pick(&[1, k / 2 + 1, k, k + k / 2, 2 * k, 4 * k]);
+            for _ in 0..number {
                 sheet[rng.under(k) * k + rng.under(k)] |= any_kinds(rng);
             }
         }
@@ -446,7 +435,7 @@ fn drawn_desk(rng: &mut Rng) -> Case {
     let mut shadow = Shadow { desk: desk.clone(), sheet: sheet.clone(), slip: slip.clone() };
     let most = rng.pick(&[2, 5, 15, 40]);
     steps(rng, &style, &mut shadow, most, &mut calls);
-    case("fit desk", (desk, sheet, slip), calls)
+    case((desk, sheet, slip), calls)
 }
 
 /// Violates one clause of "Unfit" (by its place in CLAUSES); false if this desk can't.
@@ -484,7 +473,7 @@ pub fn violate(rng: &mut Rng, clause: usize, b: &mut (Vec<u8>, Vec<u8>, Vec<u8>)
         5 => desk[2 + core] = rng.pick(&[9, 10, 16, 255, rng.clone().between(9, 255) as u8]),
         6 => desk[10 + frame] = rng.pick(&[21, 22, 84, 255, rng.clone().between(21, 255) as u8]),
         7 | 8 => {
-            // In a task frame, where a hold may always stand.
+            // In a task frame, where a lock may always be held.
             let frame = 3 * core;
             let mut depth = usize::from(desk[10 + frame]);
             if depth > 20 {
@@ -577,7 +566,7 @@ fn unfit_desk(rng: &mut Rng) -> Case {
         calls.push(Call::Open(k as u64));
         calls.extend(some_calls(rng, k, 3));
     }
-    case("unfit desk", buffers, calls)
+    case(buffers, calls)
 }
 
 /// A fit desk with one to three bytes changed to anything: fit or not, as it falls.
@@ -608,7 +597,7 @@ fn changed_desk(rng: &mut Rng) -> Case {
         }
     }
     let calls = some_calls(rng, k, 4);
-    case("changed desk", buffers, calls)
+    case(buffers, calls)
 }
 
 fn opening(rng: &mut Rng) -> Case {
@@ -630,14 +619,33 @@ fn opening(rng: &mut Rng) -> Case {
     let buffers = (rng.bytes(d), rng.bytes(s), rng.bytes(l));
     let mut calls = vec![Call::Open(k)];
     calls.extend(some_calls(rng, size.max(1), 3));
-    case("opening", buffers, calls)
+    case(buffers, calls)
 }
 
 /// Two lists for demand 3: the second has foreign records put in.
-fn pair(rng: &mut Rng) -> Case {
+pub fn pair(rng: &mut Rng) -> Case {
     let k = rng.pick(&[1, 2, 3, 8, 8, 8, 16, 64]);
     let mut own = any_style(rng, k);
     let mut foreign = any_style(rng, k);
+    match rng.under(3) {
+        0 => {
+            // Usage marks decide: many events, and acquires in any order.
+            for style in [&mut own, &mut foreign] {
+                style.weights = [3, 3, 4];
+                style.unordered = 1000;
+            }
+        }
+        1 => {
+            // The first list faults by itself, what is put in does not.
+            own.weights = [3, 3, 4];
+            own.unordered = 300;
+            own.avoid = 0;
+            foreign.weights = [3, 3, 4];
+            foreign.unordered = 0;
+            foreign.avoid = 1000;
+        }
+        _ => {}
+    }
     own.cores = (0..8).collect();
     for i in (1..8).rev() {
         own.cores.swap(i, rng.under(i + 1));
@@ -677,27 +685,38 @@ fn pair(rng: &mut Rng) -> Case {
             j += 1;
         }
     }
-    let mut c = case("pair of lists", any_buffers(rng, k), calls);
+    let mut c = case(any_buffers(rng, k), calls);
     c.pair = Some((k as u64, flags));
     c
 }
 
+/// A kind of random case: its name, and how often it is made in 1000.
+struct Kind {
+    name: &'static str,
+    weight: usize,
+    make: fn(&mut Rng) -> Case,
+}
+
+pub const PAIRS: &str = "pair of lists";
+const KINDS: [Kind; 8] = [
+    Kind { name: "log from opening", weight: 190, make: log },
+    Kind { name: "deep log", weight: 60, make: deep_log },
+    Kind { name: "long log", weight: 5, make: long_log },
+    Kind { name: "fit desk", weight: 320, make: drawn_desk },
+    Kind { name: "unfit desk", weight: 125, make: unfit_desk },
+    Kind { name: "changed desk", weight: 150, make: changed_desk },
+    Kind { name: "opening", weight: 60, make: opening },
+    Kind { name: PAIRS, weight: 90, make: pair },
+];
+
 pub fn random(rng: &mut Rng) -> Case {
-    match rng.weighted(&[200, 60, 5, 330, 130, 160, 60, 90]) {
-        0 => log(rng),
-        1 => deep_log(rng),
-        2 => long_log(rng),
-        3 => drawn_desk(rng),
-        4 => unfit_desk(rng),
-        5 => changed_desk(rng),
-        6 => opening(rng),
-        _ => pair(rng),
-    }
+    let kind = rng.weighted(&KINDS.map(|k| k.weight));
+    Case { name: KINDS[kind].name, ..(KINDS[kind].make)(rng) }
 }
 
 // ---------------------------------------------------------------------- fixed
 
-/// Records in short: "c:t" with t a take as 3E, 3r, 3R, a release as -3, or an event:
+/// Records in short: "c:t" with t an acquire as 3E, 3r, 3R, a release as -3, or an event:
 /// h+ h- s+ s- (hard or soft on or off), S+ S- H+ H- (enter or exit a handler).
 fn read(text: &str) -> Vec<Rec> {
     let mut core = 0;
@@ -754,8 +773,8 @@ pub fn hand_logs() -> Vec<HandLog> {
         ("P12 without", 8, "0:6E -6 S+ 6E", 1),
         ("depth 20", 8, &twenty, 0),
         ("depth 21", 8, &twenty_one, 8),
-        ("exit hard with a hold", 8, "0:H+ 1E H-", 7),
-        ("exit soft with a hold", 8, "0:S+ 1E S-", 7),
+        ("exit hard with a held lock", 8, "0:H+ 1E H-", 7),
+        ("exit soft with a held lock", 8, "0:S+ 1E S-", 7),
         ("exit hard in state 0", 8, "0:H-", 6),
         ("release of what isn't held", 8, "0:1E -2", 5),
         ("release in another frame", 8, "0:1E S+ -1", 5),
@@ -769,31 +788,50 @@ pub fn hand_logs() -> Vec<HandLog> {
         ("across frames: back in the task", 8, "0:0E S+ 5E -5 S- 1E", 0),
         ("oldest released: modes", 8, "0:0r 0R -0", 0),
         ("oldest released: order", 8, "0:0R 1R 0R -0", 0),
-        ("oldest released: order and arrows", 8, "0:0R 1E 0R -0 2E -2 -1 -0", 0),
+        ("oldest released: order and dependencies", 8, "0:0R 1E 0R -0 2E -2 -1 -0", 0),
         ("oldest released: in a handler", 8, "7:H+ 3r 3R 3R -3 -3 -3 H-", 0),
         // Reach by class alone.
         ("class once", 8, "0:0E 1R -1 -0 0E 2E -2 -0 2E 1E -1 -2 1R 0E", 1),
         ("class once, other numbers", 8, "0:3E 0R -0 -3 3E 5E -5 -3 5E 0E -0 -5 0r 3E", 1),
         ("class once, N walked before R", 8, "0:0E 1E -1 -0 1E 2R -2 -1 0E 3E -3 -0 3E 2E -2 -3 2R 0E", 1),
-        // Marks at other records than takes.
+        // Marks at other records than acquires.
         ("mark at hard on", 8, "0:H+ 1E -1 H- h- 1E h+", 1),
         ("mark at soft on", 8, "0:S+ 1E -1 S- s- 1E s+", 1),
         ("mark at exit hard", 8, "0:h- s- 1E h+ H+ H- s+", 0),
         ("mark at exit soft", 8, "2:S+ h- 1E h+ -1 S- 2E s-", 0),
         ("mark at a release", 8, "0:h- 1E 2E h+ -2", 0),
         ("mark in a soft handler", 8, "1:S+ h- 1E h+ H+ 2E -2 H- -1 S-", 0),
-        ("newest hold only", 8, "0:0E 1R 2E 3R 4E 1:4E 0E", 1),
+        ("newest held lock only", 8, "0:0E 1R 2E 3R 4E 1:4E 0E", 1),
         ("hard over 1", 8, "0:s- H+ 1E -1 H- s+", 0),
         ("all states", 8, "0:h- h- h+ h+ s- s- h- h- s+ s- h+ s+ S+ h- h- h+ h+ H+ H- S- s- H+ H- s+ H+ H-", 0),
-        ("a self circle by soft", 1, "0:0R S- ", 6),
+        ("exit soft in a task", 1, "0:0R S- ", 6),
         ("K of 1", 1, "0:0R 0R -0 0R 1:0R 2:0R H+ 0R", 0),
         ("K of 1, fault", 1, "0:0r -0 H+ 0r", 1),
     ];
     rows.into_iter().map(|(name, k, text, last)| HandLog { name, k, records: read(text), last }).collect()
 }
 
-/// The cases made by hand and those that go through all of a small space.
+/// The kinds of fixed cases, and how many there are of each.
+pub const FIXED: [(&str, u64); 7] = [
+    (HAND_LOGS, 48),
+    (EACH_OPENING, 2536),
+    (EACH_CLAUSE, 2250),
+    (EACH_DESK_BYTE, 27_564),
+    (EACH_STATE, 5400),
+    (ALL_OF_1, 4352),
+    (ALL_OF_2, 65_536),
+];
+const HAND_LOGS: &str = "hand logs";
+const EACH_OPENING: &str = "each opening";
+const EACH_CLAUSE: &str = "each clause alone";
+const EACH_DESK_BYTE: &str = "each desk byte";
+const EACH_STATE: &str = "each state and kind";
+const ALL_OF_1: &str = "all of K = 1";
+const ALL_OF_2: &str = "all sheets of K = 2";
+
+/// The cases made by hand and those that go through all of a small space, until one is answered with false.
 pub fn fixed(each: &mut dyn FnMut(Case) -> bool) {
+    let mut each = |name: &'static str, case: Case| each(Case { name, ..case });
     let rng = &mut Rng::new(20_260_101);
     // Hand logs, every class asked after each record, and steps after the end.
     for log in hand_logs() {
@@ -804,7 +842,7 @@ pub fn fixed(each: &mut dyn FnMut(Case) -> bool) {
             ask_all(log.k, &mut calls);
         }
         calls.extend(some_calls(rng, log.k, 6));
-        if !each(case(log.name, any_buffers(rng, log.k), calls)) {
+        if !each(HAND_LOGS, case(any_buffers(rng, log.k), calls)) {
             return;
         }
     }
@@ -816,7 +854,7 @@ pub fn fixed(each: &mut dyn FnMut(Case) -> bool) {
         for (d, s) in [(578, size * size), (578, 4096), (577, size * size), (578, short), (577, short), (0, 0), (600, 5000), (578, 0)] {
             let mut calls = vec![Call::Open(k)];
             calls.extend(some_calls(rng, size.max(1), 2));
-            if !each(case("each opening", (rng.bytes(d), rng.bytes(s), rng.bytes(1 + 3 * size)), calls)) {
+            if !each(EACH_OPENING, case((rng.bytes(d), rng.bytes(s), rng.bytes(1 + 3 * size)), calls)) {
                 return;
             }
         }
@@ -828,7 +866,7 @@ pub fn fixed(each: &mut dyn FnMut(Case) -> bool) {
             let k = any_k(rng);
             let mut buffers = fit_desk(rng, k);
             if made % 2 == 0 {
-                // Holds consistent with a fresh state, so that nothing else is wrong.
+                // Fresh cores, so that nothing else is wrong.
                 let s = Shadow::opened(k);
                 buffers = (s.desk, s.sheet, s.slip);
             }
@@ -848,7 +886,7 @@ pub fn fixed(each: &mut dyn FnMut(Case) -> bool) {
             }
             let name = reference::CLAUSES[clause];
             if clause == 5 && (0..8).any(|c| buffers.0[2 + c] > 8 && (buffers.0[11 + 3 * c] > 0 || buffers.0[12 + 3 * c] > 0)) {
-                // A state over 8 with handler holds is wrong twice: leave them out.
+                // A state over 8 with locks held in handlers is wrong twice: leave them out.
                 continue;
             }
             let mut calls: Vec<Call> = (0..10u8).map(|kind| Call::Step(Rec::new(rng.under(8) as u8, kind, 0, 0))).collect();
@@ -857,15 +895,15 @@ pub fn fixed(each: &mut dyn FnMut(Case) -> bool) {
             for class in [0, k as u64 - 1, k as u64, 255, 256, 1 << 32, u64::MAX] {
                 calls.push(Call::Ask(class));
             }
-            let mut c = case("each clause alone", buffers, calls);
+            let mut c = case(buffers, calls);
             c.clause = Some(name);
             made += 1;
-            if !each(c) {
+            if !each(EACH_CLAUSE, c) {
                 return;
             }
         }
     }
-    // Each byte of the desk with each value, on an opened desk with some holds.
+    // Each byte of the desk with each value, on an opened desk with some held locks.
     for at in 0..578 {
         let k = [1, 3, 8, 64][at % 4];
         let mut shadow = Shadow::opened(k);
@@ -880,24 +918,24 @@ pub fn fixed(each: &mut dyn FnMut(Case) -> bool) {
             let mut desk = shadow.desk.clone();
             desk[at] = value;
             let calls = some_calls(rng, k, 2);
-            if !each(case("each desk byte", (desk, shadow.sheet.clone(), shadow.slip.clone()), calls)) {
+            if !each(EACH_DESK_BYTE, case((desk, shadow.sheet.clone(), shadow.slip.clone()), calls)) {
                 return;
             }
         }
     }
     // Each state with each kind, with empty and with standing frames.
     for state in 0..9u8 {
-        for holds in [0, 1, 20] {
+        for held in [0, 1, 20] {
             let mut desk = Shadow::opened(3).desk;
             desk[2 + 4] = state;
-            let here = 12 + [0, 0, 0, 0, 1, 1, 2, 2, 2][usize::from(state)];
-            desk[10 + here] = holds;
-            desk[98 + 20 * here..98 + 20 * here + usize::from(holds)].fill(1 + 64 * 2);
+            let here = 12 + FRAME[usize::from(state)];
+            desk[10 + here] = held;
+            desk[98 + 20 * here..98 + 20 * here + usize::from(held)].fill(1 + 64 * 2);
             for kind in 0..10 {
                 for class in 0..5 {
                     for mode in 0..4 {
                         let calls = vec![Call::Step(Rec::new(4, kind, class, mode)), Call::Ask(1)];
-                        if !each(case("each state and kind", (desk.clone(), vec![0; 9], vec![9; 10]), calls)) {
+                        if !each(EACH_STATE, case((desk.clone(), vec![0; 9], vec![9; 10]), calls)) {
                             return;
                         }
                     }
@@ -912,7 +950,7 @@ pub fn fixed(each: &mut dyn FnMut(Case) -> bool) {
             let mut desk = Shadow::opened(1).desk;
             desk[34] = mark;
             let calls = vec![Call::Ask(0), tick.clone(), Call::Ask(0), Call::Ask(1)];
-            if !each(case("all of K = 1", (desk, vec![kinds], vec![7; 4]), calls)) {
+            if !each(ALL_OF_1, case((desk, vec![kinds], vec![7; 4]), calls)) {
                 return;
             }
         }
@@ -921,7 +959,7 @@ pub fn fixed(each: &mut dyn FnMut(Case) -> bool) {
         let desk = Shadow::opened(2).desk;
         let sheet = vec![all as u8 & 15, (all >> 4) as u8 & 15, (all >> 8) as u8 & 15, (all >> 12) as u8];
         let calls = vec![tick.clone(), Call::Ask(0), Call::Ask(1)];
-        if !each(case("all sheets of K = 2", (desk, sheet, vec![7; 7]), calls)) {
+        if !each(ALL_OF_2, case((desk, sheet, vec![7; 7]), calls)) {
             return;
         }
     }

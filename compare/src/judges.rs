@@ -1,9 +1,41 @@
-//! The judges that can stand in the subject's place: the library by its C calls, or a
-//! planted copy. The library's calls are made on the buffers as they are and, one call
-//! in eight, on copies that end exactly at an unreadable page, so that a read or a
-//! write past a slice's length stops the program.
+//! The judges: the subject, which is the library by its C calls or a planted judge, and
+//! the reference and the fast judge beside it. The library's calls are made on the
+//! buffers as they are and, one call in eight, on copies that end exactly at an
+//! unreadable page, so that a read or a write past a slice's length stops the program.
 
-use crate::planted::{self, Plant};
+use crate::fast;
+
+pub type Open = fn(u64, &mut [u8], &mut [u8]) -> u8;
+pub type Step = fn(&mut [u8], &mut [u8], &mut [u8], &[u8]) -> u8;
+pub type Ask = fn(&[u8], &[u8], u64, &mut u64, &mut u32) -> u8;
+
+/// A judge's three calls.
+#[derive(Clone, Copy)]
+pub struct Judge {
+    pub open: Open,
+    pub step: Step,
+    pub ask: Ask,
+}
+
+pub const REFERENCE: Judge = Judge { open: reference::open, step: reference::step, ask: reference::ask };
+pub const FAST: Judge = Judge { open: fast::open, step: fast::step, ask: fast::ask };
+
+/// Those that are compared.
+pub struct Judges {
+    pub subject: Subject,
+    pub reference: Judge,
+    pub fast: Judge,
+}
+
+impl Judges {
+    pub fn beside(subject: Subject) -> Judges {
+        Judges { subject, reference: REFERENCE, fast: FAST }
+    }
+    /// The same judge in every place: no two differ, whatever is wrong with it.
+    pub fn all(judge: Judge) -> Judges {
+        Judges { subject: Subject::Planted(judge), reference: judge, fast: judge }
+    }
+}
 
 extern "C" {
     fn plungerowl_open(k: u64, desk: *mut u8, desk_len: usize, sheet: *mut u8, sheet_len: usize) -> u8;
@@ -58,7 +90,7 @@ impl Edge {
         }
     }
     #[allow(clippy::mut_from_ref)]
-    fn hold(&mut self, bytes: &[u8]) -> &mut [u8] {
+    fn copy(&mut self, bytes: &[u8]) -> &mut [u8] {
         assert!(bytes.len() <= ROOM);
         // Within the mapped room; nobody else refers to it while &mut self lives.
         let slice = unsafe { std::slice::from_raw_parts_mut(self.end.sub(bytes.len()), bytes.len()) };
@@ -69,7 +101,7 @@ impl Edge {
 
 pub enum Subject {
     Library(Box<Edges>),
-    Planted(Plant),
+    Planted(Judge),
 }
 
 pub struct Edges {
@@ -98,13 +130,13 @@ impl Subject {
 
     pub fn open(&mut self, k: u64, desk: &mut [u8], sheet: &mut [u8]) -> u8 {
         match self {
-            Subject::Planted(_) => planted::open(k, desk, sheet),
+            Subject::Planted(judge) => (judge.open)(k, desk, sheet),
             Subject::Library(e) => {
                 if !e.turn() {
                     return library::open(k, desk, sheet);
                 }
                 let [a, b, ..] = &mut e.edges;
-                let (d, s) = (a.hold(desk), b.hold(sheet));
+                let (d, s) = (a.copy(desk), b.copy(sheet));
                 let answer = library::open(k, d, s);
                 desk.copy_from_slice(d);
                 sheet.copy_from_slice(s);
@@ -115,13 +147,13 @@ impl Subject {
 
     pub fn step(&mut self, desk: &mut [u8], sheet: &mut [u8], slip: &mut [u8], record: &[u8]) -> u8 {
         match self {
-            Subject::Planted(p) => planted::step(*p, desk, sheet, slip, record),
+            Subject::Planted(judge) => (judge.step)(desk, sheet, slip, record),
             Subject::Library(e) => {
                 if !e.turn() {
                     return library::step(desk, sheet, slip, record);
                 }
                 let [a, b, c, f] = &mut e.edges;
-                let (d, s, l, r) = (a.hold(desk), b.hold(sheet), c.hold(slip), f.hold(record));
+                let (d, s, l, r) = (a.copy(desk), b.copy(sheet), c.copy(slip), f.copy(record));
                 let answer = library::step(d, s, l, r);
                 desk.copy_from_slice(d);
                 sheet.copy_from_slice(s);
@@ -134,13 +166,13 @@ impl Subject {
 
     pub fn ask(&mut self, desk: &[u8], sheet: &[u8], class: u64, word: &mut u64, count: &mut u32) -> u8 {
         match self {
-            Subject::Planted(p) => planted::ask(*p, desk, sheet, class, word, count),
+            Subject::Planted(judge) => (judge.ask)(desk, sheet, class, word, count),
             Subject::Library(e) => {
                 if !e.turn() {
                     return library::ask(desk, sheet, class, word, count);
                 }
                 let [a, b, ..] = &mut e.edges;
-                let (d, s) = (a.hold(desk), b.hold(sheet));
+                let (d, s) = (a.copy(desk), b.copy(sheet));
                 let answer = library::ask(d, s, class, word, count);
                 assert!(d == desk && s == sheet, "a question changed its buffers");
                 answer

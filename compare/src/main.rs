@@ -1,123 +1,160 @@
 //! compare: runs the proved library and the independent reference over many inputs and
 //! compares after every call: the answer, every byte of desk and sheet with the guards
-//! around them, word and count; slips as far as the document fixes them.
-//!
-//!   compare [--seconds N] [--cases N] [--seed S]   compare the library (default 60 s)
-//!   compare --planted NAME [..]                    a wrong judge in the library's place
-//!   compare --selftest                             each planted judge must be caught
-//!   compare --bench                                library beside a fast Rust judge
+//! around them, word and count; slips as far as the document fixes them. See HELP.
 
 mod bench;
+mod claim;
+mod drawing;
 mod fast;
 mod gen;
 mod judges;
+mod needs;
 mod planted;
 mod rng;
 mod run;
+mod selftest;
 
-use judges::Subject;
-use planted::{Plant, PLANTS};
+use judges::{Judges, Subject};
+use needs::Need;
+use planted::PLANTS;
 use rng::Rng;
-use run::{Counts, Diff};
+use run::{Case, Counts, Diff};
 use std::process::ExitCode;
 use std::time::{Duration, Instant};
 
-pub struct Limits {
+const HELP: &str = "\
+compare: the library beside the reference, call by call and byte by byte
+
+  compare [OPTION..]       fixed cases, then random ones until the time is over
+  compare --selftest       shows that it can fail: each planted judge must be caught, and
+                           each minimum missed by a run without what it counts
+  compare --bench          times the library beside ordinary Rust
+  compare --list           names for --planted and --without
+
+  --seconds N              stop after N seconds (60; without a limit if --cases is given)
+  --cases N                stop after N random cases
+  --seed S                 other random cases (1)
+  --planted NAME           a wrong judge in the library's place
+  --both                   the planted judge in the place of the reference and the fast
+                           judge too: then only demand 3's pairs of lists can show it
+  --without NAME           leave out what is counted under this name
+
+Exit status: 0 no difference and every minimum met; 1 a difference, a wrong answer or a
+minimum not met; 2 wrong arguments. A run of fewer than 5,000 random cases misses a
+minimum unless --cases asks for no more.
+";
+
+/// What a run goes through.
+struct Limits {
     seconds: u64,
     cases: u64,
     seed: u64,
-    fixed: bool,
-    random: bool,
+    without: Option<Need>,
+}
+
+impl Limits {
+    /// The case as it is run, or None.
+    fn pass(&self, mut case: Case) -> Option<Case> {
+        let stays = self.without.is_none_or(|need| need.leave_out(&mut case));
+        stays.then_some(case)
+    }
+
+    /// Goes through the fixed cases until one is answered with false.
+    fn fixed(&self, each: &mut dyn FnMut(Case) -> bool) {
+        gen::fixed(&mut |case| self.pass(case).is_none_or(&mut *each));
+    }
+
+    /// Goes through the random cases likewise. Each has its own seed, so that a case is made again by its number.
+    fn random(&self, end: Instant, each: &mut dyn FnMut(Case) -> bool) {
+        let (mut number, mut run) = (0u64, 0);
+        while run < self.cases && self.without != Some(Need::RandomCases) && Instant::now() < end {
+            let seed = self.seed.wrapping_mul(0x2545_F491_4F6C_DD1D) ^ number.wrapping_mul(0xD134_2543_DE82_EF95);
+            number += 1;
+            let Some(case) = self.pass(gen::random(&mut Rng::new(seed))) else { continue };
+            run += 1;
+            if !each(case) {
+                return;
+            }
+        }
+    }
+}
+
+/// What was met in the fixed and in the random cases.
+#[derive(Default)]
+struct Met {
+    fixed: Counts,
+    random: Counts,
+}
+
+type Failed = Option<(Case, Diff)>;
+
+/// Runs a case; false if it failed.
+fn try_case(case: Case, judges: &mut Judges, counts: &mut Counts, failed: &mut Failed) -> bool {
+    if let Err(diff) = run::run(&case, judges, counts) {
+        *failed = Some((case, diff));
+    }
+    failed.is_none()
 }
 
 /// Runs until a difference or a limit.
-fn compare(subject: &mut Subject, limits: &Limits, counts: &mut Counts) -> Result<(), (run::Case, Diff)> {
+fn compare(judges: &mut Judges, limits: &Limits, met: &mut Met) -> Failed {
     let end = Instant::now() + Duration::from_secs(limits.seconds);
     let mut failed = None;
-    if limits.fixed {
-        gen::fixed(&mut |case| {
-            if let Err(diff) = run::run(&case, subject, counts) {
-                failed = Some((case, diff));
-            }
-            failed.is_none()
-        });
-        if let Some(failed) = failed {
-            return Err(failed);
-        }
+    limits.fixed(&mut |case| try_case(case, judges, &mut met.fixed, &mut failed));
+    if failed.is_none() {
+        limits.random(end, &mut |case| try_case(case, judges, &mut met.random, &mut failed));
     }
-    if !limits.random {
-        return Ok(());
-    }
-    let mut number = 0u64;
-    while number < limits.cases && Instant::now() < end {
-        // Each case has its own seed, so that a case is made again by its number.
-        let mut rng = Rng::new(limits.seed.wrapping_mul(0x2545_F491_4F6C_DD1D) ^ number.wrapping_mul(0xD134_2543_DE82_EF95));
-        let case = gen::random(&mut rng);
-        if let Err(diff) = run::run(&case, subject, counts) {
-            return Err((case, diff));
-        }
-        number += 1;
-    }
-    Ok(())
+    failed
 }
 
-fn print_difference(case: &run::Case, diff: &Diff, subject: &mut Subject, counts: &Counts) {
-    println!("DIFFERENCE ({}) after {} calls, in case {}, at call {}: {}", diff.judge, counts.calls, counts.cases, diff.call + 1, diff.text);
-    let small = run::shrink(case, diff.judge, subject);
-    if let Err(d) = run::run(&small, subject, &mut Counts::default()) {
+fn print_difference(case: &Case, diff: &Diff, judges: &mut Judges, met: &Met) {
+    println!(
+        "DIFFERENCE ({}) after {} calls, in case {}, at call {}: {}",
+        diff.judge, met.fixed.calls + met.random.calls, met.fixed.cases + met.random.cases, diff.call + 1, diff.text
+    );
+    let small = run::shrink(case, diff.judge, judges);
+    if let Err(d) = run::run(&small, judges, &mut Counts::default()) {
         println!("smallest found: call {}: {}", d.call + 1, d.text);
     }
     print!("{}", run::describe(&small));
 }
 
-/// What was met; false if something never was.
-fn report(counts: &Counts) -> bool {
-    let mut whole = true;
-    println!("{} cases, {} calls compared", counts.cases, counts.calls);
-    for (name, met, wanted) in [
-        ("opening", &counts.open, &[0, 2][..]),
-        ("step", &counts.step, &[0, 1, 3, 4, 5, 6, 7, 8, 10, 11][..]),
-        ("question", &counts.ask, &[0, 4, 11][..]),
-    ] {
-        let row: Vec<String> =
-            (0..16).filter(|i| met[*i] > 0 || wanted.contains(i)).map(|i| format!("{i}: {}", met[i])).collect();
+/// What was met; false if something was met too seldom, or should not be met at all.
+fn report(met: &Met, limits: &Limits) -> bool {
+    let Met { fixed, random } = met;
+    println!("{} cases, {} calls compared; of the random cases:", fixed.cases + random.cases, fixed.calls + random.calls);
+    for (name, answers) in [("opening", &random.open), ("step", &random.step), ("question", &random.ask)] {
+        let row: Vec<String> = (0..16).filter(|&i| answers[i] > 0).map(|i| format!("{i}: {}", answers[i])).collect();
         println!("{name:9} {}", row.join(", "));
-        for i in 0..16 {
-            if (met[i] == 0) == wanted.contains(&i) {
-                println!("NEVER MET, or met and not due: {name} {i}");
-                whole = false;
-            }
-        }
     }
     println!("unfit, first clause met (step, question):");
     for (i, clause) in reference::CLAUSES.iter().enumerate() {
-        println!("  {clause:32} {:>9} {:>9}", counts.clause_step[i], counts.clause_ask[i]);
-        // A question takes no slip.
-        if counts.clause_step[i] == 0 || (counts.clause_ask[i] == 0) != (*clause == "slip too short") {
-            println!("NEVER MET: {clause}");
-            whole = false;
-        }
+        println!("  {clause:32} {:>9} {:>9}", random.clause_step[i], random.clause_ask[i]);
     }
+    let [none, second, both] = random.pair_faults;
     println!(
-        "pairs of lists: {} ({} records in the second lists), no fault {}, fault in the second only {}, in both {}",
-        counts.pairs, counts.pair_records, counts.pair_faults[0], counts.pair_faults[1], counts.pair_faults[2]
+        "pairs of lists ({} records in the second lists): no fault {none}, fault in the second only {second}, in both {both}",
+        random.pair_records
     );
     println!(
-        "questions answered on closed desks {}, on open desks where the class reaches itself {}; accepted with a frame at depth 20: {}",
-        counts.asked_closed, counts.asked_faulty, counts.depth_20
+        "questions answered on closed desks {}, on open desks where the class reaches itself {}",
+        random.asked_closed, random.asked_itself
     );
-    println!("the subject's circles: longest {}, arrows by source hold {}, hard {}, soft {}",
-        counts.longest_circle, counts.sources[0], counts.sources[1], counts.sources[2]);
-    let mut hand = (0, 0);
-    for (name, cases, calls) in &counts.by_name {
-        if *cases == 1 && gen::hand_logs().iter().any(|l| l.name == *name) {
-            hand = (hand.0 + cases, hand.1 + calls);
-        } else {
-            println!("  {name:24} {cases:>9} cases {calls:>11} calls");
-        }
+    println!("from opening, 20th held lock {}, 21st refused {}", random.twentieth, random.twenty_first);
+    let [hold, hard, soft] = random.sources;
+    println!("the subject's cycles: longest {}, dependencies by source hold {hold}, hard {hard}, soft {soft}", random.longest_cycle);
+    for (name, cases, calls) in fixed.by_name.iter().chain(&random.by_name) {
+        println!("  {name:24} {cases:>9} cases {calls:>11} calls");
     }
-    println!("  {:24} {:>9} cases {:>11} calls", "hand logs", hand.0, hand.1);
-    whole
+    let under = needs::under(fixed, random, limits.cases);
+    for (need, met, least) in &under {
+        println!("MINIMUM NOT MET: {}: {met}, at least {least}", need.name());
+    }
+    let undue: Vec<(Need, u64)> = [fixed, random].into_iter().flat_map(needs::undue).collect();
+    for (need, met) in &undue {
+        println!("NO SUCH ANSWER: {}: {met}", need.name());
+    }
+    under.is_empty() && undue.is_empty()
 }
 
 /// The hand logs' answers as the document gives them, on the subject's own.
@@ -156,96 +193,98 @@ fn long_records(subject: &mut Subject) -> bool {
     well
 }
 
-fn selftest() -> bool {
-    let mut well = true;
-    // The copy without a plant must not differ.
-    let limits = Limits { seconds: 10, cases: 3000, seed: 7, fixed: true, random: true };
-    let mut counts = Counts::default();
-    match compare(&mut Subject::Planted(Plant::None), &limits, &mut counts) {
-        Ok(()) => println!("no plant: no difference in {} calls, as it should be", counts.calls),
-        Err((case, diff)) => {
-            println!("no plant, and yet:");
-            print_difference(&case, &diff, &mut Subject::Planted(Plant::None), &counts);
-            well = false;
-        }
+fn list() {
+    println!("planted judges (* also with --both):");
+    for p in PLANTS {
+        println!("{} {:20} {}", if p.breaks.is_some() { "*" } else { " " }, p.name, p.wrong);
     }
-    for (name, plant) in PLANTS {
-        // Once by the fixed cases alone, once by the random ones alone.
-        for (which, fixed) in [("fixed cases", true), ("random cases", false)] {
-            let limits = Limits { seconds: 20, cases: u64::MAX, seed: 7, fixed, random: !fixed };
-            let mut subject = Subject::Planted(plant);
-            let mut counts = Counts::default();
-            match compare(&mut subject, &limits, &mut counts) {
-                Err((case, diff)) if diff.judge == "subject" => {
-                    println!("--- {name}, {which}: caught");
-                    print_difference(&case, &diff, &mut subject, &counts);
-                }
-                Err((_, diff)) => {
-                    println!("--- {name}, {which}: NOT CAUGHT, {} differs instead: {}", diff.judge, diff.text);
-                    well = false;
-                }
-                Ok(()) => {
-                    println!("--- {name}, {which}: NOT CAUGHT in {} calls", counts.calls);
-                    well = false;
-                }
-            }
-        }
+    println!("counted, with the least number (in 100,000 random cases, but for the first {}):", 1 + gen::FIXED.len());
+    for (need, least) in needs::all() {
+        println!("  {:52} {least:>6}", need.name());
     }
-    println!("selftest: {}", if well { "each planted error was caught" } else { "FAILED" });
-    well
 }
 
-fn main() -> ExitCode {
-    let mut limits = Limits { seconds: 60, cases: u64::MAX, seed: 1, fixed: true, random: true };
-    let (mut plant, mut seconds) = (None, None);
-    let mut args = std::env::args().skip(1);
-    let usage = || {
-        eprintln!("usage: compare [--seconds N] [--cases N] [--seed S] [--planted NAME] | --selftest | --bench");
-        eprintln!("planted: {}", PLANTS.map(|p| p.0).join(", "));
-        ExitCode::from(2)
-    };
+/// Does what the arguments ask; whether all was well, or what is wrong with the arguments.
+fn obey(mut args: impl Iterator<Item = String>) -> Result<bool, String> {
+    let (mut seconds, mut cases, mut seed, mut without) = (None, None, 1, None);
+    let (mut plant, mut both) = (None, false);
     while let Some(arg) = args.next() {
-        if arg == "--selftest" {
-            return if selftest() { ExitCode::SUCCESS } else { ExitCode::FAILURE };
-        }
-        if arg == "--bench" {
-            return if bench::run() { ExitCode::SUCCESS } else { ExitCode::FAILURE };
-        }
-        let Some(value) = args.next() else { return usage() };
-        if arg == "--planted" {
-            let Some(p) = PLANTS.iter().find(|p| p.0 == value) else { return usage() };
-            plant = Some(p.1);
-            continue;
-        }
-        let Ok(n) = value.parse::<u64>() else { return usage() };
+        let mut value = || args.next().ok_or(format!("{arg} needs a value"));
+        let number = |value: String| value.parse::<u64>().map_err(|_| format!("{arg} needs a number, not {value}"));
+        let unknown = |value: String| format!("{arg}: no such name: {value}");
         match arg.as_str() {
-            "--seconds" => seconds = Some(n),
-            "--cases" => limits.cases = n,
-            "--seed" => limits.seed = n,
-            _ => return usage(),
+            "--help" => {
+                print!("{HELP}");
+                return Ok(true);
+            }
+            "--list" => {
+                list();
+                return Ok(true);
+            }
+            "--selftest" => return Ok(selftest::run()),
+            "--bench" => return Ok(bench::run()),
+            "--both" => both = true,
+            "--seconds" => seconds = Some(number(value()?)?),
+            "--cases" => cases = Some(number(value()?)?),
+            "--seed" => seed = number(value()?)?,
+            "--planted" => {
+                let name = value()?;
+                plant = Some(PLANTS.iter().find(|p| p.name == name).ok_or(unknown(name))?);
+            }
+            "--without" => {
+                let name = value()?;
+                let need = needs::all().into_iter().map(|(need, _)| need).find(|need| need.name() == name);
+                without = Some(need.ok_or(unknown(name))?);
+            }
+            _ => return Err(format!("unknown: {arg}")),
         }
     }
-    // Without --seconds, --cases alone is the limit.
-    limits.seconds = seconds.unwrap_or(if limits.cases == u64::MAX { 60 } else { 1_000_000 });
-    let mut subject = plant.map_or_else(Subject::library, Subject::Planted);
+    let mut judges = match plant {
+        None if both => return Err("--both needs --planted".into()),
+        None => Judges::beside(Subject::library()),
+        Some(p) if both => Judges::all(p.judge),
+        Some(p) => Judges::beside(Subject::Planted(p.judge)),
+    };
+    let limits = Limits {
+        seconds: seconds.unwrap_or(if cases.is_none() { 60 } else { 1_000_000 }),
+        cases: cases.unwrap_or(u64::MAX),
+        seed,
+        without,
+    };
+    let name = plant.map_or("the library".into(), |p| format!("planted {} ({})", p.name, p.wrong));
+    println!("subject: {name}; seed {seed}");
+    Ok(full_run(&mut judges, &limits))
+}
+
+/// Compares and reports; whether nothing differed and every minimum was met.
+fn full_run(judges: &mut Judges, limits: &Limits) -> bool {
     let started = Instant::now();
-    let mut counts = Counts::default();
-    println!("subject: {}; seed {}", plant.map_or("the library".into(), |p| format!("planted {p:?}")), limits.seed);
-    if let Err((case, diff)) = compare(&mut subject, &limits, &mut counts) {
-        print_difference(&case, &diff, &mut subject, &counts);
-        return ExitCode::FAILURE;
+    let mut met = Met::default();
+    if let Some((case, diff)) = compare(judges, limits, &mut met) {
+        print_difference(&case, &diff, judges, &met);
+        return false;
     }
-    let whole = report(&counts);
-    let hand = hand_answers(&mut subject) & long_records(&mut subject);
-    if let Subject::Library(edges) = &subject {
+    let whole = report(&met, limits);
+    let right = hand_answers(&mut judges.subject) & long_records(&mut judges.subject);
+    if let Subject::Library(edges) = &judges.subject {
         println!("{} of the library's calls were made at the edge of an unreadable page", edges.edge_calls());
     }
     println!("{:.1} s", started.elapsed().as_secs_f64());
-    if whole && hand {
-        println!("no difference");
-        ExitCode::SUCCESS
-    } else {
-        println!("no difference, but not everything was met or a hand log's or a long record's answer is wrong");
-        ExitCode::FAILURE
+    println!("{}", match (whole, right) {
+        (true, true) => "no difference",
+        (false, true) => "no difference, but see the lines in capitals",
+        _ => "no difference, but the answer to a hand log or to a long record is wrong",
+    });
+    whole && right
+}
+
+fn main() -> ExitCode {
+    match obey(std::env::args().skip(1)) {
+        Ok(true) => ExitCode::SUCCESS,
+        Ok(false) => ExitCode::FAILURE,
+        Err(text) => {
+            eprintln!("compare: {text} (see compare --help)");
+            ExitCode::from(2)
+        }
     }
 }

@@ -2,8 +2,8 @@
 //! file runs a case on subject, reference and fast judge, and compares after every
 //! call.
 
-use crate::fast;
-use crate::judges::Subject;
+use crate::claim;
+use crate::judges::Judges;
 
 /// A record of 0 to 12 bytes.
 #[derive(Clone, Copy, PartialEq, Eq)]
@@ -60,6 +60,7 @@ pub struct Case {
 }
 
 pub struct Diff {
+    /// The judge that is wrong, or the part of demand 3's claim that is broken.
     pub judge: &'static str,
     pub call: usize,
     pub text: String,
@@ -74,13 +75,17 @@ pub struct Counts {
     pub ask: [u64; 16],
     pub clause_step: [u64; 15],
     pub clause_ask: [u64; 15],
-    pub pairs: u64,
     pub pair_records: u64,
-    pub pair_faults: [u64; 3], // none, in the second only, in both
+    /// Pairs of lists with no fault, with one in the second only, in both.
+    pub pair_faults: [u64; 3],
     pub asked_closed: u64,
-    pub asked_faulty: u64,
-    pub depth_20: u64,
-    pub longest_circle: u8,
+    /// Questions on open desks where the class reaches itself.
+    pub asked_itself: u64,
+    /// From opening: accepted acquires that fill a frame, and those refused for a full one.
+    pub twentieth: u64,
+    pub twenty_first: u64,
+    /// Of the subject's cycles: the longest, and dependencies by source.
+    pub longest_cycle: u8,
     pub sources: [u64; 3],
     pub by_name: Vec<(&'static str, u64, u64)>,
 }
@@ -125,7 +130,7 @@ fn first_difference(what: &str, a: &Guarded, b: &Guarded) -> Option<String> {
     Some(format!("{what} byte {place}{guard}: {} instead of {}", a.all[at], b.all[at]))
 }
 
-/// The slip after a call: unchanged unless the answer is 1; with 1 a true circle, and
+/// The slip after a call: unchanged unless the answer is 1; with 1 a true cycle, and
 /// the bytes past 1 + 3n unchanged.
 fn slip_wrong(answer: u8, bench: &Bench, before: &Guarded) -> Option<String> {
     if answer != 1 {
@@ -137,15 +142,22 @@ fn slip_wrong(answer: u8, bench: &Bench, before: &Guarded) -> Option<String> {
     }
     let n = usize::from(bench.slip.see()[0]);
     if !reference::true_circle(bench.desk.see(), bench.sheet.see(), bench.slip.see()) {
-        return Some(format!("slip shows no true circle: {:?}", &bench.slip.see()[..(1 + 3 * n).min(bench.slip.see().len())]));
+        return Some(format!("slip shows no true cycle: {:?}", &bench.slip.see()[..(1 + 3 * n).min(bench.slip.see().len())]));
     }
     let mut expected = before.clone();
     expected.all[FRONT..FRONT + 1 + 3 * n].copy_from_slice(&bench.slip.see()[..1 + 3 * n]);
     first_difference("slip past 1 + 3n", &bench.slip, &expected)
 }
 
+/// How many frames are full.
+fn full_frames(bench: &Bench) -> usize {
+    bench.desk.see()[10..34].iter().filter(|&&depth| depth == 20).count()
+}
+
 /// Runs the calls on the three benches; the subject's answers.
-fn run_calls(case: &Case, calls: &[&Call], subject: &mut Subject, counts: &mut Counts) -> Result<Vec<u8>, Diff> {
+fn run_calls(case: &Case, calls: &[&Call], judges: &mut Judges, counts: &mut Counts) -> Result<Vec<u8>, Diff> {
+    let Judges { subject, reference: other, fast } = judges;
+    let mut from_opening = false;
     let fresh = Bench {
         desk: Guarded::of(&case.desk),
         sheet: Guarded::of(&case.sheet),
@@ -168,15 +180,16 @@ fn run_calls(case: &Case, calls: &[&Call], subject: &mut Subject, counts: &mut C
         let (want, got, fast_got);
         match call {
             Call::Open(k) => {
-                want = reference::open(*k, refe.desk.lend(), refe.sheet.lend());
+                want = (other.open)(*k, refe.desk.lend(), refe.sheet.lend());
                 got = subject.open(*k, subj.desk.lend(), subj.sheet.lend());
-                fast_got = fast::open(*k, quick.desk.lend(), quick.sheet.lend());
+                fast_got = (fast.open)(*k, quick.desk.lend(), quick.sheet.lend());
                 counts.open[usize::from(want)] += 1;
+                from_opening |= want == 0;
             }
             Call::Step(record) => {
-                want = reference::step(refe.desk.lend(), refe.sheet.lend(), refe.slip.lend(), record.slice());
+                want = (other.step)(refe.desk.lend(), refe.sheet.lend(), refe.slip.lend(), record.slice());
                 got = subject.step(subj.desk.lend(), subj.sheet.lend(), subj.slip.lend(), record.slice());
-                fast_got = fast::step(quick.desk.lend(), quick.sheet.lend(), quick.slip.lend(), record.slice());
+                fast_got = (fast.step)(quick.desk.lend(), quick.sheet.lend(), quick.slip.lend(), record.slice());
                 counts.step[usize::from(want)] += 1;
                 if want == 11 {
                     let clause = reference::unfit(before.desk.see(), before.sheet.see(), Some(slip_before[2].see()));
@@ -192,18 +205,19 @@ fn run_calls(case: &Case, calls: &[&Call], subject: &mut Subject, counts: &mut C
                 } else if case.clause.is_some() {
                     return fail("reference", format!("{want} though {:?} was meant", case.clause));
                 }
-                if want == 0 && refe.desk.see()[10..34].contains(&20) {
-                    counts.depth_20 += 1;
+                if from_opening {
+                    counts.twentieth += u64::from(want < 2 && full_frames(&refe) > full_frames(&before));
+                    counts.twenty_first += u64::from(want == 8);
                 }
                 if want == 1 {
                     if refe.desk.see()[1] != 1 {
                         return fail("reference", "desk open after a 1".into());
                     }
                     let slip = subj.slip.see();
-                    counts.longest_circle = counts.longest_circle.max(slip[0]);
-                    for arrow in slip[1..].chunks_exact(3).take(usize::from(slip[0])) {
-                        if arrow[2] < 3 {
-                            counts.sources[usize::from(arrow[2])] += 1;
+                    counts.longest_cycle = counts.longest_cycle.max(slip[0]);
+                    for dependency in slip[1..].chunks_exact(3).take(usize::from(slip[0])) {
+                        if dependency[2] < 3 {
+                            counts.sources[usize::from(dependency[2])] += 1;
                         }
                     }
                 }
@@ -211,12 +225,12 @@ fn run_calls(case: &Case, calls: &[&Call], subject: &mut Subject, counts: &mut C
             Call::Ask(class) => {
                 const JUNK: u64 = 0xDEAD_BEEF_0BAD_F00D;
                 let (mut w0, mut c0) = (JUNK, 77);
-                want = reference::ask(refe.desk.see(), refe.sheet.see(), *class, &mut w0, &mut c0);
+                want = (other.ask)(refe.desk.see(), refe.sheet.see(), *class, &mut w0, &mut c0);
                 // Guards around word and count.
                 let (mut w, mut c) = ([JUNK; 3], [77u32; 3]);
                 got = subject.ask(subj.desk.see(), subj.sheet.see(), *class, &mut w[1], &mut c[1]);
                 let (mut w2, mut c2) = (JUNK, 77);
-                fast_got = fast::ask(quick.desk.see(), quick.sheet.see(), *class, &mut w2, &mut c2);
+                fast_got = (fast.ask)(quick.desk.see(), quick.sheet.see(), *class, &mut w2, &mut c2);
                 counts.ask[usize::from(want)] += 1;
                 if want == 11 {
                     let clause = reference::unfit(before.desk.see(), before.sheet.see(), None);
@@ -225,7 +239,7 @@ fn run_calls(case: &Case, calls: &[&Call], subject: &mut Subject, counts: &mut C
                 }
                 if want == 0 {
                     counts.asked_closed += u64::from(refe.desk.see()[1] == 1);
-                    counts.asked_faulty += u64::from(refe.desk.see()[1] == 0 && w0 >> class & 1 == 1);
+                    counts.asked_itself += u64::from(refe.desk.see()[1] == 0 && w0 >> class & 1 == 1);
                 }
                 if (w[1], c[1]) != (w0, c0) && got == want {
                     return fail("subject", format!("word {:#x} count {} instead of {w0:#x} {c0}", w[1], c[1]));
@@ -280,47 +294,56 @@ fn run_calls(case: &Case, calls: &[&Call], subject: &mut Subject, counts: &mut C
     Ok(answers)
 }
 
-pub fn run(case: &Case, subject: &mut Subject, counts: &mut Counts) -> Result<(), Diff> {
+pub fn run(case: &Case, judges: &mut Judges, counts: &mut Counts) -> Result<(), Diff> {
     let calls_before = counts.calls;
     counts.cases += 1;
-    let Some((k, first)) = &case.pair else {
-        run_calls(case, &case.calls.iter().collect::<Vec<_>>(), subject, counts)?;
-        tally(case.name, counts, calls_before);
-        return Ok(());
-    };
-    // Demand 3: two lists, each from its own opening.
-    let open = Call::Open(*k);
-    let second: Vec<&Call> = std::iter::once(&open).chain(&case.calls).collect();
-    let shorter: Vec<&Call> =
-        std::iter::once(&open).chain(case.calls.iter().zip(first).filter(|(_, f)| **f).map(|(c, _)| c)).collect();
-    let long = run_calls(case, &second, subject, counts)?;
-    let short = run_calls(case, &shorter, subject, counts)?;
-    tally(case.name, counts, calls_before);
-    let (long, short) = (&long[1..], &short[1..]);
-    let fail = |call: usize, text: String| Err(Diff { judge: "subject", call, text });
-    let fault = long.iter().position(|&a| a == 1).unwrap_or(usize::MAX);
-    let short_fault = short.iter().position(|&a| a == 1);
-    let mut i = 0;
-    for (at, &answer) in long.iter().enumerate() {
-        if at > fault && answer != 10 {
-            return fail(at + 1, format!("demand 3: {answer} after a fault in the second list"));
-        }
-        if first[at] {
-            if at < fault && answer != short[i] {
-                return fail(at + 1, format!("demand 3: {answer} in the second list, {} in the first", short[i]));
-            }
-            if Some(i) == short_fault && fault > at {
-                return fail(at + 1, "demand 3: the first list's fault doesn't close the second".into());
-            }
-            if short_fault.is_some_and(|f| i > f) && short[i] != 10 {
-                return fail(at + 1, format!("demand 3: {} after a fault in the first list", short[i]));
-            }
-            i += 1;
-        }
+    match &case.pair {
+        None => drop(run_calls(case, &case.calls.iter().collect::<Vec<_>>(), judges, counts)?),
+        Some((k, in_first)) => run_pair(case, *k, in_first, judges, counts)?,
     }
-    counts.pairs += 1;
-    counts.pair_records += long.len() as u64;
-    counts.pair_faults[if fault == usize::MAX { 0 } else if short_fault.is_none() { 1 } else { 2 }] += 1;
+    tally(case.name, counts, calls_before);
+    Ok(())
+}
+
+/// Demand 3: two lists, each from its own opening in buffers of its own.
+fn run_pair(case: &Case, k: u64, in_first: &[bool], judges: &mut Judges, counts: &mut Counts) -> Result<(), Diff> {
+    let fail = |judge: &'static str, call: usize, text: String| Err(Diff { judge, call, text });
+    let open = Call::Open(k);
+    let mut play = |case: &Case, places: &[usize]| {
+        let calls: Vec<&Call> = std::iter::once(&open).chain(places.iter().map(|&at| &case.calls[at])).collect();
+        run_calls(case, &calls, judges, counts)
+    };
+    let places: Vec<usize> = (0..case.calls.len()).collect();
+    let first_places: Vec<usize> = places.iter().copied().filter(|&at| in_first[at]).collect();
+    let answers = play(case, &places)?;
+    // Other bytes in the first list's buffers, the slip too.
+    let inverted = |bytes: &[u8]| bytes.iter().map(|b| !b).collect();
+    let other =
+        Case { desk: inverted(&case.desk), sheet: inverted(&case.sheet), slip: inverted(&case.slip), ..case.clone() };
+    let first_answers = play(&other, &first_places)?;
+    if (answers[0], first_answers[0]) != (0, 0) {
+        return fail("generator", 0, "a pair that isn't opened".into());
+    }
+    let record = |at: &usize| match &case.calls[*at] {
+        Call::Step(record) => Some(record),
+        _ => None,
+    };
+    let run = |name, answers, places: Vec<usize>| claim::Run {
+        name,
+        records: places.iter().filter_map(record).collect(),
+        answers,
+        places,
+    };
+    let first = run("first", &first_answers[1..], first_places);
+    let second = run("second", &answers[1..], places);
+    if second.records.len() != case.calls.len() || !claim::applies(&first, &second) {
+        return fail("generator", 0, "no pair of lists that demand 3 speaks of".into());
+    }
+    if let Some((part, at, text)) = claim::broken(k as usize, &first, &second) {
+        return fail(part, at + 1, format!("demand 3, {part}: {text}"));
+    }
+    counts.pair_records += second.answers.len() as u64;
+    counts.pair_faults[usize::from(second.fault().is_some()) + usize::from(first.fault().is_some())] += 1;
     Ok(())
 }
 
@@ -336,13 +359,13 @@ fn tally(name: &'static str, counts: &mut Counts, calls_before: u64) {
 }
 
 /// A smaller case that still differs: calls are left out, then bytes set to zero.
-pub fn shrink(case: &Case, judge: &'static str, subject: &mut Subject) -> Case {
+pub fn shrink(case: &Case, judge: &'static str, judges: &mut Judges) -> Case {
     let started = std::time::Instant::now();
     let mut best = case.clone();
     best.clause = None;
     let mut fails = |c: &Case| {
         started.elapsed().as_secs() < 10
-            && matches!(run(c, subject, &mut Counts::default()), Err(d) if d.judge == judge)
+            && matches!(run(c, judges, &mut Counts::default()), Err(d) if d.judge == judge)
     };
     if !fails(&best) {
         return case.clone();

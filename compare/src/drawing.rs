@@ -1,0 +1,136 @@
+//! The drawing of a list of records, as document 01 has it under "Two desks, one claim": it starts from zero and is worked
+//! out from K and the records, never from a desk or a sheet. No code is shared with a judge.
+
+use crate::run::Rec;
+
+/// No next state.
+pub const X: u8 = 255;
+/// The next state by state and kind 2 to 9.
+pub const NEXT: [[u8; 8]; 9] = [
+    [0, 2, 0, 1, 4, X, 6, X],
+    [1, 3, 0, 1, X, X, 7, X],
+    [0, 2, 2, 3, X, X, X, X],
+    [1, 3, 2, 3, X, X, X, X],
+    [4, 5, X, X, X, 0, 8, X],
+    [4, 5, X, X, X, X, X, X],
+    [X, X, X, X, X, X, X, 0],
+    [X, X, X, X, X, X, X, 1],
+    [X, X, X, X, X, X, X, 4],
+];
+/// The frame by state: 0 task, 1 soft, 2 hard.
+pub const FRAME: [usize; 9] = [0, 0, 0, 0, 1, 1, 2, 2, 2];
+
+#[derive(Clone, Copy)]
+struct HeldLock {
+    class: usize,
+    mode: u8,
+}
+
+impl HeldLock {
+    /// First letter of a dependency from it: 0 for E, 1 for S.
+    fn first(self) -> usize {
+        usize::from(self.mode != 0)
+    }
+    /// Arrival by a dependency to it: its class, 64 more if the second letter is R.
+    fn arrival(self) -> usize {
+        self.class + if self.mode == 2 { 64 } else { 0 }
+    }
+}
+
+#[derive(Default)]
+struct Core {
+    state: u8,
+    frames: [Vec<HeldLock>; 3],
+}
+
+/// A set of arrivals, bit by bit.
+type Set = u128;
+
+struct Drawing {
+    k: usize,
+    cores: [Core; 8],
+    /// By class and first letter: where its lock dependencies lead.
+    leads: [[Set; 2]; 64],
+    /// By level (hard, soft) and first letter: the classes with that unsafe mark.
+    is_unsafe: [[u64; 2]; 2],
+    /// By level: the arrivals at classes with a safe mark.
+    safe: [Set; 2],
+}
+
+impl Drawing {
+    /// Takes a record in; a refused one draws nothing.
+    fn take_in(&mut self, record: &Rec) {
+        let Some(named) = record.names() else { return };
+        let [_, _, _, kind, class, mode, ..] = record.bytes;
+        let lock = HeldLock { class: usize::from(class), mode };
+        let core = &mut self.cores[usize::from(named)];
+        let held = &mut core.frames[FRAME[usize::from(core.state)]];
+        match kind {
+            0 | 1 if lock.class >= self.k => return,
+            0 if held.len() == 20 => return,
+            0 => {
+                for older in held.iter() {
+                    self.leads[older.class][older.first()] |= 1 << lock.arrival();
+                }
+                held.push(lock);
+            }
+            1 => match held.iter().rposition(|h| h.class == lock.class) {
+                Some(newest) => drop(held.remove(newest)),
+                None => return,
+            },
+            _ => match NEXT[usize::from(core.state)][usize::from(kind) - 2] {
+                X => return,
+                _ if (kind == 7 || kind == 9) && !held.is_empty() => return,
+                next => core.state = next,
+            },
+        }
+        for held in &core.frames[FRAME[usize::from(core.state)]] {
+            for (level, safe_in, unsafe_in) in [(0, &[6, 7, 8][..], &[0, 1, 4][..]), (1, &[4, 5], &[0])] {
+                if safe_in.contains(&core.state) {
+                    self.safe[level] |= 1 << held.arrival();
+                }
+                if unsafe_in.contains(&core.state) {
+                    self.is_unsafe[level][held.first()] |= 1 << held.class;
+                }
+            }
+        }
+    }
+
+    /// Where one more dependency leads from an arrival: after R none that begins with S.
+    fn after(&self, arrival: usize) -> Set {
+        let class = arrival % 64;
+        let firsts = if arrival < 64 { 0..2 } else { 0..1 };
+        firsts.fold(0, |all, first| {
+            (0..2)
+                .filter(|&level| self.is_unsafe[level][first] >> class & 1 == 1)
+                .fold(all | self.leads[class][first], |all, level| all | self.safe[level])
+        })
+    }
+
+    /// Whether some arrival leads back to itself, by Warshall's closure.
+    fn has_closed_strong_path(&self) -> bool {
+        let arrivals = || (0..self.k).chain(64..64 + self.k);
+        let mut reach = [0; 128];
+        for a in arrivals() {
+            reach[a] = self.after(a);
+        }
+        for between in arrivals() {
+            for a in arrivals() {
+                if reach[a] >> between & 1 == 1 {
+                    reach[a] |= reach[between];
+                }
+            }
+        }
+        arrivals().any(|a| reach[a] >> a & 1 == 1)
+    }
+}
+
+/// The place of the record at which the list's drawing first has a closed strong path.
+pub fn first_closed<'a>(k: usize, list: impl Iterator<Item = &'a Rec>) -> Option<usize> {
+    let mut drawing =
+        Drawing { k, cores: Default::default(), leads: [[0; 2]; 64], is_unsafe: [[0; 2]; 2], safe: [0; 2] };
+    list.enumerate().find_map(|(at, record)| {
+        drawing.take_in(record);
+        drawing.has_closed_strong_path().then_some(at)
+    })
+}
