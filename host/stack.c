@@ -205,7 +205,7 @@ static size_t measure(const struct input *in, int call)
     return STACK_SIZE - overhead_of(call) - low;
 }
 
-/* Whether the call gets by with so many bytes and the guard page behind them. */
+/* Whether the call gets by with so many bytes and a guard page behind them. */
 static int suffices(const struct input *in, int call, size_t size)
 {
     size_t overhead = overhead_of(call);
@@ -251,7 +251,8 @@ static void put(struct input *in, unsigned from, unsigned to, unsigned kinds)
 /* A hard on in state 0: accepted, and changes nothing before the search. */
 static void put_hard_on(struct input *in)
 {
-    static const uint8_t hard_on[] = { 0x4C, 0x4B, 0, PLUNGEROWL_HARD_ON, 0, 0 };
+    static const uint8_t hard_on[] = { 0x4C, 0x4B, 0, PLUNGEROWL_HARD_ON,
+                                       0, 0 };
 
     memcpy(in->record, hard_on, sizeof hard_on);
 }
@@ -260,7 +261,8 @@ static void put_hard_on(struct input *in)
 static void put_acquire(struct input *in)
 {
     const uint8_t acquire[] = { 0x4C, 0x4B, 0, PLUNGEROWL_ACQUIRE,
-                                (uint8_t)(in->k - 1), PLUNGEROWL_RECURSIVE_READ };
+                                (uint8_t)(in->k - 1),
+                                PLUNGEROWL_RECURSIVE_READ };
 
     memcpy(in->record, acquire, sizeof acquire);
     in->desk[10] = 19;
@@ -335,8 +337,10 @@ static void make_input(struct input *in, unsigned k, unsigned shape)
     case 8: put_dense(in); break;
     case 9: put_dense(in); put(in, k - 1, 0, PLUNGEROWL_EN); break;
     case 10: put_dense(in); put_marks(in, 255); break;
-    case 11: put_chain(in, PLUNGEROWL_EN, PLUNGEROWL_EN); put_marks(in, 51); break;
-    case 12: put_chain(in, PLUNGEROWL_EN, PLUNGEROWL_EN); put_acquire(in); break;
+    case 11: put_chain(in, PLUNGEROWL_EN, PLUNGEROWL_EN);
+             put_marks(in, 51); break;
+    case 12: put_chain(in, PLUNGEROWL_EN, PLUNGEROWL_EN);
+             put_acquire(in); break;
     case 13: put_chain(in, PLUNGEROWL_EN, PLUNGEROWL_EN); put_acquire(in);
              put(in, k - 1, 0, PLUNGEROWL_EN); break;
     default: put_random(in); break;
