@@ -1,8 +1,9 @@
 /*
  * selftest.c - check the calls of libplungerowl.a against docs/FORMATS.md.
  *
- * A right check prints nothing, a wrong one prints a line. The last line gives
- * the counts. Exit status: 0 all right, 1 something wrong, 2 out of memory.
+ * A right check prints nothing, a wrong one prints a line; with the argument
+ * --first the first wrong one is the last. The last line gives the counts. Exit
+ * status: 0 all right, 1 something wrong, 2 out of memory.
  *
  * Beside the lent buffers stand copies of what should be in them. After every
  * call all bytes are compared with the copies: sizes, tails of longer buffers,
@@ -43,6 +44,7 @@ enum { E = 0, r = 1, R = 2 };
 
 static unsigned long checks;
 static unsigned long failures;
+static int only_first;
 static int open_met[256], step_met[256], ask_met[256];
 
 static void check(int right, const char *format, ...)
@@ -58,6 +60,8 @@ static void check(int right, const char *format, ...)
     vprintf(format, values);
     va_end(values);
     printf("\n");
+    if (only_first)
+        exit(1);
 }
 
 /* ----------------------------------------------------------- the buffers */
@@ -1406,8 +1410,9 @@ static void test_all(void)
     test_ask_marks();
 }
 
-int main(void)
+int main(int argc, char **argv)
 {
+    only_first = argc > 1 && strcmp(argv[1], "--first") == 0;
     for (sides = GUARD_BOTH; sides <= FENCE_BEHIND; sides++)
         test_all();
     /* The answers from 0 on: x given, - not. */
