@@ -580,7 +580,15 @@ static void test_reopen(void)
 static void test_p2(size_t tail)
 {
     static const uint8_t cycle[] = { 2, 1, 2, 0, 2, 2, 0, FILL, FILL, FILL };
+    static const uint8_t sheet[] = { 0, 0, 0, 0, 0, 2, 0, 2, 0 };
+    uint8_t desk[PLUNGEROWL_DESK_SIZE] = { 3, 1 };
     struct buffers b;
+
+    /* The example of docs/FORMATS.md, after its last record. */
+    desk[13] = 2;
+    desk[35] = desk[36] = 0x44;
+    desk[158] = 2;
+    desk[159] = 1;
 
     open_buffers(&b, 3, tail);
     expect_step(&b, 0, ACQUIRE, 1, E, 0, "P2 record 1");
@@ -591,6 +599,8 @@ static void test_p2(size_t tail)
     expect_reach(&b, 1, BIT(2), 1, "P2 before the fault, from 1");
     expect_reach(&b, 2, 0, 0, "P2 before the fault, from 2");
     expect_step(&b, 1, ACQUIRE, 1, E, 1, "P2 record 6");
+    check(memcmp(b.desk.bytes, desk, sizeof desk) == 0, "P2: desk");
+    check(memcmp(b.sheet.bytes, sheet, sizeof sheet) == 0, "P2: sheet");
     check(memcmp(b.slip.bytes, cycle, sizeof cycle) == 0, "P2: slip");
     expect_reach(&b, 0, 0, 0, "P2 closed, from 0");
     expect_reach(&b, 1, BIT(1) | BIT(2), 2, "P2 closed, from 1");

@@ -32,9 +32,10 @@
  * The declarations below match the library on x86-64 System V (Linux). A slice
  * crosses the interface as a pointer followed by a size_t length. The answer is
  * the low byte of the returned register (al) and nothing else of it: the other
- * bits of eax and rax are left as they happen to be, so a caller in another
- * language must declare the result as an unsigned 8-bit number or mask it, and
- * not take it for an int. Of the C library only memcpy and memset are needed.
+ * bits of rax are left as they happen to be (an opening with K = 0 was seen to
+ * return FFFFFFFFFFFFFF02). So a caller in another language must declare the
+ * result as an unsigned 8-bit number, or mask it, and not take it for an int.
+ * Of the C library only memcpy and memset are needed.
  */
 #ifndef PLUNGEROWL_H
 #define PLUNGEROWL_H
