@@ -99,7 +99,7 @@ uint8_t plungerowl_step(uint8_t *desk, size_t desk_len,
     case 27: if (record_len == 6) ((uint8_t *)record)[5] ^= 1; break;
     case 28: if (answer == PLUNGEROWL_OK) slip[0] = 0; break;
     case 29: if (answer == PLUNGEROWL_FAULT) slip[1 + 3 * slip[0]] = 0; break;
-    case 30: if (answer == PLUNGEROWL_STILL_HELD) desk[2 + record[2]] = 0; break;
+    case 30: if (answer == PLUNGEROWL_STILL_HELD) desk[2] ^= 1; break;
     case 31: if (answer == PLUNGEROWL_FRAME_FULL) sheet[0] |= 1; break;
     case 32: return answer == PLUNGEROWL_UNFIT && desk_len >= 2 && desk[1] == 1
                     ? PLUNGEROWL_CLOSED : answer;

@@ -737,7 +737,8 @@ static void open_used(struct buffers *b, size_t tail)
 
 static void test_refusal_3(void)
 {
-    uint8_t record[LONGEST_RECORD] = { 0x4C, 0x4B, 0, ACQUIRE, 3, E, 0x4C, 0x4B };
+    uint8_t record[LONGEST_RECORD] = { 0x4C, 0x4B, 0, ACQUIRE, 3, E,
+                                       0x4C, 0x4B };
     struct buffers b;
     unsigned i;
 
@@ -748,13 +749,13 @@ static void test_refusal_3(void)
     for (i = 0; i < 256; i++) {
         record[0] = (uint8_t)i;
         if (i != 0x4C)
-            expect_bytes(&b, record, 6, 3, "wrong first mark byte");
+            expect_bytes(&b, record, 6, 3, "wrong first byte");
     }
     record[0] = 0x4C;
     for (i = 0; i < 256; i++) {
         record[1] = (uint8_t)i;
         if (i != 0x4B)
-            expect_bytes(&b, record, 6, 3, "wrong second mark byte");
+            expect_bytes(&b, record, 6, 3, "wrong second byte");
     }
     for (i = 8; i < 256; i++)
         expect_step(&b, i, ACQUIRE, 3, E, 3, "core over 7");

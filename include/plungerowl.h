@@ -5,7 +5,7 @@
  * the three buffers, the rules, and the answers with their conditions.
  *
  * The library keeps no memory of its own. The caller lends three buffers and
- * hands them to every call:
+ * hands them to the calls:
  *
  *   desk   PLUNGEROWL_DESK_SIZE bytes       cores, held locks, usage marks
  *   sheet  PLUNGEROWL_SHEET_SIZE(K) bytes   lock dependencies seen
@@ -63,8 +63,8 @@ extern "C" {
 
 /*
  * Stack that a call needs, in bytes below the caller's stack pointer, at K = 64
- * (fewer classes need less). host/stack.c measures it and tries each with a
- * guard page behind. memcpy and memset are counted as glibc has them; what the
+ * (fewer classes need no more). host/stack.c measures it, and tries each call
+ * with a guard page behind so many bytes. memcpy and memset are counted as glibc has them; what the
  * dynamic linker takes to find them at a first call is not (link with -z now).
  * A step is the deepest: its search goes from class to class, up to K of them,
  * by two functions that call each other.
@@ -86,8 +86,8 @@ enum plungerowl_answer {
     PLUNGEROWL_FAULT = 1,
     /* open: K not 1 to 64, desk under 578 bytes, or sheet under K x K bytes */
     PLUNGEROWL_BAD_OPENING = 2,
-    /* step: not six bytes, wrong mark, core over 7, kind over 9, mode over 2,
-     * or a byte that should be 0 */
+    /* step: not six bytes, wrong signature, core over 7, kind over 9, mode over
+     * 2, or a byte that should be 0 */
     PLUNGEROWL_BAD_RECORD = 3,
     /* step: acquire or release of class K or more; ask: class K or more */
     PLUNGEROWL_BAD_CLASS = 4,
@@ -128,9 +128,9 @@ enum plungerowl_mode {
 };
 
 /*
- * Kinds of a dependency: summed in a sheet byte, single in a slip. First letter:
- * the held lock excludes everybody (E) or is shared (S). Second: the acquired
- * lock waits as a recursive read (R) or as any other (N).
+ * Kinds of a dependency: summed in a sheet byte, single in a slip. First
+ * letter: the held lock excludes everybody (E) or is shared (S). Second: the
+ * acquired lock waits as a recursive read (R) or as any other (N).
  */
 enum plungerowl_dependency {
     PLUNGEROWL_ER = 1,
