@@ -64,10 +64,10 @@ extern "C" {
 /*
  * Stack that a call needs, in bytes below the caller's stack pointer, at K = 64
  * (fewer classes need no more). host/stack.c measures it, and tries each call
- * with a guard page behind so many bytes. memcpy and memset are counted as glibc has them; what the
- * dynamic linker takes to find them at a first call is not (link with -z now).
- * A step is the deepest: its search goes from class to class, up to K of them,
- * by two functions that call each other.
+ * with so many bytes and a guard page behind them. memcpy and memset are counted
+ * as glibc has them; what the dynamic linker takes to find them at a first call
+ * is not (link with -z now). A step is the deepest: its search goes from class
+ * to class, up to K of them, by two functions that call each other.
  */
 #define PLUNGEROWL_STACK_OPEN 64
 #define PLUNGEROWL_STACK_STEP 114688
