@@ -1,4 +1,4 @@
-/* Buffers of an exact size with guard bytes behind them. */
+/* Buffers of an exact size with guard bytes before and behind them. */
 #ifndef GUARDED_H
 #define GUARDED_H
 
@@ -7,29 +7,40 @@
 #include <stdlib.h>
 #include <string.h>
 
-#define GUARD_SIZE 64
+#define GUARD_SIZE 67 /* odd, so that the buffers are not aligned */
 #define GUARD_BYTE 0xA5
 
 struct guarded {
     uint8_t *bytes;
-    size_t size; /* without the guard */
+    size_t size;           /* without the guards */
+    size_t before, behind; /* sizes of the guards */
 };
 
-/* Allocate size bytes of the given fill and the guard; 1 on success. */
+/* Write the guards, and the fill between them. */
+static inline void guarded_fill(struct guarded *g, uint8_t fill)
+{
+    memset(g->bytes - g->before, GUARD_BYTE, g->before);
+    memset(g->bytes, fill, g->size);
+    memset(g->bytes + g->size, GUARD_BYTE, g->behind);
+}
+
+/* Allocate size bytes of the given fill and the guards; 1 on success. */
 static inline int guarded_make(struct guarded *g, size_t size, uint8_t fill)
 {
-    g->bytes = malloc(size + GUARD_SIZE);
-    g->size = size;
-    if (g->bytes == NULL)
+    uint8_t *block = malloc(GUARD_SIZE + size + GUARD_SIZE);
+
+    if (block == NULL)
         return 0;
-    memset(g->bytes, fill, size);
-    memset(g->bytes + size, GUARD_BYTE, GUARD_SIZE);
+    g->bytes = block + GUARD_SIZE;
+    g->size = size;
+    g->before = g->behind = GUARD_SIZE;
+    guarded_fill(g, fill);
     return 1;
 }
 
 static inline void guarded_free(struct guarded *g)
 {
-    free(g->bytes);
+    free(g->bytes - g->before);
     g->bytes = NULL;
     g->size = 0;
 }
@@ -37,9 +48,13 @@ static inline void guarded_free(struct guarded *g)
 /* 1 when every guard byte stands as it was made. */
 static inline int guarded_intact(const struct guarded *g)
 {
+    const uint8_t *before = g->bytes - g->before;
     size_t i;
 
-    for (i = 0; i < GUARD_SIZE; i++)
+    for (i = 0; i < g->before; i++)
+        if (before[i] != GUARD_BYTE)
+            return 0;
+    for (i = 0; i < g->behind; i++)
         if (g->bytes[g->size + i] != GUARD_BYTE)
             return 0;
     return 1;

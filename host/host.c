@@ -1,14 +1,15 @@
 /*
- * host.c - judge a lock log through libplungerowl.a.
+ * host.c - validate a lock log through libplungerowl.a.
  *
  * Usage: host [LOG]      (standard input without LOG)
  *
- * Prints the verdict in the lines of document 01's program and, after a clean
- * or faulted log, one line "class C reaches N: i j k" for each class from which
- * a strong path leads to something.
+ * Prints what the program prints (docs/FORMATS.md, "The program") and, after a
+ * clean or faulted log, one line "class C reaches N: i j k" for each class from
+ * which a strong path leads to something.
  *
- * Exit status: 0 a verdict was printed, whichever it is; 2 usage, input or
- * memory trouble; 3 the library broke its promises (guard bytes, answers).
+ * Exit status: 0 the whole output was written, whatever it says; 2 trouble with
+ * usage, input, output or memory; 3 the library broke its promises (guard
+ * bytes, answers).
  */
 #include <inttypes.h>
 #include <stdint.h>
@@ -18,9 +19,9 @@
 #include "guarded.h"
 #include "plungerowl.h"
 
-enum { STATUS_OK = 0, STATUS_INPUT = 2, STATUS_LIBRARY = 3 };
+enum { STATUS_OK = 0, STATUS_TROUBLE = 2, STATUS_LIBRARY = 3 };
 
-struct bench {
+struct buffers {
     unsigned classes;
     struct guarded desk;
     struct guarded sheet;
@@ -34,33 +35,33 @@ static void quit(int status, const char *message)
     exit(status);
 }
 
-static void make_bench(struct bench *b, unsigned classes)
+static void make_buffers(struct buffers *b, unsigned classes)
 {
     b->classes = classes;
     if (!guarded_make(&b->desk, PLUNGEROWL_DESK_SIZE, 0xEE)
         || !guarded_make(&b->sheet, PLUNGEROWL_SHEET_SIZE(classes), 0xEE)
         || !guarded_make(&b->slip, PLUNGEROWL_SLIP_SIZE(classes), 0xEE))
-        quit(STATUS_INPUT, "out of memory");
+        quit(STATUS_TROUBLE, "out of memory");
 }
 
-static void free_bench(struct bench *b)
+static void free_buffers(struct buffers *b)
 {
     guarded_free(&b->desk);
     guarded_free(&b->sheet);
     guarded_free(&b->slip);
 }
 
-static void check_guards(const struct bench *b)
+static void check_guards(const struct buffers *b)
 {
     if (!guarded_intact(&b->desk))
-        quit(STATUS_LIBRARY, "bytes behind the desk were changed");
+        quit(STATUS_LIBRARY, "bytes around the desk were changed");
     if (!guarded_intact(&b->sheet))
-        quit(STATUS_LIBRARY, "bytes behind the sheet were changed");
+        quit(STATUS_LIBRARY, "bytes around the sheet were changed");
     if (!guarded_intact(&b->slip))
-        quit(STATUS_LIBRARY, "bytes behind the slip were changed");
+        quit(STATUS_LIBRARY, "bytes around the slip were changed");
 }
 
-static unsigned open_bench(struct bench *b)
+static unsigned open_buffers(struct buffers *b)
 {
     unsigned answer = plungerowl_open(b->classes, b->desk.bytes, b->desk.size,
                                       b->sheet.bytes, b->sheet.size);
@@ -68,7 +69,8 @@ static unsigned open_bench(struct bench *b)
     return answer;
 }
 
-static unsigned step_bench(struct bench *b, const uint8_t *record, size_t length)
+static unsigned step_buffers(struct buffers *b, const uint8_t *record,
+                             size_t length)
 {
     unsigned answer = plungerowl_step(b->desk.bytes, b->desk.size,
                                       b->sheet.bytes, b->sheet.size,
@@ -78,8 +80,8 @@ static unsigned step_bench(struct bench *b, const uint8_t *record, size_t length
     return answer;
 }
 
-static unsigned ask_bench(const struct bench *b, unsigned class_,
-                          uint64_t *word, uint32_t *count)
+static unsigned ask_buffers(const struct buffers *b, unsigned class_,
+                            uint64_t *word, uint32_t *count)
 {
     unsigned answer = plungerowl_ask(b->desk.bytes, b->desk.size,
                                      b->sheet.bytes, b->sheet.size,
@@ -94,7 +96,7 @@ static size_t read_input(FILE *input, uint8_t *bytes, size_t size)
     size_t length = fread(bytes, 1, size, input);
 
     if (ferror(input))
-        quit(STATUS_INPUT, "the log cannot be read");
+        quit(STATUS_TROUBLE, "the log cannot be read");
     return length;
 }
 
@@ -111,7 +113,8 @@ static int read_header(FILE *input)
 }
 
 /* Step through the records up to the first answer but 0. */
-static unsigned judge_records(struct bench *b, FILE *input, uint64_t *records)
+static unsigned validate_records(struct buffers *b, FILE *input,
+                                 uint64_t *records)
 {
     uint8_t record[PLUNGEROWL_RECORD_SIZE];
     unsigned answer = PLUNGEROWL_OK;
@@ -121,19 +124,19 @@ static unsigned judge_records(struct bench *b, FILE *input, uint64_t *records)
     while (answer == PLUNGEROWL_OK
            && (length = read_input(input, record, sizeof record)) > 0) {
         *records += 1;
-        answer = step_bench(b, record, length);
+        answer = step_buffers(b, record, length);
     }
     return answer;
 }
 
-static const char *arrow_name(unsigned kind)
+static const char *kind_name(unsigned kind)
 {
     switch (kind) {
     case PLUNGEROWL_ER: return "ER";
     case PLUNGEROWL_EN: return "EN";
     case PLUNGEROWL_SR: return "SR";
     case PLUNGEROWL_SN: return "SN";
-    default: quit(STATUS_LIBRARY, "the slip has an unknown arrow kind");
+    default: quit(STATUS_LIBRARY, "the slip has an unknown kind");
     }
     return "";
 }
@@ -149,7 +152,7 @@ static const char *source_name(unsigned source)
     return "";
 }
 
-static void print_circle(const struct bench *b)
+static void print_cycle(const struct buffers *b)
 {
     const uint8_t *slip = b->slip.bytes;
     unsigned n = slip[0];
@@ -158,21 +161,21 @@ static void print_circle(const struct bench *b)
     if (n < 1 || n > b->classes)
         quit(STATUS_LIBRARY, "the slip has a wrong length");
     for (i = 0; i < n; i++) {
-        const uint8_t *arrow = slip + 1 + 3 * i;
+        const uint8_t *entry = slip + 1 + 3 * i;
         const uint8_t *next = slip + 1 + 3 * ((i + 1) % n);
 
-        printf("%u %s %u %s\n", (unsigned)arrow[0], arrow_name(arrow[1]),
-               (unsigned)next[0], source_name(arrow[2]));
+        printf("%u %s %u %s\n", (unsigned)entry[0], kind_name(entry[1]),
+               (unsigned)next[0], source_name(entry[2]));
     }
 }
 
-static void print_reach_of(const struct bench *b, unsigned class_)
+static void print_reach_of(const struct buffers *b, unsigned class_)
 {
     uint64_t word = 0;
     uint32_t count = 0;
     unsigned i;
 
-    if (ask_bench(b, class_, &word, &count) != PLUNGEROWL_OK)
+    if (ask_buffers(b, class_, &word, &count) != PLUNGEROWL_OK)
         quit(STATUS_LIBRARY, "a question was refused");
     if (count == 0)
         return;
@@ -183,7 +186,7 @@ static void print_reach_of(const struct bench *b, unsigned class_)
     printf("\n");
 }
 
-static void print_reach(const struct bench *b)
+static void print_reach(const struct buffers *b)
 {
     unsigned class_;
 
@@ -196,26 +199,26 @@ static void print_refusal(unsigned answer, uint64_t record)
     printf("refused %u at record %" PRIu64 "\n", answer, record);
 }
 
-static void judge_opened(struct bench *b, FILE *input)
+static void validate_opened(struct buffers *b, FILE *input)
 {
     uint64_t records;
-    unsigned answer = judge_records(b, input, &records);
+    unsigned answer = validate_records(b, input, &records);
 
     if (answer == PLUNGEROWL_OK) {
         printf("clean, %" PRIu64 " records\n", records);
         print_reach(b);
     } else if (answer == PLUNGEROWL_FAULT) {
         printf("fault at record %" PRIu64 "\n", records);
-        print_circle(b);
+        print_cycle(b);
         print_reach(b);
     } else {
         print_refusal(answer, records);
     }
 }
 
-static void judge_log(FILE *input)
+static void validate_log(FILE *input)
 {
-    struct bench b;
+    struct buffers b;
     int classes = read_header(input);
     unsigned answer;
 
@@ -223,13 +226,13 @@ static void judge_log(FILE *input)
         print_refusal(PLUNGEROWL_BAD_OPENING, 0);
         return;
     }
-    make_bench(&b, (unsigned)classes);
-    answer = open_bench(&b);
+    make_buffers(&b, (unsigned)classes);
+    answer = open_buffers(&b);
     if (answer == PLUNGEROWL_OK)
-        judge_opened(&b, input);
+        validate_opened(&b, input);
     else
         print_refusal(answer, 0);
-    free_bench(&b);
+    free_buffers(&b);
 }
 
 int main(int argc, char **argv)
@@ -237,13 +240,13 @@ int main(int argc, char **argv)
     FILE *input = stdin;
 
     if (argc > 2)
-        quit(STATUS_INPUT, "usage: host [LOG]");
+        quit(STATUS_TROUBLE, "usage: host [LOG]");
     if (argc == 2 && (input = fopen(argv[1], "rb")) == NULL)
-        quit(STATUS_INPUT, "the log cannot be opened");
-    judge_log(input);
+        quit(STATUS_TROUBLE, "the log cannot be opened");
+    validate_log(input);
     if (input != stdin)
         fclose(input);
-    if (fflush(stdout) != 0)
-        quit(STATUS_INPUT, "the output cannot be written");
+    if (fflush(stdout) != 0 || ferror(stdout))
+        quit(STATUS_TROUBLE, "the output cannot be written");
     return STATUS_OK;
 }

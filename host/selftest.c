@@ -1,19 +1,25 @@
 /*
- * selftest.c - check the three calls of libplungerowl.a against document 01.
+ * selftest.c - check the calls of libplungerowl.a against docs/FORMATS.md.
  *
- * A right check prints nothing, a wrong one prints a line. The last line gives
- * the counts. Exit status: 0 all right, 1 something wrong, 2 out of memory.
+ * A right check prints nothing, a wrong one prints a line; with the argument
+ * --first the first wrong one is the last. The last line gives the counts. Exit
+ * status: 0 all right, 1 something wrong, 2 out of memory.
  *
- * Each bench has, beside the lent buffers, copies of what they should hold.
- * After every call all bytes are compared with the copies: sizes, tails of
- * longer buffers, and guard bytes.
+ * Beside the lent buffers stand copies of what should be in them. After every
+ * call all bytes are compared with the copies: sizes, tails of longer buffers,
+ * and guard bytes. All tests run three times: with guard bytes on both sides of
+ * each buffer and record, and with a page that must not even be read right
+ * before and right behind them.
  */
+#define _DEFAULT_SOURCE
 #include <inttypes.h>
 #include <stdarg.h>
 #include <stdint.h>
 #include <stdio.h>
 #include <stdlib.h>
 #include <string.h>
+#include <sys/mman.h>
+#include <unistd.h>
 
 #include "guarded.h"
 #include "plungerowl.h"
@@ -23,20 +29,23 @@
 #define STATES_AT 2
 #define DEPTHS_AT 10
 #define MARKS_AT 34
-#define HOLDS_AT 98
+#define HELD_AT 98
 #define FRAMES 24
 
-#define FILL 0x5A /* what the buffers hold before the first call */
+#define FILL 0x5A /* what is in the buffers before the first call */
+#define GUARD_WORD UINT64_C(0x123456789ABCDEF0)
+#define GUARD_COUNT 99
 #define BIT(i) ((uint64_t)1 << (i))
 
-enum { TAKE = 0, RELEASE = 1, HARD_ON = 2, HARD_OFF = 3, SOFT_ON = 4,
+enum { ACQUIRE = 0, RELEASE = 1, HARD_ON = 2, HARD_OFF = 3, SOFT_ON = 4,
        SOFT_OFF = 5, ENTER_SOFT = 6, EXIT_SOFT = 7, ENTER_HARD = 8,
        EXIT_HARD = 9 };
 enum { E = 0, r = 1, R = 2 };
 
 static unsigned long checks;
 static unsigned long failures;
-static int step_met[256];
+static int only_first;
+static int open_met[256], step_met[256], ask_met[256];
 
 static void check(int right, const char *format, ...)
 {
@@ -51,53 +60,112 @@ static void check(int right, const char *format, ...)
     vprintf(format, values);
     va_end(values);
     printf("\n");
+    if (only_first)
+        exit(1);
 }
 
-/* ------------------------------------------------------------- the bench */
+/* ----------------------------------------------------------- the buffers */
 
-struct bench {
+static enum { GUARD_BOTH, FENCE_BEFORE, FENCE_BEHIND } sides;
+
+struct buffers {
     unsigned k;
     struct guarded desk, sheet, slip;
     struct guarded want_desk, want_sheet, want_slip;
 };
 
-static void make_buffer(struct guarded *g, size_t size)
+static void need(int right)
 {
-    if (!guarded_make(g, size, FILL)) {
-        fprintf(stderr, "selftest: out of memory\n");
-        exit(2);
-    }
+    if (right)
+        return;
+    fprintf(stderr, "selftest: out of memory\n");
+    exit(2);
+}
+
+/* The pages of a buffer with a guard, without the fence pages around them. */
+static size_t fenced_size(size_t size)
+{
+    size_t page = (size_t)sysconf(_SC_PAGESIZE);
+
+    return (size + GUARD_SIZE + page - 1) / page * page;
+}
+
+/* A buffer with a fence page right before or behind it, a guard opposite. */
+static int fenced_make(struct guarded *g, size_t size)
+{
+    size_t page = (size_t)sysconf(_SC_PAGESIZE);
+    size_t inner = fenced_size(size);
+    uint8_t *pages = mmap(NULL, page + inner + page, PROT_NONE,
+                          MAP_PRIVATE | MAP_ANONYMOUS, -1, 0);
+
+    if (pages == MAP_FAILED
+        || mprotect(pages + page, inner, PROT_READ | PROT_WRITE) != 0)
+        return 0;
+    g->size = size;
+    g->before = sides == FENCE_BEFORE ? 0 : GUARD_SIZE;
+    g->behind = sides == FENCE_BEHIND ? 0 : GUARD_SIZE;
+    g->bytes = pages + page + (sides == FENCE_BEFORE ? 0 : inner - size);
+    guarded_fill(g, FILL);
+    return 1;
+}
+
+static void make_lent(struct guarded *g, size_t size)
+{
+    need(sides == GUARD_BOTH ? guarded_make(g, size, FILL)
+                             : fenced_make(g, size));
+}
+
+static void free_lent(struct guarded *g)
+{
+    size_t page = (size_t)sysconf(_SC_PAGESIZE);
+    size_t inner = fenced_size(g->size);
+    uint8_t *first = sides == FENCE_BEFORE ? g->bytes
+                                           : g->bytes + g->size - inner;
+
+    if (sides == GUARD_BOTH)
+        guarded_free(g);
+    else
+        munmap(first - page, page + inner + page);
+}
+
+/* Buffers of the given sizes, to be used with k classes. */
+static void make_sized(struct buffers *b, unsigned k, size_t desk, size_t sheet,
+                       size_t slip)
+{
+    b->k = k;
+    make_lent(&b->desk, desk);
+    make_lent(&b->sheet, sheet);
+    make_lent(&b->slip, slip);
+    need(guarded_make(&b->want_desk, desk, FILL)
+         && guarded_make(&b->want_sheet, sheet, FILL)
+         && guarded_make(&b->want_slip, slip, FILL));
 }
 
 /* Buffers for k classes, each longer than needed by the given tail. */
-static void make_bench(struct bench *b, unsigned k, size_t tail)
+static void make_buffers(struct buffers *b, unsigned k, size_t tail)
 {
-    b->k = k;
-    make_buffer(&b->desk, PLUNGEROWL_DESK_SIZE + tail);
-    make_buffer(&b->sheet, PLUNGEROWL_SHEET_SIZE(k) + tail);
-    make_buffer(&b->slip, PLUNGEROWL_SLIP_SIZE(k) + tail);
-    make_buffer(&b->want_desk, b->desk.size);
-    make_buffer(&b->want_sheet, b->sheet.size);
-    make_buffer(&b->want_slip, b->slip.size);
+    make_sized(b, k, PLUNGEROWL_DESK_SIZE + tail,
+               PLUNGEROWL_SHEET_SIZE(k) + tail, PLUNGEROWL_SLIP_SIZE(k) + tail);
 }
 
-static void free_bench(struct bench *b)
+static void free_buffers(struct buffers *b)
 {
-    guarded_free(&b->desk);
-    guarded_free(&b->sheet);
-    guarded_free(&b->slip);
+    free_lent(&b->desk);
+    free_lent(&b->sheet);
+    free_lent(&b->slip);
     guarded_free(&b->want_desk);
     guarded_free(&b->want_sheet);
     guarded_free(&b->want_slip);
 }
 
 /* Write one byte in a buffer and in its copy. */
-static void put_desk(struct bench *b, size_t at, unsigned value)
+static void put_desk(struct buffers *b, size_t at, unsigned value)
 {
     b->desk.bytes[at] = b->want_desk.bytes[at] = (uint8_t)value;
 }
 
-static void put_sheet(struct bench *b, unsigned from, unsigned to, unsigned value)
+static void put_sheet(struct buffers *b, unsigned from, unsigned to,
+                      unsigned value)
 {
     size_t at = (size_t)from * b->k + to;
 
@@ -114,10 +182,10 @@ static void check_buffer(const struct guarded *is, const struct guarded *want,
     while (i < is->size && is->bytes[i] == want->bytes[i])
         i++;
     check(i == is->size, "%s: %s byte %lu", what, name, (unsigned long)i);
-    check(guarded_intact(is), "%s: bytes behind the %s", what, name);
+    check(guarded_intact(is), "%s: bytes around the %s", what, name);
 }
 
-static void check_buffers(const struct bench *b, const char *what)
+static void check_buffers(const struct buffers *b, const char *what)
 {
     check_buffer(&b->desk, &b->want_desk, "desk", what);
     check_buffer(&b->sheet, &b->want_sheet, "sheet", what);
@@ -138,7 +206,8 @@ static const int next_state[9][8] = {
     { -1, -1, -1, -1, -1, -1, -1, 4 }
 };
 
-/* Task holds in every state, soft holds in 4, 5, 8, hard holds in 6 to 8. */
+/* Frames that may have held locks: task in every state, soft in 4, 5, 8, hard
+ * in 6 to 8. */
 static const int frames_fit[3][9] = {
     { 1, 1, 1, 1, 1, 1, 1, 1, 1 },
     { 0, 0, 0, 0, 1, 1, 0, 0, 1 },
@@ -155,38 +224,38 @@ static unsigned current_frame(const uint8_t *desk, unsigned core)
     return frame_of(core, desk[STATES_AT + core]);
 }
 
-static unsigned arrow_kind(unsigned hold_mode, unsigned take_mode)
+static unsigned kind_of(unsigned held_mode, unsigned acquire_mode)
 {
-    if (hold_mode == E)
-        return take_mode == R ? PLUNGEROWL_ER : PLUNGEROWL_EN;
-    return take_mode == R ? PLUNGEROWL_SR : PLUNGEROWL_SN;
+    if (held_mode == E)
+        return acquire_mode == R ? PLUNGEROWL_ER : PLUNGEROWL_EN;
+    return acquire_mode == R ? PLUNGEROWL_SR : PLUNGEROWL_SN;
 }
 
-static void want_take(struct bench *b, unsigned frame, unsigned class_,
+static void want_acquire(struct buffers *b, unsigned frame, unsigned class_,
                       unsigned mode)
 {
     uint8_t *depth = b->want_desk.bytes + DEPTHS_AT + frame;
-    uint8_t *holds = b->want_desk.bytes + HOLDS_AT + 20 * frame;
+    uint8_t *held = b->want_desk.bytes + HELD_AT + 20 * frame;
     unsigned i;
 
     for (i = 0; i < *depth; i++)
-        b->want_sheet.bytes[holds[i] % 64 * b->k + class_]
-            |= (uint8_t)arrow_kind(holds[i] / 64, mode);
-    holds[*depth] = (uint8_t)(class_ + 64 * mode);
+        b->want_sheet.bytes[held[i] % 64 * b->k + class_]
+            |= (uint8_t)kind_of(held[i] / 64, mode);
+    held[*depth] = (uint8_t)(class_ + 64 * mode);
     *depth += 1;
 }
 
-static void want_release(struct bench *b, unsigned frame, unsigned class_)
+static void want_release(struct buffers *b, unsigned frame, unsigned class_)
 {
     uint8_t *depth = b->want_desk.bytes + DEPTHS_AT + frame;
-    uint8_t *holds = b->want_desk.bytes + HOLDS_AT + 20 * frame;
+    uint8_t *held = b->want_desk.bytes + HELD_AT + 20 * frame;
     unsigned i = *depth - 1u;
 
-    while (holds[i] % 64 != class_)
+    while (held[i] % 64 != class_)
         i--;
     for (; i + 1 < *depth; i++)
-        holds[i] = holds[i + 1];
-    holds[i] = 0;
+        held[i] = held[i + 1];
+    held[i] = 0;
     *depth -= 1;
 }
 
@@ -207,27 +276,27 @@ static unsigned mark_of(unsigned state, unsigned mode)
     return mark;
 }
 
-static void want_marks(struct bench *b, unsigned core)
+static void want_marks(struct buffers *b, unsigned core)
 {
     uint8_t *desk = b->want_desk.bytes;
     unsigned frame = current_frame(desk, core);
     unsigned i;
 
     for (i = 0; i < desk[DEPTHS_AT + frame]; i++) {
-        unsigned hold = desk[HOLDS_AT + 20 * frame + i];
+        unsigned held = desk[HELD_AT + 20 * frame + i];
 
-        desk[MARKS_AT + hold % 64]
-            |= (uint8_t)mark_of(desk[STATES_AT + core], hold / 64);
+        desk[MARKS_AT + held % 64]
+            |= (uint8_t)mark_of(desk[STATES_AT + core], held / 64);
     }
 }
 
-static void want_accepted(struct bench *b, const uint8_t *record)
+static void want_accepted(struct buffers *b, const uint8_t *record)
 {
     uint8_t *state = b->want_desk.bytes + STATES_AT + record[2];
     unsigned frame = current_frame(b->want_desk.bytes, record[2]);
 
-    if (record[3] == TAKE)
-        want_take(b, frame, record[4], record[5]);
+    if (record[3] == ACQUIRE)
+        want_acquire(b, frame, record[4], record[5]);
     else if (record[3] == RELEASE)
         want_release(b, frame, record[4]);
     else
@@ -235,7 +304,7 @@ static void want_accepted(struct bench *b, const uint8_t *record)
     want_marks(b, record[2]);
 }
 
-/* --------------------------------------------------------- a true circle */
+/* ---------------------------------------------------------- a true cycle */
 
 static int starts_s(unsigned kind)
 {
@@ -247,7 +316,7 @@ static int ends_r(unsigned kind)
     return kind == PLUNGEROWL_ER || kind == PLUNGEROWL_SR;
 }
 
-static int has_arrow(const struct bench *b, unsigned from, unsigned to,
+static int has_dependency(const struct buffers *b, unsigned from, unsigned to,
                      unsigned kind, unsigned source)
 {
     const uint8_t *marks = b->want_desk.bytes + MARKS_AT;
@@ -264,35 +333,35 @@ static int has_arrow(const struct bench *b, unsigned from, unsigned to,
     return (marks[from] & unsafe) != 0 && (marks[to] & safe) != 0;
 }
 
-/* The slip has a true circle; afterwards its copy has it as well. */
-static void check_circle(struct bench *b, const char *what)
+/* The slip has a true cycle; afterwards its copy has it as well. */
+static void check_cycle(struct buffers *b, const char *what)
 {
     const uint8_t *slip = b->slip.bytes;
     unsigned n = slip[0];
     uint64_t seen = 0;
     unsigned i;
 
-    check(n >= 1 && n <= b->k, "%s: circle of %u arrows", what, n);
+    check(n >= 1 && n <= b->k, "%s: cycle of %u dependencies", what, n);
     if (n < 1 || n > b->k)
         return;
     for (i = 0; i < n; i++) {
-        const uint8_t *arrow = slip + 1 + 3 * i;
+        const uint8_t *entry = slip + 1 + 3 * i;
         const uint8_t *next = slip + 1 + 3 * ((i + 1) % n);
 
-        check(has_arrow(b, arrow[0], next[0], arrow[1], arrow[2]),
-              "%s: arrow %u of the circle is not drawn", what, i);
-        check(!(ends_r(arrow[1]) && starts_s(next[1])),
-              "%s: joint %u of the circle is not strong", what, i);
-        check(arrow[0] >= slip[1], "%s: lowest class not first", what);
-        check(!(seen & BIT(arrow[0] % 64)), "%s: class twice", what);
-        seen |= BIT(arrow[0] % 64);
+        check(has_dependency(b, entry[0], next[0], entry[1], entry[2]),
+              "%s: dependency %u of the cycle is not drawn", what, i);
+        check(!(ends_r(entry[1]) && starts_s(next[1])),
+              "%s: joint %u of the cycle is not strong", what, i);
+        check(entry[0] >= slip[1], "%s: lowest class not first", what);
+        check(!(seen & BIT(entry[0] % 64)), "%s: class twice", what);
+        seen |= BIT(entry[0] % 64);
     }
     memcpy(b->want_slip.bytes, slip, 1 + 3 * n);
 }
 
 /* ------------------------------------------------------ calls with checks */
 
-static void expect_open(struct bench *b, uint64_t classes, size_t desk_len,
+static void expect_open(struct buffers *b, uint64_t classes, size_t desk_len,
                         size_t sheet_len, unsigned answer, const char *what)
 {
     unsigned is;
@@ -304,27 +373,51 @@ static void expect_open(struct bench *b, uint64_t classes, size_t desk_len,
     }
     is = plungerowl_open(classes, b->desk.bytes, desk_len,
                          b->sheet.bytes, sheet_len);
+    open_met[is] = 1;
     check(is == answer, "%s: open answers %u, not %u", what, is, answer);
     check_buffers(b, what);
 }
 
-static void open_bench(struct bench *b, unsigned k, size_t tail)
+static void open_buffers(struct buffers *b, unsigned k, size_t tail)
 {
-    make_bench(b, k, tail);
+    make_buffers(b, k, tail);
     expect_open(b, k, b->desk.size, b->sheet.size, 0, "opening");
 }
 
-static unsigned call_step(struct bench *b, const uint8_t *record, size_t length)
+#define LONGEST_RECORD 12
+
+/* A lent buffer for a record of the length, with the bytes in it. */
+static const struct guarded *lent_record(const uint8_t *record, size_t length)
 {
-    unsigned is = plungerowl_step(b->desk.bytes, b->desk.size,
-                                  b->sheet.bytes, b->sheet.size,
-                                  b->slip.bytes, b->slip.size, record, length);
+    static struct guarded lent[FENCE_BEHIND + 1][LONGEST_RECORD + 1];
+    struct guarded *g = &lent[sides][length];
+
+    if (g->bytes == NULL)
+        make_lent(g, length);
+    guarded_fill(g, FILL);
+    memcpy(g->bytes, record, length);
+    return g;
+}
+
+/* Step with the first bytes of each buffer, and a record of its own. */
+static unsigned call_step(struct buffers *b, size_t desk_len, size_t sheet_len,
+                          size_t slip_len, const uint8_t *record, size_t length,
+                          const char *what)
+{
+    const struct guarded *lent = lent_record(record, length);
+    unsigned is = plungerowl_step(b->desk.bytes, desk_len,
+                                  b->sheet.bytes, sheet_len,
+                                  b->slip.bytes, slip_len,
+                                  lent->bytes, length);
+
     step_met[is] = 1;
+    check(memcmp(lent->bytes, record, length) == 0, "%s: the record", what);
+    check(guarded_intact(lent), "%s: bytes around the record", what);
     return is;
 }
 
-static void expect_bytes(struct bench *b, const uint8_t *record, size_t length,
-                         unsigned answer, const char *what)
+static void expect_bytes(struct buffers *b, const uint8_t *record,
+                         size_t length, unsigned answer, const char *what)
 {
     unsigned is;
 
@@ -332,14 +425,15 @@ static void expect_bytes(struct bench *b, const uint8_t *record, size_t length,
         want_accepted(b, record);
     if (answer == 1)
         b->want_desk.bytes[CLOSED_AT] = 1;
-    is = call_step(b, record, length);
+    is = call_step(b, b->desk.size, b->sheet.size, b->slip.size, record, length,
+                   what);
     check(is == answer, "%s: step answers %u, not %u", what, is, answer);
     if (answer == 1)
-        check_circle(b, what);
+        check_cycle(b, what);
     check_buffers(b, what);
 }
 
-static void expect_step(struct bench *b, unsigned core, unsigned kind,
+static void expect_step(struct buffers *b, unsigned core, unsigned kind,
                         unsigned class_, unsigned mode, unsigned answer,
                         const char *what)
 {
@@ -352,32 +446,37 @@ static void expect_step(struct bench *b, unsigned core, unsigned kind,
     expect_bytes(b, record, sizeof record, answer, what);
 }
 
-static void expect_ask_lengths(struct bench *b, size_t desk_len,
+static void expect_ask_lengths(struct buffers *b, size_t desk_len,
                                size_t sheet_len, uint64_t class_,
                                unsigned answer, uint64_t word, uint32_t count,
                                const char *what)
 {
-    uint64_t is_word = 0x123456789ABCDEF0u;
-    uint32_t is_count = 99;
+    /* Guards before and behind word and count. */
+    uint64_t words[3] = { GUARD_WORD, GUARD_WORD, GUARD_WORD };
+    uint32_t counts[3] = { GUARD_COUNT, GUARD_COUNT, GUARD_COUNT };
     unsigned is = plungerowl_ask(b->desk.bytes, desk_len, b->sheet.bytes,
-                                 sheet_len, class_, &is_word, &is_count);
+                                 sheet_len, class_, &words[1], &counts[1]);
 
+    ask_met[is] = 1;
     check(is == answer, "%s: ask answers %u, not %u", what, is, answer);
-    check(is_word == word, "%s: word %" PRIx64 ", not %" PRIx64, what,
-          is_word, word);
-    check(is_count == count, "%s: count %" PRIu32 ", not %" PRIu32, what,
-          is_count, count);
+    check(words[1] == word, "%s: word %" PRIx64 ", not %" PRIx64, what,
+          words[1], word);
+    check(counts[1] == count, "%s: count %" PRIu32 ", not %" PRIu32, what,
+          counts[1], count);
+    check(words[0] == GUARD_WORD && words[2] == GUARD_WORD
+          && counts[0] == GUARD_COUNT && counts[2] == GUARD_COUNT,
+          "%s: bytes around word and count", what);
     check_buffers(b, what);
 }
 
-static void expect_reach(struct bench *b, uint64_t class_, uint64_t word,
+static void expect_reach(struct buffers *b, uint64_t class_, uint64_t word,
                          uint32_t count, const char *what)
 {
     expect_ask_lengths(b, b->desk.size, b->sheet.size, class_, 0, word, count,
                        what);
 }
 
-static void expect_no_reach(struct bench *b, uint64_t class_, unsigned answer,
+static void expect_no_reach(struct buffers *b, uint64_t class_, unsigned answer,
                             const char *what)
 {
     expect_ask_lengths(b, b->desk.size, b->sheet.size, class_, answer, 0, 0,
@@ -388,10 +487,40 @@ static void expect_no_reach(struct bench *b, uint64_t class_, unsigned answer,
 
 static void test_sizes(void)
 {
-    check(PLUNGEROWL_DESK_SIZE == HOLDS_AT + 20 * FRAMES, "desk size");
+    check(PLUNGEROWL_DESK_SIZE == HELD_AT + 20 * FRAMES, "desk size");
     check(PLUNGEROWL_SHEET_SIZE(3 + 5) == 64, "sheet size");
     check(PLUNGEROWL_SLIP_SIZE(3 + 5) == 25, "slip size");
     check(PLUNGEROWL_RECORD_SIZE == 6, "record size");
+}
+
+/* The names of plungerowl.h have the numbers of the format. */
+static void test_numbers(void)
+{
+    static const unsigned answers[] = {
+        PLUNGEROWL_OK, PLUNGEROWL_FAULT, PLUNGEROWL_BAD_OPENING,
+        PLUNGEROWL_BAD_RECORD, PLUNGEROWL_BAD_CLASS, PLUNGEROWL_NOT_HELD,
+        PLUNGEROWL_BAD_EVENT, PLUNGEROWL_STILL_HELD, PLUNGEROWL_FRAME_FULL };
+    static const unsigned kinds[] = {
+        PLUNGEROWL_ACQUIRE, PLUNGEROWL_RELEASE, PLUNGEROWL_HARD_ON,
+        PLUNGEROWL_HARD_OFF, PLUNGEROWL_SOFT_ON, PLUNGEROWL_SOFT_OFF,
+        PLUNGEROWL_ENTER_SOFT, PLUNGEROWL_EXIT_SOFT, PLUNGEROWL_ENTER_HARD,
+        PLUNGEROWL_EXIT_HARD };
+    unsigned i;
+
+    for (i = 0; i < sizeof answers / sizeof answers[0]; i++)
+        check(answers[i] == i, "number of answer %u", i);
+    check(PLUNGEROWL_CLOSED == 10 && PLUNGEROWL_UNFIT == 11, "answers 10, 11");
+    for (i = 0; i < sizeof kinds / sizeof kinds[0]; i++)
+        check(kinds[i] == i, "number of kind %u", i);
+    check(PLUNGEROWL_EXCLUSIVE == 0 && PLUNGEROWL_NONRECURSIVE_READ == 1
+          && PLUNGEROWL_RECURSIVE_READ == 2, "numbers of the modes");
+    check(PLUNGEROWL_ER == 1 && PLUNGEROWL_EN == 2 && PLUNGEROWL_SR == 4
+          && PLUNGEROWL_SN == 8, "numbers of the dependency kinds");
+    check(PLUNGEROWL_SOURCE_HOLD == 0 && PLUNGEROWL_SOURCE_HARD == 1
+          && PLUNGEROWL_SOURCE_SOFT == 2, "numbers of the sources");
+    check(PLUNGEROWL_MAX_CLASSES == 64 && PLUNGEROWL_CORES == 8
+          && PLUNGEROWL_MAX_DEPTH == 20 && PLUNGEROWL_HEADER_SIZE == 4,
+          "limits");
 }
 
 static void test_open_refused(void)
@@ -400,143 +529,153 @@ static void test_open_refused(void)
                                       BIT(16) + 8, BIT(32), BIT(32) + 8,
                                       BIT(63) + 8, UINT64_MAX };
     const size_t desk_size = PLUNGEROWL_DESK_SIZE;
-    struct bench b;
+    struct buffers b;
     size_t i;
 
-    make_bench(&b, 8, 70000);
+    make_buffers(&b, 8, 70000);
     for (i = 0; i < sizeof wrong / sizeof wrong[0]; i++)
         expect_open(&b, wrong[i], b.desk.size, b.sheet.size, 2, "wrong K");
     expect_open(&b, 0, desk_size, 0, 2, "K = 0, empty sheet");
-    free_bench(&b);
+    free_buffers(&b);
 
-    make_bench(&b, 8, 0);
-    expect_open(&b, 8, desk_size - 1, 64, 2, "desk short by one");
-    expect_open(&b, 8, 0, 64, 2, "empty desk");
-    expect_open(&b, 8, desk_size, 63, 2, "sheet short by one");
-    expect_open(&b, 8, desk_size, 0, 2, "empty sheet");
+    make_buffers(&b, 8, 0);
+    for (i = 0; i < desk_size; i++)
+        expect_open(&b, 8, i, 64, 2, "open, short desk");
+    for (i = 0; i < 64; i++)
+        expect_open(&b, 8, desk_size, i, 2, "open, short sheet");
     expect_open(&b, 9, desk_size, 64, 2, "sheet for fewer classes");
     expect_open(&b, 64, desk_size, 64, 2, "sheet of K bytes");
-    free_bench(&b);
+    free_buffers(&b);
 }
 
 static void test_open_accepted(void)
 {
     static const size_t tails[] = { 0, 1, 100 };
-    struct bench b;
+    struct buffers b;
     unsigned k;
     size_t i;
 
     for (k = 1; k <= 64; k++) {
         for (i = 0; i < 3; i++) {
-            open_bench(&b, k, tails[i]);
-            free_bench(&b);
+            open_buffers(&b, k, tails[i]);
+            free_buffers(&b);
         }
     }
 }
 
 static void test_reopen(void)
 {
-    struct bench b;
+    struct buffers b;
 
-    open_bench(&b, 8, 10);
-    expect_step(&b, 0, TAKE, 0, E, 0, "0E");
-    expect_step(&b, 0, TAKE, 0, E, 1, "0E, 0E");
+    open_buffers(&b, 8, 10);
+    expect_step(&b, 0, ACQUIRE, 0, E, 0, "0E");
+    expect_step(&b, 0, ACQUIRE, 0, E, 1, "0E, 0E");
     expect_open(&b, 8, b.desk.size, b.sheet.size, 0, "opening again");
-    expect_step(&b, 0, TAKE, 0, E, 0, "0E after opening again");
-    free_bench(&b);
+    expect_step(&b, 0, ACQUIRE, 0, E, 0, "0E after opening again");
+    free_buffers(&b);
 }
 
 /* ------------------------------------------------------- accepted records */
 
 static void test_p2(size_t tail)
 {
-    static const uint8_t circle[] = { 2, 1, 2, 0, 2, 2, 0, FILL, FILL, FILL };
-    struct bench b;
+    static const uint8_t cycle[] = { 2, 1, 2, 0, 2, 2, 0, FILL, FILL, FILL };
+    static const uint8_t sheet[] = { 0, 0, 0, 0, 0, 2, 0, 2, 0 };
+    uint8_t desk[PLUNGEROWL_DESK_SIZE] = { 3, 1 };
+    struct buffers b;
 
-    open_bench(&b, 3, tail);
-    expect_step(&b, 0, TAKE, 1, E, 0, "P2 record 1");
-    expect_step(&b, 0, TAKE, 2, E, 0, "P2 record 2");
+    /* The example of docs/FORMATS.md, after its last record. */
+    desk[13] = 2;
+    desk[35] = desk[36] = 0x44;
+    desk[158] = 2;
+    desk[159] = 1;
+
+    open_buffers(&b, 3, tail);
+    expect_step(&b, 0, ACQUIRE, 1, E, 0, "P2 record 1");
+    expect_step(&b, 0, ACQUIRE, 2, E, 0, "P2 record 2");
     expect_step(&b, 0, RELEASE, 2, 0, 0, "P2 record 3");
     expect_step(&b, 0, RELEASE, 1, 0, 0, "P2 record 4");
-    expect_step(&b, 1, TAKE, 2, E, 0, "P2 record 5");
+    expect_step(&b, 1, ACQUIRE, 2, E, 0, "P2 record 5");
     expect_reach(&b, 1, BIT(2), 1, "P2 before the fault, from 1");
     expect_reach(&b, 2, 0, 0, "P2 before the fault, from 2");
-    expect_step(&b, 1, TAKE, 1, E, 1, "P2 record 6");
-    check(memcmp(b.slip.bytes, circle, sizeof circle) == 0, "P2: slip");
+    expect_step(&b, 1, ACQUIRE, 1, E, 1, "P2 record 6");
+    check(memcmp(b.desk.bytes, desk, sizeof desk) == 0, "P2: desk");
+    check(memcmp(b.sheet.bytes, sheet, sizeof sheet) == 0, "P2: sheet");
+    check(memcmp(b.slip.bytes, cycle, sizeof cycle) == 0, "P2: slip");
     expect_reach(&b, 0, 0, 0, "P2 closed, from 0");
     expect_reach(&b, 1, BIT(1) | BIT(2), 2, "P2 closed, from 1");
     expect_reach(&b, 2, BIT(1) | BIT(2), 2, "P2 closed, from 2");
     expect_no_reach(&b, 3, 4, "P2 closed, from K");
-    free_bench(&b);
+    free_buffers(&b);
 }
 
-static void test_two_circles(void)
+static void test_two_cycles(void)
 {
-    struct bench b;
+    struct buffers b;
 
-    open_bench(&b, 8, 3);
-    expect_step(&b, 0, TAKE, 0, E, 0, "two circles 1");
-    expect_step(&b, 0, TAKE, 1, E, 0, "two circles 2");
-    expect_step(&b, 0, TAKE, 2, E, 0, "two circles 3");
-    expect_step(&b, 1, TAKE, 2, E, 0, "two circles 4");
-    expect_step(&b, 1, TAKE, 0, E, 1, "two circles 5");
-    free_bench(&b);
+    open_buffers(&b, 8, 3);
+    expect_step(&b, 0, ACQUIRE, 0, E, 0, "two cycles 1");
+    expect_step(&b, 0, ACQUIRE, 1, E, 0, "two cycles 2");
+    expect_step(&b, 0, ACQUIRE, 2, E, 0, "two cycles 3");
+    expect_step(&b, 1, ACQUIRE, 2, E, 0, "two cycles 4");
+    expect_step(&b, 1, ACQUIRE, 0, E, 1, "two cycles 5");
+    free_buffers(&b);
 }
 
-/* A circle through all 64 classes fills the slip. */
+/* A cycle through all 64 classes fills the slip. */
 static void test_full_slip(void)
 {
-    struct bench b;
+    struct buffers b;
     unsigned i;
 
-    open_bench(&b, 64, 0);
+    open_buffers(&b, 64, 0);
     for (i = 0; i < 63; i++) {
-        expect_step(&b, 7, TAKE, i, E, 0, "ring, first take");
-        expect_step(&b, 7, TAKE, i + 1, E, 0, "ring, second take");
+        expect_step(&b, 7, ACQUIRE, i, E, 0, "ring, first acquire");
+        expect_step(&b, 7, ACQUIRE, i + 1, E, 0, "ring, second acquire");
         expect_step(&b, 7, RELEASE, i, 0, 0, "ring, first release");
         expect_step(&b, 7, RELEASE, i + 1, 0, 0, "ring, second release");
     }
     expect_reach(&b, 0, ~BIT(0), 63, "ring before the fault, from 0");
     expect_reach(&b, 62, BIT(63), 1, "ring before the fault, from 62");
-    expect_step(&b, 7, TAKE, 63, E, 0, "ring, last but one");
-    expect_step(&b, 7, TAKE, 0, E, 1, "ring, last");
-    check(b.slip.bytes[0] == 64, "ring: circle of %u", b.slip.bytes[0]);
+    expect_step(&b, 7, ACQUIRE, 63, E, 0, "ring, last but one");
+    expect_step(&b, 7, ACQUIRE, 0, E, 1, "ring, last");
+    check(b.slip.bytes[0] == 64, "ring: cycle of %u", b.slip.bytes[0]);
     expect_reach(&b, 31, UINT64_MAX, 64, "ring closed, from 31");
     expect_no_reach(&b, 64, 4, "ring closed, from 64");
-    free_bench(&b);
+    free_buffers(&b);
 }
 
-/* Releases in any order; the newest hold of a class goes first. */
+/* Releases in any order; the newest held lock of a class goes first. */
 static void test_release_order(void)
 {
-    struct bench b;
+    struct buffers b;
 
-    open_bench(&b, 8, 0);
-    expect_step(&b, 3, TAKE, 5, R, 0, "5R");
-    expect_step(&b, 3, TAKE, 6, r, 0, "6r");
-    expect_step(&b, 3, TAKE, 5, R, 0, "5R again");
-    expect_step(&b, 3, TAKE, 7, E, 0, "7E");
+    open_buffers(&b, 8, 0);
+    expect_step(&b, 3, ACQUIRE, 5, R, 0, "5R");
+    expect_step(&b, 3, ACQUIRE, 6, r, 0, "6r");
+    expect_step(&b, 3, ACQUIRE, 5, R, 0, "5R again");
+    expect_step(&b, 3, ACQUIRE, 7, E, 0, "7E");
     expect_step(&b, 3, RELEASE, 5, 0, 0, "release newest 5");
     expect_step(&b, 3, RELEASE, 6, 0, 0, "release 6");
     expect_step(&b, 3, RELEASE, 5, 0, 0, "release 5");
     expect_step(&b, 3, RELEASE, 5, 0, 5, "release 5 once more");
     expect_step(&b, 3, RELEASE, 7, 0, 0, "release 7");
-    free_bench(&b);
+    free_buffers(&b);
 }
 
-/* Holds stay in their frames while handlers come and go. */
+/* Held locks stay in their frames while handlers come and go. */
 static void test_frames(void)
 {
-    struct bench b;
+    struct buffers b;
 
-    open_bench(&b, 8, 0);
-    expect_step(&b, 2, TAKE, 0, r, 0, "task 0r");
+    open_buffers(&b, 8, 0);
+    expect_step(&b, 2, ACQUIRE, 0, r, 0, "task 0r");
     expect_step(&b, 2, ENTER_SOFT, 0, 0, 0, "enter soft");
     expect_step(&b, 2, RELEASE, 0, 0, 5, "release 0 in soft");
-    expect_step(&b, 2, TAKE, 1, E, 0, "soft 1E");
+    expect_step(&b, 2, ACQUIRE, 1, E, 0, "soft 1E");
     expect_step(&b, 2, ENTER_HARD, 0, 0, 0, "enter hard over soft");
     expect_step(&b, 2, RELEASE, 1, 0, 5, "release 1 in hard");
-    expect_step(&b, 2, TAKE, 2, R, 0, "hard 2R");
+    expect_step(&b, 2, ACQUIRE, 2, R, 0, "hard 2R");
     expect_step(&b, 2, EXIT_HARD, 0, 0, 7, "exit hard with 2R");
     expect_reach(&b, 0, BIT(1) | BIT(2), 2, "frames, from 0");
     expect_reach(&b, 1, BIT(2), 1, "frames, from 1");
@@ -549,56 +688,58 @@ static void test_frames(void)
     expect_step(&b, 2, RELEASE, 1, 0, 0, "release 1");
     expect_step(&b, 2, EXIT_SOFT, 0, 0, 0, "exit soft");
     expect_step(&b, 2, RELEASE, 0, 0, 0, "release 0");
-    free_bench(&b);
+    free_buffers(&b);
 }
 
-/* A hold is marked by every later state of its core, not only at the take. */
+/* A held lock is marked in every later state of its core, not only at the
+ * acquire. */
 static void test_late_mark(void)
 {
-    struct bench b;
+    struct buffers b;
 
-    open_bench(&b, 8, 0);
+    open_buffers(&b, 8, 0);
     expect_step(&b, 0, ENTER_HARD, 0, 0, 0, "late mark 1");
-    expect_step(&b, 0, TAKE, 4, E, 0, "late mark 2");
+    expect_step(&b, 0, ACQUIRE, 4, E, 0, "late mark 2");
     expect_step(&b, 0, RELEASE, 4, 0, 0, "late mark 3");
     expect_step(&b, 0, EXIT_HARD, 0, 0, 0, "late mark 4");
     expect_step(&b, 0, HARD_OFF, 0, 0, 0, "late mark 5");
-    expect_step(&b, 0, TAKE, 4, E, 0, "late mark 6");
+    expect_step(&b, 0, ACQUIRE, 4, E, 0, "late mark 6");
     expect_step(&b, 0, HARD_ON, 0, 0, 1, "late mark 7");
-    free_bench(&b);
+    free_buffers(&b);
 }
 
-/* A fit desk that did not come from opening is judged as it stands. */
-static void test_standing_circle(void)
+/* A fit desk that did not come from opening is validated as it stands. */
+static void test_standing_cycle(void)
 {
-    struct bench b;
+    struct buffers b;
 
-    open_bench(&b, 8, 0);
+    open_buffers(&b, 8, 0);
     put_sheet(&b, 3, 5, PLUNGEROWL_SN);
     put_sheet(&b, 5, 3, PLUNGEROWL_ER);
     put_sheet(&b, 5, 4, PLUNGEROWL_SN);
     put_sheet(&b, 4, 3, PLUNGEROWL_EN);
-    expect_step(&b, 6, RELEASE, 0, 0, 5, "standing circle, refused");
-    expect_step(&b, 6, HARD_ON, 0, 0, 1, "standing circle, accepted");
-    expect_step(&b, 6, HARD_ON, 0, 0, 10, "standing circle, closed");
-    free_bench(&b);
+    expect_step(&b, 6, RELEASE, 0, 0, 5, "standing cycle, refused");
+    expect_step(&b, 6, HARD_ON, 0, 0, 1, "standing cycle, accepted");
+    expect_step(&b, 6, HARD_ON, 0, 0, 10, "standing cycle, closed");
+    free_buffers(&b);
 }
 
 /* ------------------------------------------------------- refused records */
 
-/* A bench with something in it: core 0 holds 1E, sheet and marks not zero. */
-static void open_used(struct bench *b, size_t tail)
+/* Buffers with something in them: 1E held by core 0, sheet and marks not 0. */
+static void open_used(struct buffers *b, size_t tail)
 {
-    open_bench(b, 8, tail);
-    expect_step(b, 0, TAKE, 1, E, 0, "used, 1E");
-    expect_step(b, 0, TAKE, 2, R, 0, "used, 2R");
+    open_buffers(b, 8, tail);
+    expect_step(b, 0, ACQUIRE, 1, E, 0, "used, 1E");
+    expect_step(b, 0, ACQUIRE, 2, R, 0, "used, 2R");
     expect_step(b, 0, RELEASE, 2, 0, 0, "used, release 2");
 }
 
 static void test_refusal_3(void)
 {
-    uint8_t record[12] = { 0x4C, 0x4B, 0, TAKE, 3, E, 0x4C, 0x4B };
-    struct bench b;
+    uint8_t record[LONGEST_RECORD] = { 0x4C, 0x4B, 0, ACQUIRE, 3, E,
+                                       0x4C, 0x4B };
+    struct buffers b;
     unsigned i;
 
     open_used(&b, 5);
@@ -608,20 +749,20 @@ static void test_refusal_3(void)
     for (i = 0; i < 256; i++) {
         record[0] = (uint8_t)i;
         if (i != 0x4C)
-            expect_bytes(&b, record, 6, 3, "wrong first mark byte");
+            expect_bytes(&b, record, 6, 3, "wrong first byte");
     }
     record[0] = 0x4C;
     for (i = 0; i < 256; i++) {
         record[1] = (uint8_t)i;
         if (i != 0x4B)
-            expect_bytes(&b, record, 6, 3, "wrong second mark byte");
+            expect_bytes(&b, record, 6, 3, "wrong second byte");
     }
     for (i = 8; i < 256; i++)
-        expect_step(&b, i, TAKE, 3, E, 3, "core over 7");
+        expect_step(&b, i, ACQUIRE, 3, E, 3, "core over 7");
     for (i = 10; i < 256; i++)
         expect_step(&b, 0, i, 0, 0, 3, "kind over 9");
     for (i = 3; i < 256; i++)
-        expect_step(&b, 0, TAKE, 3, i, 3, "mode over 2");
+        expect_step(&b, 0, ACQUIRE, 3, i, 3, "mode over 2");
     for (i = 1; i < 256; i++)
         expect_step(&b, 0, RELEASE, 1, i, 3, "release with a mode");
     for (i = HARD_ON; i <= EXIT_HARD; i++) {
@@ -629,25 +770,25 @@ static void test_refusal_3(void)
         expect_step(&b, 0, i, 0, 1, 3, "event with a mode");
         expect_step(&b, 0, i, 255, 255, 3, "event with class and mode");
     }
-    free_bench(&b);
+    free_buffers(&b);
 }
 
 static void test_refusal_4(void)
 {
-    struct bench b;
+    struct buffers b;
     unsigned i;
 
     open_used(&b, 5);
     for (i = 8; i < 256; i++) {
-        expect_step(&b, 0, TAKE, i, i % 3, 4, "take, class K or more");
+        expect_step(&b, 0, ACQUIRE, i, i % 3, 4, "acquire, class K or more");
         expect_step(&b, 0, RELEASE, i, 0, 4, "release, class K or more");
     }
-    free_bench(&b);
+    free_buffers(&b);
 }
 
 static void test_refusal_5(void)
 {
-    struct bench b;
+    struct buffers b;
 
     open_used(&b, 5);
     expect_step(&b, 0, RELEASE, 0, 0, 5, "release, never held");
@@ -655,16 +796,16 @@ static void test_refusal_5(void)
     expect_step(&b, 1, RELEASE, 1, 0, 5, "release, held by another core");
     expect_step(&b, 0, ENTER_HARD, 0, 0, 0, "enter hard");
     expect_step(&b, 0, RELEASE, 1, 0, 5, "release, held in another frame");
-    free_bench(&b);
+    free_buffers(&b);
 }
 
 /* Every state and event of the table. */
 static void test_table(void)
 {
-    struct bench b;
+    struct buffers b;
     unsigned core, state, event;
 
-    open_bench(&b, 8, 0);
+    open_buffers(&b, 8, 0);
     for (core = 0; core < 8; core++) {
         for (state = 0; state < 9; state++) {
             for (event = 0; event < 8; event++) {
@@ -674,11 +815,12 @@ static void test_table(void)
             }
         }
     }
-    free_bench(&b);
+    free_buffers(&b);
 }
 
-/* Put a hold of the mode, class 1 to 3, into each frame that may have one. */
-static void put_holds(struct bench *b, unsigned core, unsigned state,
+/* Put a held lock of the mode, class 1 to 3, into each frame that may have
+ * one. */
+static void put_held(struct buffers *b, unsigned core, unsigned state,
                       unsigned mode, int leaving)
 {
     unsigned i;
@@ -689,151 +831,174 @@ static void put_holds(struct bench *b, unsigned core, unsigned state,
                      && !(leaving && frame == frame_of(core, state));
 
         put_desk(b, DEPTHS_AT + frame, stands);
-        put_desk(b, HOLDS_AT + 20 * frame, stands ? 1 + i + 64 * mode : 0);
+        put_desk(b, HELD_AT + 20 * frame, stands ? 1 + i + 64 * mode : 0);
         put_desk(b, MARKS_AT + 1 + i, 0);
     }
 }
 
-/* Every allowed event marks the holds of the frame it leads to. */
+/* Every allowed event marks the held locks of the frame it leads to. */
 static void test_table_marks(void)
 {
-    struct bench b;
+    struct buffers b;
     unsigned mode, state, event;
 
-    open_bench(&b, 8, 0);
+    open_buffers(&b, 8, 0);
     for (mode = 0; mode < 3; mode++) {
         for (state = 0; state < 9; state++) {
             for (event = 0; event < 8; event++) {
                 if (next_state[state][event] < 0)
                     continue;
                 put_desk(&b, STATES_AT + 4, state);
-                put_holds(&b, 4, state, mode, event == 5 || event == 7);
-                expect_step(&b, 4, event + 2, 0, 0, 0, "table with holds");
+                put_held(&b, 4, state, mode, event == 5 || event == 7);
+                expect_step(&b, 4, event + 2, 0, 0, 0, "table with held locks");
             }
         }
     }
-    free_bench(&b);
+    free_buffers(&b);
 }
 
-/* Takes of every mode in every state, and the release after them. */
-static void test_take_marks(void)
+/* Acquires of every mode in every state, and the release after them. */
+static void test_acquire_marks(void)
 {
-    struct bench b;
+    struct buffers b;
     unsigned mode, state;
 
-    open_bench(&b, 8, 0);
+    open_buffers(&b, 8, 0);
     for (mode = 0; mode < 3; mode++) {
         for (state = 0; state < 9; state++) {
             put_desk(&b, STATES_AT + 5, state);
             put_desk(&b, MARKS_AT + 7, 0);
-            expect_step(&b, 5, TAKE, 7, mode, 0, "take in a state");
+            expect_step(&b, 5, ACQUIRE, 7, mode, 0, "acquire in a state");
             put_desk(&b, MARKS_AT + 7, 0);
             expect_step(&b, 5, RELEASE, 7, 0, 0, "release in a state");
         }
     }
-    free_bench(&b);
+    free_buffers(&b);
 }
 
-/* Every pair of modes draws its own arrow kind, and adds to what is there. */
-static void test_arrow_kinds(void)
+/* Every pair of modes draws its own kind, and adds to what is there. */
+static void test_kinds(void)
 {
-    struct bench b;
+    struct buffers b;
     unsigned older, newer;
 
-    open_bench(&b, 8, 0);
+    open_buffers(&b, 8, 0);
     for (older = 0; older < 3; older++) {
         for (newer = 0; newer < 3; newer++) {
-            expect_step(&b, 0, TAKE, 2, older, 0, "older hold");
-            expect_step(&b, 0, TAKE, 3 + older, newer, 0, "newer hold");
-            expect_step(&b, 0, TAKE, 6, newer, 0, "newest hold");
+            expect_step(&b, 0, ACQUIRE, 2, older, 0, "older lock");
+            expect_step(&b, 0, ACQUIRE, 3 + older, newer, 0, "newer lock");
+            expect_step(&b, 0, ACQUIRE, 6, newer, 0, "newest lock");
             expect_step(&b, 0, RELEASE, 2, 0, 0, "release older");
             expect_step(&b, 0, RELEASE, 3 + older, 0, 0, "release newer");
             expect_step(&b, 0, RELEASE, 6, 0, 0, "release newest");
         }
     }
-    free_bench(&b);
+    free_buffers(&b);
 }
 
 static void test_refusal_7(void)
 {
     static const unsigned states[] = { 4, 6, 7, 8 };
-    struct bench b;
+    struct buffers b;
     unsigned i;
 
-    open_bench(&b, 8, 0);
+    open_buffers(&b, 8, 0);
     for (i = 0; i < 4; i++) {
         put_desk(&b, STATES_AT + 1, states[i]);
-        expect_step(&b, 1, TAKE, 1, R, 0, "take in a handler");
+        expect_step(&b, 1, ACQUIRE, 1, R, 0, "acquire in a handler");
         expect_step(&b, 1, i == 0 ? EXIT_SOFT : EXIT_HARD, 0, 0, 7,
-                    "exit with a hold");
+                    "exit with a held lock");
         expect_step(&b, 1, RELEASE, 1, 0, 0, "release in a handler");
     }
-    free_bench(&b);
+    free_buffers(&b);
 }
 
 static void test_refusal_8(void)
 {
     static const unsigned states[] = { 0, 4, 8 };
-    struct bench b;
+    struct buffers b;
     unsigned i, j;
 
-    open_bench(&b, 8, 0);
+    open_buffers(&b, 8, 0);
     for (i = 0; i < 3; i++) {
         put_desk(&b, STATES_AT + 7, states[i]);
         for (j = 0; j < 20; j++)
-            expect_step(&b, 7, TAKE, 0, R, 0, "fill the frame");
-        expect_step(&b, 7, TAKE, 0, R, 8, "full frame");
-        expect_step(&b, 7, TAKE, 3, E, 8, "full frame, another class");
-        expect_step(&b, 7, TAKE, 8, E, 4, "full frame, class K");
-        expect_step(&b, 7, TAKE, 3, 3, 3, "full frame, mode 3");
+            expect_step(&b, 7, ACQUIRE, 0, R, 0, "fill the frame");
+        expect_step(&b, 7, ACQUIRE, 0, R, 8, "full frame");
+        expect_step(&b, 7, ACQUIRE, 3, E, 8, "full frame, another class");
+        expect_step(&b, 7, ACQUIRE, 8, E, 4, "full frame, class K");
+        expect_step(&b, 7, ACQUIRE, 3, 3, 3, "full frame, mode 3");
     }
-    expect_step(&b, 6, TAKE, 0, R, 0, "another core's frame");
+    expect_step(&b, 6, ACQUIRE, 0, R, 0, "another core's frame");
     expect_step(&b, 7, RELEASE, 0, 0, 0, "release in a full frame");
-    expect_step(&b, 7, TAKE, 0, R, 0, "fill the frame again");
-    free_bench(&b);
+    expect_step(&b, 7, ACQUIRE, 0, R, 0, "fill the frame again");
+    free_buffers(&b);
 }
 
 static void test_order(void)
 {
-    struct bench b;
+    struct buffers b;
 
-    open_bench(&b, 8, 0);
-    expect_step(&b, 0, TAKE, 8, 3, 3, "3 before 4");
+    open_buffers(&b, 8, 0);
+    expect_step(&b, 0, ACQUIRE, 8, 3, 3, "3 before 4");
     expect_step(&b, 0, RELEASE, 8, 1, 3, "3 before 4, release");
     expect_step(&b, 0, RELEASE, 8, 0, 4, "4 before 5");
     expect_step(&b, 0, EXIT_HARD, 1, 0, 3, "3 before 6");
-    expect_step(&b, 0, TAKE, 1, R, 0, "1R");
+    expect_step(&b, 0, ACQUIRE, 1, R, 0, "1R");
     expect_step(&b, 0, EXIT_HARD, 0, 0, 6, "6 before 7, exit hard");
     expect_step(&b, 0, EXIT_SOFT, 0, 0, 6, "6 before 7, exit soft");
-    free_bench(&b);
+    free_buffers(&b);
 }
 
 static void test_closed(void)
 {
     static const uint8_t bytes[] = { 1, 2, 3 };
-    struct bench b;
+    struct buffers b;
 
-    open_bench(&b, 8, 7);
-    expect_step(&b, 0, TAKE, 0, R, 0, "P7 record 1");
-    expect_step(&b, 0, TAKE, 0, r, 1, "P7 record 2");
+    open_buffers(&b, 8, 7);
+    expect_step(&b, 0, ACQUIRE, 0, R, 0, "P7 record 1");
+    expect_step(&b, 0, ACQUIRE, 0, r, 1, "P7 record 2");
     expect_step(&b, 0, RELEASE, 0, 0, 10, "closed, release");
-    expect_step(&b, 1, TAKE, 1, E, 10, "closed, take");
-    expect_step(&b, 1, TAKE, 8, E, 10, "closed, 10 before 4");
+    expect_step(&b, 1, ACQUIRE, 1, E, 10, "closed, acquire");
+    expect_step(&b, 1, ACQUIRE, 8, E, 10, "closed, 10 before 4");
     expect_step(&b, 1, EXIT_HARD, 0, 0, 10, "closed, 10 before 6");
+    expect_step(&b, 1, RELEASE, 1, 0, 10, "closed, 10 before 5");
     expect_bytes(&b, bytes, sizeof bytes, 10, "closed, 10 before 3");
     expect_bytes(&b, bytes, 0, 10, "closed, empty record");
     expect_reach(&b, 0, BIT(0), 1, "closed, ask");
     expect_no_reach(&b, 8, 4, "closed, ask class K");
     put_desk(&b, STATES_AT, 9);
-    expect_step(&b, 1, TAKE, 1, E, 11, "closed, 11 before 10");
+    expect_step(&b, 1, ACQUIRE, 1, E, 11, "closed, 11 before 10");
     expect_no_reach(&b, 0, 11, "closed and unfit, ask");
-    free_bench(&b);
+    free_buffers(&b);
+}
+
+/* A desk that is closed without a fault: 10 before 7 and 8. */
+static void test_closed_by_hand(void)
+{
+    struct buffers b;
+    unsigned i;
+
+    open_buffers(&b, 8, 0);
+    expect_step(&b, 3, ENTER_HARD, 0, 0, 0, "enter hard");
+    for (i = 0; i < 20; i++)
+        expect_step(&b, 3, ACQUIRE, 0, R, 0, "fill the frame");
+    put_desk(&b, CLOSED_AT, 1);
+    expect_step(&b, 3, ACQUIRE, 0, R, 10, "closed, 10 before 8");
+    expect_step(&b, 3, EXIT_HARD, 0, 0, 10, "closed, 10 before 7");
+    expect_step(&b, 0, HARD_ON, 0, 0, 10, "closed by hand");
+    expect_reach(&b, 0, BIT(0), 1, "closed by hand, ask");
+    put_desk(&b, CLOSED_AT, 0);
+    expect_step(&b, 3, ACQUIRE, 0, R, 8, "open again, 8");
+    expect_step(&b, 3, EXIT_HARD, 0, 0, 7, "open again, 7");
+    expect_step(&b, 0, HARD_ON, 0, 0, 0, "open again");
+    free_buffers(&b);
 }
 
 /* ---------------------------------------------------------- unfit buffers */
 
-/* Step and ask refuse the bench as it stands. */
-static void expect_unfit(struct bench *b, const char *what)
+/* Step and ask refuse the buffers as they stand. */
+static void expect_unfit(struct buffers *b, const char *what)
 {
     expect_step(b, 0, HARD_ON, 0, 0, 11, what);
     expect_step(b, 255, 255, 255, 255, 11, what);
@@ -842,7 +1007,7 @@ static void expect_unfit(struct bench *b, const char *what)
 }
 
 /* Set one desk byte, expect a refusal, set it back. */
-static void expect_unfit_with(struct bench *b, size_t at, unsigned value,
+static void expect_unfit_with(struct buffers *b, size_t at, unsigned value,
                               const char *what)
 {
     unsigned before = b->desk.bytes[at];
@@ -852,14 +1017,13 @@ static void expect_unfit_with(struct bench *b, size_t at, unsigned value,
     put_desk(b, at, before);
 }
 
-static void expect_step_lengths(struct bench *b, size_t desk_len,
+static void expect_step_lengths(struct buffers *b, size_t desk_len,
                                 size_t sheet_len, size_t slip_len,
                                 unsigned answer, const char *what)
 {
     static const uint8_t record[] = { 0x4C, 0x4B, 0, HARD_ON, 0, 0 };
-    unsigned is = plungerowl_step(b->desk.bytes, desk_len, b->sheet.bytes,
-                                  sheet_len, b->slip.bytes, slip_len,
-                                  record, sizeof record);
+    unsigned is = call_step(b, desk_len, sheet_len, slip_len,
+                            record, sizeof record, what);
 
     check(is == answer, "%s: step answers %u, not %u", what, is, answer);
     check_buffers(b, what);
@@ -868,34 +1032,75 @@ static void expect_step_lengths(struct bench *b, size_t desk_len,
 static void test_unfit_lengths(void)
 {
     const size_t desk = PLUNGEROWL_DESK_SIZE;
-    struct bench b;
+    struct buffers b;
+    size_t i;
 
-    open_bench(&b, 8, 0);
+    open_buffers(&b, 8, 0);
     expect_step_lengths(&b, desk, 64, 25, 0, "exact lengths");
-    expect_step_lengths(&b, desk - 1, 64, 25, 11, "desk short by one");
-    expect_step_lengths(&b, 0, 64, 25, 11, "empty desk");
-    expect_step_lengths(&b, desk, 63, 25, 11, "sheet short by one");
-    expect_step_lengths(&b, desk, 0, 25, 11, "empty sheet");
-    expect_step_lengths(&b, desk, 64, 24, 11, "slip short by one");
-    expect_step_lengths(&b, desk, 64, 0, 11, "empty slip");
     expect_ask_lengths(&b, desk, 64, 0, 0, 0, 0, "ask, exact lengths");
-    expect_ask_lengths(&b, desk - 1, 64, 0, 11, 0, 0, "ask, short desk");
-    expect_ask_lengths(&b, 0, 64, 0, 11, 0, 0, "ask, empty desk");
-    expect_ask_lengths(&b, desk, 63, 0, 11, 0, 0, "ask, short sheet");
-    expect_ask_lengths(&b, desk, 0, 0, 11, 0, 0, "ask, empty sheet");
+    for (i = 0; i < desk; i++) {
+        expect_step_lengths(&b, i, 64, 25, 11, "short desk");
+        expect_ask_lengths(&b, i, 64, 0, 11, 0, 0, "ask, short desk");
+    }
+    for (i = 0; i < 64; i++) {
+        expect_step_lengths(&b, desk, i, 25, 11, "short sheet");
+        expect_ask_lengths(&b, desk, i, 0, 11, 0, 0, "ask, short sheet");
+    }
+    for (i = 0; i < 25; i++)
+        expect_step_lengths(&b, desk, 64, i, 11, "short slip");
     expect_ask_lengths(&b, desk, 63, 8, 11, 0, 0, "ask, 11 before 4");
     put_desk(&b, 0, 9);
     expect_step_lengths(&b, desk, 64, 25, 11, "sheet for fewer classes");
     expect_ask_lengths(&b, desk, 64, 0, 11, 0, 0, "ask, fewer classes");
-    free_bench(&b);
+    put_desk(&b, 0, 8);
+    put_desk(&b, CLOSED_AT, 1);
+    expect_step_lengths(&b, desk, 64, 24, 11, "short slip, 11 before 10");
+    expect_step_lengths(&b, desk, 64, 25, 10, "exact lengths, closed");
+    free_buffers(&b);
+}
+
+/* The calls on buffers that end, or begin, where a fence may stand. */
+static void expect_short(size_t desk, size_t sheet, size_t slip,
+                         const char *what)
+{
+    struct buffers b;
+
+    make_sized(&b, 8, desk, sheet, slip);
+    if (desk < PLUNGEROWL_DESK_SIZE || sheet < 64)
+        expect_open(&b, 8, desk, sheet, 2, what);
+    memset(b.desk.bytes, 0, desk);
+    memset(b.want_desk.bytes, 0, desk);
+    memset(b.sheet.bytes, 0, sheet);
+    memset(b.want_sheet.bytes, 0, sheet);
+    if (desk > 0)
+        put_desk(&b, 0, 8);
+    expect_step(&b, 0, HARD_ON, 0, 0, 11, what);
+    if (desk < PLUNGEROWL_DESK_SIZE || sheet < 64)
+        expect_no_reach(&b, 0, 11, what);
+    free_buffers(&b);
+}
+
+static void test_short_buffers(void)
+{
+    const size_t desk = PLUNGEROWL_DESK_SIZE;
+    size_t i;
+
+    for (i = 0; i < desk; i += i < 100 ? 1 : 53)
+        expect_short(i, 64, 25, "a desk that is short");
+    expect_short(desk - 1, 64, 25, "a desk that is short by one");
+    for (i = 0; i < 64; i++)
+        expect_short(desk, i, 25, "a sheet that is short");
+    for (i = 0; i < 25; i++)
+        expect_short(desk, 64, i, "a slip that is short");
+    expect_short(0, 0, 0, "no buffers");
 }
 
 static void test_unfit_heads(void)
 {
-    struct bench b;
+    struct buffers b;
     unsigned value, core;
 
-    open_bench(&b, 8, 70000);
+    open_buffers(&b, 8, 70000);
     expect_unfit_with(&b, 0, 0, "K = 0");
     for (value = 65; value < 256; value++)
         expect_unfit_with(&b, 0, value, "K over 64");
@@ -904,10 +1109,10 @@ static void test_unfit_heads(void)
     for (core = 0; core < 8; core++)
         for (value = 9; value < 256; value++)
             expect_unfit_with(&b, STATES_AT + core, value, "state over 8");
-    free_bench(&b);
+    free_buffers(&b);
 }
 
-/* A state in which the frame may have holds. */
+/* A state in which the frame may have held locks. */
 static unsigned state_for(unsigned frame)
 {
     static const unsigned states[] = { 0, 4, 6 };
@@ -915,54 +1120,69 @@ static unsigned state_for(unsigned frame)
     return states[frame % 3];
 }
 
-static void test_unfit_holds(void)
+/* Every value of one byte of a standing held lock. */
+static void expect_held_byte(struct buffers *b, size_t at)
 {
-    struct bench b;
-    unsigned frame, i;
+    unsigned value;
 
-    open_bench(&b, 8, 0);
+    for (value = 0; value < 256; value++) {
+        if (value % 64 >= 8)
+            expect_unfit_with(b, at, value, "held lock of class K or more");
+        else if (value / 64 == 3)
+            expect_unfit_with(b, at, value, "held lock of mode 3");
+        else {
+            put_desk(b, at, value);
+            expect_no_reach(b, 0, 0, "a fit held lock");
+        }
+    }
+    put_desk(b, at, 0);
+}
+
+static void test_unfit_held(void)
+{
+    struct buffers b;
+    unsigned frame, depth, i;
+
+    open_buffers(&b, 8, 0);
     for (frame = 0; frame < FRAMES; frame++) {
-        size_t holds = HOLDS_AT + 20 * (size_t)frame;
+        size_t held = HELD_AT + 20 * (size_t)frame;
 
         put_desk(&b, STATES_AT + frame / 3, state_for(frame));
-        expect_unfit_with(&b, DEPTHS_AT + frame, 21, "depth 21");
-        expect_unfit_with(&b, DEPTHS_AT + frame, 255, "depth 255");
-        for (i = 0; i < 20; i++)
-            expect_unfit_with(&b, holds + i, 1 + i, "unused hold not 0");
-        put_desk(&b, DEPTHS_AT + frame, 20);
-        expect_no_reach(&b, 0, 0, "depth 20 is fit");
-        for (i = 0; i < 20; i++) {
-            expect_unfit_with(&b, holds + i, 8, "standing hold of class K");
-            expect_unfit_with(&b, holds + i, 64 + 63, "standing hold over K");
-            expect_unfit_with(&b, holds + i, 192 + 7, "standing hold, mode 3");
+        for (depth = 21; depth < 256; depth++)
+            expect_unfit_with(&b, DEPTHS_AT + frame, depth, "depth over 20");
+        for (depth = 0; depth <= 20; depth++) {
+            put_desk(&b, DEPTHS_AT + frame, depth);
+            expect_no_reach(&b, 0, 0, "a fit depth");
+            for (i = depth; i < 20; i++)
+                expect_unfit_with(&b, held + i, 1 + 12 * i, "unused byte");
         }
-        put_desk(&b, DEPTHS_AT + frame, 19);
-        expect_unfit_with(&b, holds + 19, 128, "last hold byte unused");
+        for (i = 0; i < 20; i++)
+            expect_held_byte(&b, held + i);
         put_desk(&b, DEPTHS_AT + frame, 0);
         put_desk(&b, STATES_AT + frame / 3, 0);
     }
-    free_bench(&b);
+    free_buffers(&b);
 }
 
 static void test_unfit_frames(void)
 {
-    struct bench b;
+    struct buffers b;
     unsigned frame, state;
 
-    open_bench(&b, 8, 0);
+    open_buffers(&b, 8, 0);
     for (frame = 0; frame < FRAMES; frame++) {
         put_desk(&b, DEPTHS_AT + frame, 1);
         for (state = 0; state < 9; state++) {
             put_desk(&b, STATES_AT + frame / 3, state);
             if (frames_fit[frame % 3][state])
-                expect_no_reach(&b, 0, 0, "holds that may stand");
+                expect_no_reach(&b, 0, 0, "held locks in a state of theirs");
             else
-                expect_unfit(&b, "holds outside their states");
+                expect_unfit(&b, "held locks outside their states");
         }
         put_desk(&b, DEPTHS_AT + frame, 0);
         put_desk(&b, STATES_AT + frame / 3, 0);
     }
-    free_bench(&b);
+    free_buffers(&b);
 }
 
 static int mark_fits(unsigned mark)
@@ -970,7 +1190,7 @@ static int mark_fits(unsigned mark)
     return (!(mark & 64) || (mark & 4)) && (!(mark & 128) || (mark & 8));
 }
 
-/* A one-class drawing: is there an interrupt arrow from the class to itself? */
+/* Is there an interrupt dependency from a class with this mark to itself? */
 static int mark_joins_itself(unsigned mark)
 {
     return ((mark & 3) && (mark & 12)) || ((mark & 48) && (mark & 192));
@@ -978,10 +1198,10 @@ static int mark_joins_itself(unsigned mark)
 
 static void test_unfit_marks(void)
 {
-    struct bench b;
+    struct buffers b;
     unsigned class_, mark;
 
-    open_bench(&b, 8, 0);
+    open_buffers(&b, 8, 0);
     for (class_ = 8; class_ < 64; class_++)
         for (mark = 1; mark < 256; mark++)
             expect_unfit_with(&b, MARKS_AT + class_, mark, "mark over K");
@@ -991,24 +1211,78 @@ static void test_unfit_marks(void)
             if (!mark_fits(mark))
                 expect_unfit(&b, "soft-unsafe without hard-unsafe");
             else if (mark_joins_itself(mark))
-                expect_reach(&b, class_, BIT(class_), 1, "arrow to itself");
+                expect_reach(&b, class_, BIT(class_), 1, "reaches itself");
             else
-                expect_no_reach(&b, class_, 0, "no arrow to itself");
+                expect_no_reach(&b, class_, 0, "reaches nothing");
         }
         put_desk(&b, MARKS_AT + class_, 0);
     }
-    free_bench(&b);
+    free_buffers(&b);
+}
+
+/* One class, every usage mark: a fault where a dependency of the class on
+ * itself is strong with itself, which of the four kinds only SR is not. */
+static void test_mark_cycles(void)
+{
+    struct buffers b;
+    unsigned class_, mark, level;
+
+    open_buffers(&b, 8, 0);
+    for (class_ = 0; class_ < 8; class_ += 7) {
+        for (mark = 0; mark < 256; mark++) {
+            int cycle = 0;
+
+            for (level = 1; level <= 16; level *= 16)
+                cycle |= (mark / level & 4 && mark / level & 3)
+                         || (mark / level & 8 && mark / level & 1);
+            put_desk(&b, MARKS_AT + class_, mark);
+            expect_step(&b, 2, HARD_ON, 0, 0,
+                        !mark_fits(mark) ? 11 : cycle ? 1 : 0, "marks");
+            put_desk(&b, CLOSED_AT, 0);
+        }
+        put_desk(&b, MARKS_AT + class_, 0);
+    }
+    free_buffers(&b);
+}
+
+/* A desk and a sheet as full as they can be. */
+static void test_fullest(void)
+{
+    struct buffers b;
+    unsigned i, j;
+
+    open_buffers(&b, 64, 0);
+    for (i = 0; i < 8; i++)
+        put_desk(&b, STATES_AT + i, 8);
+    for (i = 0; i < FRAMES; i++)
+        put_desk(&b, DEPTHS_AT + i, 20);
+    for (i = 0; i < 64; i++)
+        put_desk(&b, MARKS_AT + i, 255);
+    for (i = 0; i < 20 * FRAMES; i++)
+        put_desk(&b, HELD_AT + i, 63 + 64 * R);
+    for (i = 0; i < 64; i++)
+        for (j = 0; j < 64; j++)
+            put_sheet(&b, i, j, 15);
+    expect_reach(&b, 63, UINT64_MAX, 64, "fullest, ask");
+    expect_no_reach(&b, 64, 4, "fullest, ask class K");
+    expect_step(&b, 7, ACQUIRE, 0, E, 8, "fullest, acquire");
+    expect_step(&b, 7, EXIT_HARD, 0, 0, 7, "fullest, exit hard");
+    expect_step(&b, 7, EXIT_SOFT, 0, 0, 6, "fullest, exit soft");
+    expect_step(&b, 7, RELEASE, 62, 0, 5, "fullest, release of 62");
+    expect_step(&b, 7, RELEASE, 63, 0, 1, "fullest, release of 63");
+    expect_step(&b, 7, RELEASE, 63, 0, 10, "fullest, closed");
+    free_buffers(&b);
 }
 
 static void test_unfit_sheet(void)
 {
-    struct bench b;
+    struct buffers b;
     unsigned from, to, value;
 
-    open_bench(&b, 8, 2);
+    open_buffers(&b, 8, 2);
     for (from = 0; from < 8; from++) {
         for (to = 0; to < 8; to++) {
-            for (value = 16; value < 256; value += 13) {
+            for (value = 16; value < 256; value++) {
                 put_sheet(&b, from, to, value);
                 expect_unfit(&b, "sheet byte over 15");
             }
@@ -1017,7 +1291,7 @@ static void test_unfit_sheet(void)
             put_sheet(&b, from, to, 0);
         }
     }
-    free_bench(&b);
+    free_buffers(&b);
 }
 
 /* ----------------------------------------------------------------- asking */
@@ -1027,22 +1301,22 @@ static void test_ask_refused(void)
     static const uint64_t wrong[] = { 8, 9, 63, 64, 255, 256, 257, 264,
                                       BIT(16), BIT(32), BIT(32) + 1, BIT(63),
                                       UINT64_MAX };
-    struct bench b;
+    struct buffers b;
     size_t i;
 
     open_used(&b, 9);
     expect_reach(&b, 1, BIT(2), 1, "ask, open desk");
     for (i = 0; i < sizeof wrong / sizeof wrong[0]; i++)
         expect_no_reach(&b, wrong[i], 4, "ask, class K or more");
-    free_bench(&b);
+    free_buffers(&b);
 }
 
 /* A class reached by R and by N is passed on from the N arrival. */
 static void test_ask_arrivals(void)
 {
-    struct bench b;
+    struct buffers b;
 
-    open_bench(&b, 8, 0);
+    open_buffers(&b, 8, 0);
     put_sheet(&b, 0, 1, PLUNGEROWL_ER);
     put_sheet(&b, 1, 3, PLUNGEROWL_SN);
     expect_reach(&b, 0, BIT(1), 1, "R before S is not strong");
@@ -1053,98 +1327,109 @@ static void test_ask_arrivals(void)
     put_sheet(&b, 1, 4, PLUNGEROWL_ER);
     put_sheet(&b, 4, 5, PLUNGEROWL_SR);
     expect_reach(&b, 2, BIT(1) | BIT(3) | BIT(4), 3, "stop after R");
-    free_bench(&b);
+    free_buffers(&b);
 }
 
 /* 0 ER 1 EN 0 SN 2: class 0 must be passed twice. */
 static void test_ask_back(void)
 {
-    struct bench b;
+    struct buffers b;
 
-    open_bench(&b, 8, 0);
+    open_buffers(&b, 8, 0);
     put_sheet(&b, 3, 0, PLUNGEROWL_ER);
     put_sheet(&b, 0, 2, PLUNGEROWL_SN);
     expect_reach(&b, 3, BIT(0), 1, "before the way back");
     put_sheet(&b, 0, 1, PLUNGEROWL_ER);
     put_sheet(&b, 1, 0, PLUNGEROWL_EN);
     expect_reach(&b, 3, BIT(0) | BIT(1) | BIT(2), 3, "a class passed twice");
-    free_bench(&b);
+    free_buffers(&b);
 }
 
-/* Interrupt arrows join marks of one level only. */
+/* Interrupt dependencies join marks of one level only. */
 static void test_ask_marks(void)
 {
-    struct bench b;
+    struct buffers b;
 
-    open_bench(&b, 64, 0);
+    open_buffers(&b, 64, 0);
     put_desk(&b, MARKS_AT + 0, 64 + 4);
     put_desk(&b, MARKS_AT + 62, 1);
     put_desk(&b, MARKS_AT + 63, 32);
-    expect_reach(&b, 0, BIT(62) | BIT(63), 2, "hard and soft arrows");
+    expect_reach(&b, 0, BIT(62) | BIT(63), 2, "hard and soft dependencies");
     put_desk(&b, MARKS_AT + 0, 4);
-    expect_reach(&b, 0, BIT(62), 1, "hard arrow only");
+    expect_reach(&b, 0, BIT(62), 1, "hard dependency only");
     put_sheet(&b, 63, 1, PLUNGEROWL_SN);
     put_sheet(&b, 62, 1, PLUNGEROWL_SN);
     put_desk(&b, MARKS_AT + 62, 0);
     put_desk(&b, MARKS_AT + 0, 128 + 8);
-    expect_reach(&b, 0, BIT(63), 1, "soft SR arrow, then S");
+    expect_reach(&b, 0, BIT(63), 1, "soft SR, then S");
     put_desk(&b, MARKS_AT + 62, 16);
-    expect_reach(&b, 0, BIT(1) | BIT(62) | BIT(63), 3, "soft SN arrow, then S");
-    free_bench(&b);
+    expect_reach(&b, 0, BIT(1) | BIT(62) | BIT(63), 3, "soft SN, then S");
+    free_buffers(&b);
 }
 
 /* ------------------------------------------------------------------- main */
 
-static void test_all_met(void)
+/* A call gave each of these answers, and no other. */
+static void check_met(const char *call, const int met[256], const char *answers)
 {
-    static const unsigned answers[] = { 0, 1, 3, 4, 5, 6, 7, 8, 10, 11 };
-    unsigned met = 0;
-    size_t i;
+    unsigned i;
 
-    for (i = 0; i < sizeof answers / sizeof answers[0]; i++)
-        check(step_met[answers[i]], "answer %u was never given", answers[i]);
     for (i = 0; i < 256; i++)
-        met += step_met[i] != 0;
-    check(met == sizeof answers / sizeof answers[0],
-          "step gave %u different answers", met);
+        check((met[i] != 0) == (i < strlen(answers) && answers[i] == 'x'),
+              "%s: answer %u %s given", call, i, met[i] ? "was" : "was never");
 }
 
-int main(void)
+static void test_all(void)
 {
     test_sizes();
+    test_numbers();
     test_open_refused();
     test_open_accepted();
     test_reopen();
     test_p2(0);
     test_p2(50);
-    test_two_circles();
+    test_two_cycles();
     test_full_slip();
     test_release_order();
     test_frames();
     test_late_mark();
-    test_standing_circle();
+    test_standing_cycle();
     test_refusal_3();
     test_refusal_4();
     test_refusal_5();
     test_table();
     test_table_marks();
-    test_take_marks();
-    test_arrow_kinds();
+    test_acquire_marks();
+    test_kinds();
     test_refusal_7();
     test_refusal_8();
     test_order();
     test_closed();
+    test_closed_by_hand();
     test_unfit_lengths();
+    test_short_buffers();
     test_unfit_heads();
-    test_unfit_holds();
+    test_unfit_held();
     test_unfit_frames();
     test_unfit_marks();
+    test_mark_cycles();
+    test_fullest();
     test_unfit_sheet();
     test_ask_refused();
     test_ask_arrivals();
     test_ask_back();
     test_ask_marks();
-    test_all_met();
+}
+
+int main(int argc, char **argv)
+{
+    only_first = argc > 1 && strcmp(argv[1], "--first") == 0;
+    for (sides = GUARD_BOTH; sides <= FENCE_BEHIND; sides++)
+        test_all();
+    /* The answers from 0 on: x given, - not. */
+    check_met("open", open_met, "x-x");
+    check_met("step", step_met, "xx-xxxxxx-xx");
+    check_met("ask", ask_met, "x---x------x");
     printf("selftest: %lu checks, %lu wrong\n", checks, failures);
     return failures == 0 ? 0 : 1;
 }

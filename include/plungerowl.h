@@ -1,16 +1,17 @@
 /*
  * plungerowl.h - C interface of the lock log validator libplungerowl.a.
  *
+ * docs/FORMATS.md has the whole of it: the log and its records, every byte of
+ * the three buffers, the rules, and the answers with their conditions.
+ *
  * The library keeps no memory of its own. The caller lends three buffers and
- * hands them to every call:
+ * hands them to the calls:
  *
- *   desk   PLUNGEROWL_DESK_SIZE bytes       cores, holds and marks
- *   sheet  PLUNGEROWL_SHEET_SIZE(K) bytes   hold arrows seen
- *   slip   PLUNGEROWL_SLIP_SIZE(K) bytes    the circle shown on a fault
+ *   desk   PLUNGEROWL_DESK_SIZE bytes       cores, held locks, usage marks
+ *   sheet  PLUNGEROWL_SHEET_SIZE(K) bytes   lock dependencies seen
+ *   slip   PLUNGEROWL_SLIP_SIZE(K) bytes    the cycle reported on a fault
  *
- * K is the number of lock classes, 1 to PLUNGEROWL_MAX_CLASSES. The layouts
- * are those of document 01 (01-scope.md): desk and sheet under "What lies on
- * the bench", records under "A record", the slip under "The circle shown".
+ * K is the number of lock classes, 1 to PLUNGEROWL_MAX_CLASSES.
  *
  * Rules for callers, for every call:
  *
@@ -20,15 +21,21 @@
  *   - No pointer is null, not even with length 0: pass any valid pointer.
  *   - The buffers of one call do not overlap: desk, sheet, slip, record, and
  *     for plungerowl_ask also *word and *count. word and count are aligned for
- *     their types.
+ *     their types; the other pointers need no alignment.
  *   - One caller at a time: while a call runs, nobody else reads or writes the
  *     buffers it was given. Calls on separate buffers do not affect each other.
+ *   - The stack has room for the call: PLUNGEROWL_STACK_OPEN and so on, below.
  *
  * The library does not check these rules. Everything else is answered with a
  * number: any lengths, any contents of the buffers, any values.
  *
- * A slice crosses the interface as a pointer followed by a size_t length. The
- * declarations below match the library on x86-64 System V (Linux).
+ * The declarations below match the library on x86-64 System V (Linux). A slice
+ * crosses the interface as a pointer followed by a size_t length. The answer is
+ * the low byte of the returned register (al) and nothing else of it: the other
+ * bits of rax are left as they happen to be (an opening with K = 0 was seen to
+ * return FFFFFFFFFFFFFF02). So a caller in another language must declare the
+ * result as an unsigned 8-bit number, or mask it, and not take it for an int.
+ * Of the C library only memcpy and memset are needed.
  */
 #ifndef PLUNGEROWL_H
 #define PLUNGEROWL_H
@@ -55,6 +62,18 @@ extern "C" {
 #define PLUNGEROWL_HEADER_SIZE 4
 
 /*
+ * Stack that a call needs, in bytes below the caller's stack pointer, at K = 64
+ * (fewer classes need no more). host/stack.c measures it, and tries each call
+ * with so many bytes and a guard page behind them. memcpy and memset are counted
+ * as glibc has them; what the dynamic linker takes to find them at a first call
+ * is not (link with -z now). A step is the deepest: its search goes from class
+ * to class, up to K of them, by two functions that call each other.
+ */
+#define PLUNGEROWL_STACK_OPEN 64
+#define PLUNGEROWL_STACK_STEP 114688
+#define PLUNGEROWL_STACK_ASK 4608
+
+/*
  * Answers. "frame" is the current frame of the core named by the record.
  * 0 and 1 accept the record; every other answer changes no byte of desk,
  * sheet and slip. There is no answer 9.
@@ -67,29 +86,29 @@ enum plungerowl_answer {
     PLUNGEROWL_FAULT = 1,
     /* open: K not 1 to 64, desk under 578 bytes, or sheet under K x K bytes */
     PLUNGEROWL_BAD_OPENING = 2,
-    /* step: not six bytes, wrong mark, core over 7, kind over 9, mode over 2,
-     * or a byte that should be 0 */
+    /* step: not six bytes, wrong signature, core over 7, kind over 9, mode over
+     * 2, or a byte that should be 0 */
     PLUNGEROWL_BAD_RECORD = 3,
-    /* step: take or release of class K or more; ask: class K or more */
+    /* step: acquire or release of class K or more; ask: class K or more */
     PLUNGEROWL_BAD_CLASS = 4,
     /* step: release of a class not held in the frame */
     PLUNGEROWL_NOT_HELD = 5,
-    /* step: event not allowed in the core's state (x in the table) */
+    /* step: interrupt event that the core's state does not allow */
     PLUNGEROWL_BAD_EVENT = 6,
-    /* step: exit soft or exit hard allowed, but holds stand in the frame */
-    PLUNGEROWL_HOLDS_STAND = 7,
-    /* step: take, but the frame has 20 holds */
+    /* step: exit soft or exit hard allowed, but the frame has a held lock */
+    PLUNGEROWL_STILL_HELD = 7,
+    /* step: acquire, but the frame has 20 held locks */
     PLUNGEROWL_FRAME_FULL = 8,
     /* step: desk closed by an earlier fault */
     PLUNGEROWL_CLOSED = 10,
     /* step: desk, sheet or slip unfit; ask: desk or sheet unfit
-     * (too short, or contents as listed under "What the judge says") */
+     * (too short, or contents that the fit test of FORMATS.md rules out) */
     PLUNGEROWL_UNFIT = 11
 };
 
 /* Record kinds (byte 3 of a record). */
 enum plungerowl_kind {
-    PLUNGEROWL_TAKE = 0,
+    PLUNGEROWL_ACQUIRE = 0,
     PLUNGEROWL_RELEASE = 1,
     PLUNGEROWL_HARD_ON = 2,
     PLUNGEROWL_HARD_OFF = 3,
@@ -101,22 +120,29 @@ enum plungerowl_kind {
     PLUNGEROWL_EXIT_HARD = 9
 };
 
-/* Modes of a take (byte 5 of a record). */
+/* Modes of an acquire (byte 5 of a record). */
 enum plungerowl_mode {
     PLUNGEROWL_EXCLUSIVE = 0,
     PLUNGEROWL_NONRECURSIVE_READ = 1,
     PLUNGEROWL_RECURSIVE_READ = 2
 };
 
-/* Arrow kinds: summed in a sheet byte, single in a slip. */
-enum plungerowl_arrow {
+/*
+ * Kinds of a dependency: summed in a sheet byte, single in a slip. First
+ * letter: the held lock excludes everybody (E) or is shared (S). Second: the
+ * acquired lock waits as a recursive read (R) or as any other (N).
+ */
+enum plungerowl_dependency {
     PLUNGEROWL_ER = 1,
     PLUNGEROWL_EN = 2,
     PLUNGEROWL_SR = 4,
     PLUNGEROWL_SN = 8
 };
 
-/* Sources of an arrow in a slip. */
+/*
+ * Sources of a dependency in a slip: a lock acquired while another was held, or
+ * usage marks of hard or of soft interrupts.
+ */
 enum plungerowl_source {
     PLUNGEROWL_SOURCE_HOLD = 0,
     PLUNGEROWL_SOURCE_HARD = 1,
@@ -135,13 +161,13 @@ uint8_t plungerowl_open(uint64_t classes,
                         uint8_t *sheet, size_t sheet_len);
 
 /*
- * Step: judge one record of the log (without the log's header).
+ * Step: validate one record of the log (without the log's header).
  *
  * Answers 0, 1, 3, 4, 5, 6, 7, 8, 10 or 11. Where several refusals apply, the
  * first in the order 11, 10, 3, 4, 6, 7, 5, 8 is given. A record may be any
  * bytes of any length. On 1 the slip holds n in byte 0 and then n times class,
- * arrow kind, source; its bytes past 1 + 3n are unchanged. Which circle is
- * shown, where there are several, is the library's choice.
+ * kind, source; its bytes past 1 + 3n are unchanged. Which cycle is reported,
+ * where there are several, is the library's choice.
  */
 uint8_t plungerowl_step(uint8_t *desk, size_t desk_len,
                         uint8_t *sheet, size_t sheet_len,
@@ -149,7 +175,7 @@ uint8_t plungerowl_step(uint8_t *desk, size_t desk_len,
                         const uint8_t *record, size_t record_len);
 
 /*
- * Ask: which classes end a strong path of one or more arrows from class_?
+ * Ask: which classes end a strong path of one or more dependencies from class_?
  *
  * Answers 0, or 11 before 4. On 0 bit i of *word is set for each such class i
  * and *count is the number of bits set; on a refusal both are 0. A closed desk

@@ -1,0 +1,438 @@
+/*
+ * stack.c - measure the stack that each call of libplungerowl.a uses, and hold
+ * it to the limits of plungerowl.h.
+ *
+ * Each call runs on a painted stack; it used what lies between its caller's
+ * stack pointer and the lowest byte that no longer has the paint. The most that
+ * any input took is printed for some K. Wrong are, at K = 64: more than the
+ * limit, less than half of it (the limit is stale), a call that does not get by
+ * with a stack of exactly the limit and a guard page behind it, and one that
+ * gets by with less than was measured (then the measure is wrong).
+ *
+ * The worst input is known from crates/search/src/lib.rt. arrived_by_n calls
+ * arrived_by_r for its own class, which calls arrived_by_n for the next one, so
+ * a class that is reached by N and left by E costs both frames, and every other
+ * class one of the two. No class is twice on the path. So a chain of EN
+ * dependencies through all classes, from class 0 where the search begins, is
+ * the deepest; without a cycle its last visit writes a little further down.
+ * The other inputs are there to meet something deeper, should it exist.
+ *
+ * Link with -z now: the dynamic linker's stack at a first call is not measured.
+ * Exit status: 0 all right, 1 something wrong, 2 the system refuses.
+ */
+#define _DEFAULT_SOURCE
+#include <signal.h>
+#include <stdint.h>
+#include <stdio.h>
+#include <stdlib.h>
+#include <string.h>
+#include <sys/mman.h>
+#include <sys/resource.h>
+#include <sys/wait.h>
+#include <ucontext.h>
+#include <unistd.h>
+
+#include "plungerowl.h"
+
+#define MARKS_AT 34
+#define STACK_SIZE ((size_t)1 << 18)
+#define PAINT 0xC5
+#define RANDOM_INPUTS 300
+
+enum { CALLS = 3, OPEN = 0, STEP = 1, ASK = 2 };
+
+static const char *const call_names[CALLS] = { "open", "step", "ask" };
+static const size_t limits[CALLS] = {
+    PLUNGEROWL_STACK_OPEN, PLUNGEROWL_STACK_STEP, PLUNGEROWL_STACK_ASK
+};
+static const unsigned sizes[] = { 1, 8, 16, 32, 64 };
+
+static int wrong;
+
+static void say_wrong(const char *call, const char *what, size_t a, size_t b)
+{
+    printf("wrong: stack of %s: %s (%zu, %zu)\n", call, what, a, b);
+    wrong = 1;
+}
+
+static void quit(const char *message)
+{
+    perror(message);
+    exit(2);
+}
+
+/* ----------------------------------------------------- a call on a stack */
+
+struct input {
+    unsigned k;
+    unsigned class_; /* asked for */
+    uint8_t record[PLUNGEROWL_RECORD_SIZE];
+    uint8_t desk[PLUNGEROWL_DESK_SIZE];
+    uint8_t sheet[PLUNGEROWL_SHEET_SIZE(PLUNGEROWL_MAX_CLASSES)];
+};
+
+/* What the call on the other stack is given, and its answer. */
+static struct input lent;
+static uint8_t slip[PLUNGEROWL_SLIP_SIZE(PLUNGEROWL_MAX_CLASSES)];
+static uint64_t word;
+static uint32_t count;
+static unsigned answer;
+
+/* The stack pointer of the caller of the empty functions below. */
+static uint8_t *caller_stack;
+
+#define NOTE_CALLER() \
+    (caller_stack = (uint8_t *)__builtin_frame_address(0) + 2 * sizeof(void *))
+
+static uint8_t empty_open(uint64_t classes, uint8_t *desk, size_t desk_len,
+                          uint8_t *sheet, size_t sheet_len)
+{
+    (void)classes, (void)desk, (void)desk_len, (void)sheet, (void)sheet_len;
+    NOTE_CALLER();
+    return 0;
+}
+
+static uint8_t empty_step(uint8_t *desk, size_t desk_len, uint8_t *sheet,
+                          size_t sheet_len, uint8_t *slip_, size_t slip_len,
+                          const uint8_t *record, size_t record_len)
+{
+    (void)desk, (void)desk_len, (void)sheet, (void)sheet_len;
+    (void)slip_, (void)slip_len, (void)record, (void)record_len;
+    NOTE_CALLER();
+    return 0;
+}
+
+static uint8_t empty_ask(const uint8_t *desk, size_t desk_len,
+                         const uint8_t *sheet, size_t sheet_len,
+                         uint64_t class_, uint64_t *word_, uint32_t *count_)
+{
+    (void)desk, (void)desk_len, (void)sheet, (void)sheet_len;
+    (void)class_, (void)word_, (void)count_;
+    NOTE_CALLER();
+    return 0;
+}
+
+/* volatile: the compiler must call what they point to, as it points there. */
+static uint8_t (*volatile to_open)(uint64_t, uint8_t *, size_t, uint8_t *,
+                                   size_t);
+static uint8_t (*volatile to_step)(uint8_t *, size_t, uint8_t *, size_t,
+                                   uint8_t *, size_t, const uint8_t *, size_t);
+static uint8_t (*volatile to_ask)(const uint8_t *, size_t, const uint8_t *,
+                                  size_t, uint64_t, uint64_t *, uint32_t *);
+
+static void point_to_library(void)
+{
+    to_open = plungerowl_open;
+    to_step = plungerowl_step;
+    to_ask = plungerowl_ask;
+}
+
+static void point_to_empty(void)
+{
+    to_open = empty_open;
+    to_step = empty_step;
+    to_ask = empty_ask;
+}
+
+static void run_open(void)
+{
+    answer = to_open(lent.k, lent.desk, sizeof lent.desk,
+                     lent.sheet, sizeof lent.sheet);
+}
+
+static void run_step(void)
+{
+    answer = to_step(lent.desk, sizeof lent.desk, lent.sheet, sizeof lent.sheet,
+                     slip, sizeof slip, lent.record, sizeof lent.record);
+}
+
+static void run_ask(void)
+{
+    answer = to_ask(lent.desk, sizeof lent.desk, lent.sheet, sizeof lent.sheet,
+                    lent.class_, &word, &count);
+}
+
+static void (*const runs[CALLS])(void) = { run_open, run_step, run_ask };
+
+/* Run the call on the stack of the given size that begins at low. */
+static void run_on(uint8_t *low, size_t size, int call)
+{
+    static ucontext_t here, there;
+
+    if (getcontext(&there) != 0)
+        quit("getcontext");
+    there.uc_stack.ss_sp = low;
+    there.uc_stack.ss_size = size;
+    there.uc_link = &here;
+    makecontext(&there, runs[call], 0);
+    if (swapcontext(&here, &there) != 0)
+        quit("swapcontext");
+}
+
+/* A stack with a page behind it that must not be touched. */
+static uint8_t *make_stack(void)
+{
+    size_t page = (size_t)sysconf(_SC_PAGESIZE);
+    uint8_t *pages = mmap(NULL, page + STACK_SIZE, PROT_READ | PROT_WRITE,
+                          MAP_PRIVATE | MAP_ANONYMOUS, -1, 0);
+
+    if (pages == MAP_FAILED || mprotect(pages, page, PROT_NONE) != 0)
+        quit("mmap");
+    return pages + page;
+}
+
+static uint8_t *stack;
+
+/* What the way to a call takes of a stack, before the call itself. */
+static size_t overhead_of(int call)
+{
+    point_to_empty();
+    run_on(stack, STACK_SIZE, call);
+    point_to_library();
+    return (size_t)(stack + STACK_SIZE - caller_stack);
+}
+
+/* The bytes that the call used of a painted stack. */
+static size_t measure(const struct input *in, int call)
+{
+    size_t low = 0;
+
+    lent = *in;
+    memset(stack, PAINT, STACK_SIZE);
+    run_on(stack, STACK_SIZE, call);
+    while (low < STACK_SIZE && stack[low] == PAINT)
+        low++;
+    return STACK_SIZE - overhead_of(call) - low;
+}
+
+/* Whether the call gets by with so many bytes and a guard page behind them. */
+static int suffices(const struct input *in, int call, size_t size)
+{
+    size_t overhead = overhead_of(call);
+    int status;
+    pid_t child;
+
+    fflush(stdout);
+    child = fork();
+    if (child < 0)
+        quit("fork");
+    if (child == 0) {
+        lent = *in;
+        run_on(stack, size + overhead, call);
+        _exit(answer > PLUNGEROWL_FAULT);
+    }
+    if (waitpid(child, &status, 0) != child)
+        quit("waitpid");
+    if (WIFEXITED(status) && WEXITSTATUS(status) == 0)
+        return 1;
+    if (!WIFSIGNALED(status) || WTERMSIG(status) != SIGSEGV)
+        say_wrong(call_names[call], "ended in another way", size, 0);
+    return 0;
+}
+
+/* ---------------------------------------------------------------- inputs */
+
+static uint64_t seed = 20261115;
+
+static unsigned below(unsigned n)
+{
+    seed ^= seed << 13;
+    seed ^= seed >> 7;
+    seed ^= seed << 17;
+    return (unsigned)(seed >> 33) % n;
+}
+
+static void put(struct input *in, unsigned from, unsigned to, unsigned kinds)
+{
+    if (from < in->k && to < in->k)
+        in->sheet[from * in->k + to] |= (uint8_t)kinds;
+}
+
+/* A hard on in state 0: accepted, and changes nothing before the search. */
+static void put_hard_on(struct input *in)
+{
+    static const uint8_t hard_on[] = { 0x4C, 0x4B, 0, PLUNGEROWL_HARD_ON,
+                                       0, 0 };
+
+    memcpy(in->record, hard_on, sizeof hard_on);
+}
+
+/* An acquire of the last class over 19 held locks of class 0. */
+static void put_acquire(struct input *in)
+{
+    const uint8_t acquire[] = { 0x4C, 0x4B, 0, PLUNGEROWL_ACQUIRE,
+                                (uint8_t)(in->k - 1),
+                                PLUNGEROWL_RECURSIVE_READ };
+
+    memcpy(in->record, acquire, sizeof acquire);
+    in->desk[10] = 19;
+    memset(in->desk + 98, 64 * PLUNGEROWL_RECURSIVE_READ, 19);
+}
+
+/* A chain through all classes in order, its kinds in turn. */
+static void put_chain(struct input *in, unsigned even, unsigned odd)
+{
+    unsigned i;
+
+    for (i = 0; i + 1 < in->k; i++)
+        put(in, i, i + 1, i % 2 == 0 ? even : odd);
+}
+
+static void put_dense(struct input *in)
+{
+    unsigned from, to;
+
+    for (from = 0; from < in->k; from++)
+        for (to = from + 1; to < in->k; to++)
+            put(in, from, to, 15);
+}
+
+static void put_marks(struct input *in, unsigned mark)
+{
+    memset(in->desk + MARKS_AT, (int)mark, in->k);
+}
+
+static void put_random(struct input *in)
+{
+    unsigned from, to, density = 1 + below(8);
+    int acyclic = below(4) != 0;
+
+    for (from = 0; from < in->k; from++)
+        for (to = acyclic ? from + 1 : 0; to < in->k; to++)
+            if (below(density) == 0)
+                put(in, from, to, below(16));
+    if (below(2) == 0)
+        put_chain(in, 1u << below(4), 1u << below(4));
+    if (below(2) == 0)
+        put(in, in->k - 1, below(in->k), 1u << below(4));
+    if (below(4) == 0)
+        put_marks(in, below(4) + 16 * below(4)); /* safe ones */
+    else if (below(4) == 0)
+        put_marks(in, 5 * below(16) & 12); /* hard-unsafe ones */
+    if (below(4) == 0)
+        put_acquire(in);
+}
+
+enum { CHAIN = 1, SHAPES = 14 };
+
+static void make_input(struct input *in, unsigned k, unsigned shape)
+{
+    memset(in, 0, sizeof *in);
+    in->k = k;
+    in->desk[0] = (uint8_t)k;
+    put_hard_on(in);
+    switch (shape) {
+    case 0: break;
+    case CHAIN: put_chain(in, PLUNGEROWL_EN, PLUNGEROWL_EN); break;
+    case 2: put_chain(in, PLUNGEROWL_EN, PLUNGEROWL_EN);
+            put(in, k - 1, 0, PLUNGEROWL_EN); break;
+    case 3: put_chain(in, PLUNGEROWL_ER, PLUNGEROWL_EN);
+            put(in, k - 1, 0, PLUNGEROWL_EN); break;
+    case 4: put_chain(in, PLUNGEROWL_EN, PLUNGEROWL_SN);
+            put(in, k - 1, 0, PLUNGEROWL_SN); break;
+    case 5: put_chain(in, PLUNGEROWL_SN, PLUNGEROWL_SN); break;
+    case 6: put_chain(in, PLUNGEROWL_ER, PLUNGEROWL_ER);
+            put(in, k - 1, 0, PLUNGEROWL_ER); break;
+    case 7: put_chain(in, 15, 15); break;
+    case 8: put_dense(in); break;
+    case 9: put_dense(in); put(in, k - 1, 0, PLUNGEROWL_EN); break;
+    case 10: put_dense(in); put_marks(in, 255); break;
+    case 11: put_chain(in, PLUNGEROWL_EN, PLUNGEROWL_EN);
+             put_marks(in, 51); break;
+    case 12: put_chain(in, PLUNGEROWL_EN, PLUNGEROWL_EN);
+             put_acquire(in); break;
+    case 13: put_chain(in, PLUNGEROWL_EN, PLUNGEROWL_EN); put_acquire(in);
+             put(in, k - 1, 0, PLUNGEROWL_EN); break;
+    default: put_random(in); break;
+    }
+    in->class_ = below(k);
+}
+
+/* ------------------------------------------------------------ the measures */
+
+struct worst {
+    size_t used;
+    struct input in;
+};
+
+static void measure_all(unsigned k, struct worst worst[CALLS])
+{
+    struct input in;
+    unsigned shape;
+    int call;
+
+    memset(worst, 0, CALLS * sizeof worst[0]);
+    for (shape = 0; shape < SHAPES + RANDOM_INPUTS; shape++) {
+        make_input(&in, k, shape);
+        for (call = 0; call < CALLS; call++) {
+            size_t used = measure(&in, call);
+
+            if (answer > PLUNGEROWL_FAULT)
+                say_wrong(call_names[call], "refused an input", shape, answer);
+            if (used > worst[call].used) {
+                worst[call].used = used;
+                worst[call].in = in;
+            }
+        }
+    }
+    printf("stack: K = %2u: open %zu, step %zu, ask %zu bytes\n", k,
+           worst[OPEN].used, worst[STEP].used, worst[ASK].used);
+}
+
+static void check_limit(int call, const struct worst *worst)
+{
+    size_t limit = limits[call];
+    size_t less = (worst->used - 1) / 16 * 16; /* stacks are aligned to 16 */
+
+    if (worst->used > limit)
+        say_wrong(call_names[call], "over the limit", worst->used, limit);
+    if (2 * worst->used < limit) {
+        say_wrong(call_names[call], "under half the limit", worst->used, limit);
+        return;
+    }
+    if (!suffices(&worst->in, call, limit))
+        say_wrong(call_names[call], "the limit does not suffice", limit, 0);
+    if (suffices(&worst->in, call, less))
+        say_wrong(call_names[call], "less than measured suffices", less, 0);
+}
+
+/* The chain is as deep as any input met. */
+static void check_chain(const struct worst *worst)
+{
+    struct input in;
+    size_t used;
+
+    make_input(&in, PLUNGEROWL_MAX_CLASSES, CHAIN);
+    used = measure(&in, STEP);
+    if (used != worst->used)
+        say_wrong("step", "the chain is not the worst", used, worst->used);
+}
+
+int main(void)
+{
+    static struct worst worst[CALLS];
+    const struct rlimit no_core = { 0, 0 };
+    size_t most[CALLS] = { 0 };
+    size_t i;
+    int call;
+
+    setrlimit(RLIMIT_CORE, &no_core);
+    stack = make_stack();
+    point_to_library();
+    for (i = 0; i < sizeof sizes / sizeof sizes[0]; i++) {
+        measure_all(sizes[i], worst);
+        for (call = 0; call < CALLS; call++) {
+            if (worst[call].used < most[call])
+                say_wrong(call_names[call], "fewer classes need more",
+                          most[call], worst[call].used);
+            most[call] = worst[call].used;
+        }
+    }
+    check_chain(&worst[STEP]);
+    for (call = 0; call < CALLS; call++)
+        check_limit(call, &worst[call]);
+    printf("stack: limits open %zu, step %zu, ask %zu bytes, %s\n",
+           limits[OPEN], limits[STEP], limits[ASK],
+           wrong ? "not kept" : "each tried with a guard page");
+    return wrong;
+}
