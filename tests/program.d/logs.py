@@ -1,8 +1,9 @@
 """The logs that the tests of the program make: logs whose record of a chosen number decides, and random ones."""
-import random
+import random, re
+from pathlib import Path
 from rules import *
 
-BUFFER = 4096  # the program's
+BUFFER = int(re.search(r"const BUF_SIZE: usize = (\d+);", (Path(__file__).resolve().parents[2] / "crates/replay/src/main.rt").read_text(encoding="utf-8"))[1])  # the program's
 BOUNDARIES = [BUFFER, 2 * BUFFER, 3 * BUFFER]
 FEW, BUSY_CORES, FREE_CORES = 8, range(2, 8), (0, 1)
 

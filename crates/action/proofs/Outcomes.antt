@@ -11,15 +11,16 @@ use lib.ListN.{length, getD, set, length-set}
 use lib.Seq.{getD-set-other}
 use borrow.Author.Tests.{le-leb, lt-leb, eq-eqb, ne-eqb}
 use Rattle.rules.specs.Limits.{coreCount, maxDepth}
-use Rattle.rules.specs.Record.{Event, acquire, release, interrupt, eventBy, eventOf, coreOf, kindOf, classOf, modeOf, WellFormed}
+use Rattle.rules.specs.Record.{Event, acquire, release, interrupt, eventBy, eventOf, coreOf, kindOf, classOf, modeOf}
+use Rattle.rules.specs.WellFormed.{WellFormed}
 use Rattle.rules.specs.Context.{Frame, frameOf, noState, nextState, leavesHandler}
 use Rattle.rules.specs.HeldLocks.{HeldLock, Core, current, isHeld, releaseNewest, afterEvent, withState}
 use Rattle.rules.specs.Graph.{drawnBy}
 use Rattle.rules.specs.Verdict.{Refusal, noClass, noTransition, stillHeld, notHeld, tooDeep, refusalNumber, someLock}
 use Rattle.rules.specs.Run.{State}
 use Rattle.validity.specs.Valid.{Valid}
-use Rattle.layout.specs.Layout.{frameCount, framesPerCore, deskSize, statesAt, depthsAt, heldAt, frameNumber, classesOf, stateOf, depthOf}
-use Rattle.layout.specs.Encoding.{DeskBytes, SheetBytes, Encodes, KeepsPast}
+use Rattle.layout.specs.Layout.{frameCount, framesPerCore, deskSize, statesAt, depthsAt, heldAt, frameNumber, classesOf, stateOf, depthOf, KeepsPast}
+use Rattle.layout.specs.Encoding.{DeskBytes, SheetBytes, Encodes}
 use Rattle.layout.proofs.Buffers.{keeps-self}
 use Rattle.context.proofs.Frames.{frame-less}
 use Rattle.update.specs.Update.{FrameBytes, KeepsElse, SmallClasses, Pushed, Removed, Drawn, newestOf, removeAt}

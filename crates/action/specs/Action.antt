@@ -10,8 +10,8 @@ use Rattle.rules.specs.Marks.{Marks}
 use Rattle.rules.specs.Verdict.{Refusal, refusalNumber, refusal}
 use Rattle.rules.specs.Run.{State, situation, accept}
 use Rattle.validity.specs.Valid.{ValidCore, Valid}
-use Rattle.layout.specs.Layout.{deskSize, classesOf}
-use Rattle.layout.specs.Encoding.{DeskBytes, SheetBytes, Encodes, KeepsPast}
+use Rattle.layout.specs.Layout.{deskSize, classesOf, KeepsPast}
+use Rattle.layout.specs.Encoding.{DeskBytes, SheetBytes, Encodes}
 
 -- The desk encodes valid cores.
 pub record Cored (desk : List ℕ) : Type 0 where

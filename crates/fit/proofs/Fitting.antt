@@ -1,5 +1,5 @@
 -- The fit test and the rules: fit buffers encode a valid state, and buffers that encode a valid state are fit. Assumes nothing.
-use mathlib.Core.Path.{_≡_, refl, sym, ap, ap₂, _∙_, subst, fun-ext}
+use mathlib.Core.Path.{_≡_, refl, sym, ap, ap₂, _∙_, subst, subst₂, fun-ext}
 use mathlib.Core.Bool.{Bool, true, false, cond, _&&_, true≢false}
 use mathlib.Core.List.{List, [], _∷_, map}
 use Prim.Native.Nat.{ℕ, zero, suc, _+_, _*_, _/_, _%_, _^_, _≤_, _<_}
@@ -26,10 +26,10 @@ use Rattle.rules.proofs.Closure.{length-tabulate, getD-tabulate}
 use Rattle.layout.proofs.Flags.{markFlags, kindFlags, mark-packed, kind-packed, mark-digit, kind-digit}
 use Rattle.layout.proofs.Buffers.{cell-inside}
 use Rattle.layout.specs.Layout.{framesPerCore, frameCount, sheetSize, frameNumber, classesOf, closedOf, depthOf, markOf, heldOf, kindsOf}
-use Rattle.layout.specs.Encoding.{markByte, kindByte, heldByte, heldByteAt, DeskBytes, SheetBytes, Encodes, AllBytes}
+use Rattle.layout.specs.Encoding.{markByte, kindByte, heldByte, heldByteAt, DeskBytes, SheetBytes, Encodes}
 use Rattle.layout.specs.Fit.{fits}
 use Rattle.validity.specs.Valid.{ValidLock, ValidLocks, ValidCore, Valid}
-use Rattle.layout.specs.Decoding.{heldLockOf, heldLocks, viewCore, viewMarks, viewLocks, view}
+use Rattle.layout.specs.Decoding.{heldLockOf, heldLocks, viewCore, viewMarks, viewLocks, view, StandFor}
 use Rattle.fit.proofs.Places.{by-frame, by-pair}
 use Rattle.fit.proofs.Facts.{CoreFacts, FrameFacts, MarkFacts, Facts, facts, fits-of}
 
@@ -80,7 +80,7 @@ module _ (desk sheet : List ℕ) (f : Facts desk sheet) where
       let small : kindsOf sheet K from to < 2 ^ 4 = let k = f .kinds (from * K + to) (cell-inside K from to l h) in omega arith in
       sym (kind-packed (viewLocks K sheet) from to ∙ bits-packed 4 (kindsOf sheet K from to) (ltb from K && ltb to K) (and-both (lt-ltb from K l) (lt-ltb to K h)) small)
 
-  fit-desk : AllBytes desk
+  fit-desk : ((c : ℕ) → c < maxClasses → markOf desk c < 256)
       → DeskBytes (classesOf desk) (view desk sheet .is-closed) (view desk sheet .cores) (viewMarks desk) desk
   fit-desk bytes =
       record {
@@ -89,7 +89,7 @@ module _ (desk sheet : List ℕ) (f : Facts desk sheet) where
         closed = sym (flag-of (closedOf desk) (let h = f .closed in omega arith));
         states = λ i l. rw (core-at i l);
         depths = λ i g l h. rw (core-at i l, held-at i g h) (depth-view (frameNumber i g));
-        usage = λ c l. marks-view c l (bytes _);
+        usage = λ c l. marks-view c l (bytes c l);
         held = λ i g p l h q. rw (core-at i l, held-at i g h) (held-view (frameNumber i g) p (omega arith) q);
       }
 
@@ -97,7 +97,7 @@ module _ (desk sheet : List ℕ) (f : Facts desk sheet) where
   fit-sheet = record { long = f .square; kinds = kinds-view }
 
 -- A fit pair of buffers encodes its view.
-pub fit-encodes : (desk sheet : List ℕ) → fits desk sheet ≡ true → AllBytes desk
+pub fit-encodes : (desk sheet : List ℕ) → fits desk sheet ≡ true → ((c : ℕ) → c < maxClasses → markOf desk c < 256)
     → Encodes (classesOf desk) (view desk sheet) desk sheet
 fit-encodes desk sheet e bytes =
     let f = facts desk sheet e in record { in-desk = fit-desk desk sheet f bytes; in-sheet = fit-sheet desk sheet f }
@@ -350,7 +350,22 @@ encodes-fit K s desk sheet some few v e =
     fits-of desk sheet (all-facts desk sheet (rw k some) (rw k few) s (rw k v) (subst (λ (n : ℕ). Encodes n s desk sheet) (sym k) e))
 
 -- A valid state is the view of the buffers that encode it.
-pub view-is : (K : ℕ) (s : State) (desk sheet : List ℕ) → 1 ≤ K → K ≤ maxClasses → Valid K s → Encodes K s desk sheet → view desk sheet ≡ s
+view-is : (K : ℕ) (s : State) (desk sheet : List ℕ) → 1 ≤ K → K ≤ maxClasses → Valid K s → Encodes K s desk sheet → view desk sheet ≡ s
 view-is K s desk sheet some few v e =
     let k : classesOf desk ≡ K = e .in-desk .classes in
     view-of desk sheet (rw k some) (rw k few) s (rw k v) (subst (λ (n : ℕ). Encodes n s desk sheet) (sym k) e)
+
+-- ---- Standing for a state and encoding it are the same.
+
+pub stand-encodes : {K : ℕ} {s : State} {desk sheet : List ℕ} → StandFor K s desk sheet → Encodes K s desk sheet
+stand-encodes {desk = desk} {sheet} f =
+    subst₂ (λ (k : ℕ) (s : State). Encodes k s desk sheet) (f .classes) (f .is-view) (fit-encodes desk sheet (f .fit) (f .byte-marks))
+
+pub encodes-stand : {K : ℕ} {s : State} {desk sheet : List ℕ} → 1 ≤ K → K ≤ maxClasses → Valid K s → Encodes K s desk sheet → StandFor K s desk sheet
+encodes-stand {K} {s} {desk} {sheet} some few v e =
+    record {
+      fit = encodes-fit K s desk sheet some few v e;
+      classes = e .in-desk .classes;
+      byte-marks = λ c l. let p = pack-lt 8 (λ i. getD (markFlags (s .graph .marks) c) i false) in rw (e .in-desk .usage c l, mark-packed (s .graph .marks) c) p;
+      is-view = view-is K s desk sheet some few v e;
+    }

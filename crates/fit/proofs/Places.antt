@@ -1,4 +1,4 @@
--- Every byte of the state buffer and of the matrix has a name: what holds at each named place holds of every byte. Assumes nothing.
+-- Every byte of the desk and of the sheet has a name: what holds at each named place holds of every byte. Assumes nothing.
 use mathlib.Core.Path.{_≡_, subst}
 use Prim.Native.Nat.{ℕ, _+_, _-_, _*_, _/_, _%_, _≤_, _<_}
 use native.Mathlib.Nat.{mod-lt, div-add-mod', div-lt-iff-lt-mul}
@@ -15,7 +15,7 @@ by-frame P a n l =
     let e : frameNumber (n / framesPerCore) (n % framesPerCore) ≡ n = omega arith in
     subst P e (a (n / framesPerCore) (n % framesPerCore) (omega arith) (omega arith))
 
--- What holds at each named place of the state buffer.
+-- What holds at each named place of the desk.
 pub record AtPlaces (P : ℕ → Type 0) : Type 0 where
   pub classes : P classesAt
   pub closed : P closedAt

@@ -10,8 +10,8 @@ use lib.Seq.{ext-getD}
 use Rattle.rules.specs.HeldLocks.{Core}
 use Rattle.rules.specs.Marks.{Marks}
 use Rattle.rules.specs.Graph.{Dependencies}
-use Rattle.layout.specs.Layout.{deskSize, sheetSize}
-use Rattle.layout.specs.Encoding.{DeskBytes, SheetBytes, KeepsPast}
+use Rattle.layout.specs.Layout.{deskSize, sheetSize, KeepsPast}
+use Rattle.layout.specs.Encoding.{DeskBytes, SheetBytes}
 use Rattle.fit.proofs.Places.{AtPlaces, by-place, by-pair}
 
 -- Two lists of one length are equal if they are below n and from n on.

@@ -4,7 +4,7 @@ use mathlib.Core.List.{List}
 use Prim.Native.Nat.{ℕ, _+_, _*_, _<_, _≤_}
 use native.Mathlib.Nat.{mul-le-mul-right}
 use native.Mathlib.Omega.{arith}
-use Rattle.layout.specs.Encoding.{KeepsPast}
+use Rattle.layout.specs.Layout.{KeepsPast}
 
 pub cell-inside : (K from to : ℕ) → from < K → to < K → from * K + to < K * K
 cell-inside K from to l h = let m = mul-le-mul-right K l in omega arith

@@ -1,17 +1,19 @@
--- What the bytes stand for: the state of the rules that a fit desk and sheet have, and the cycle that a slip has. It undoes Encoding.antt
--- (crates/fit/proofs/Fitting.antt). Past the cores, frames and classes the state is as at opening.
-use mathlib.Core.Bool.{cond, _&&_}
+-- What the bytes stand for: a fit desk and sheet for a state of the rules, a slip for a cycle. Past the cores, frames and classes the state is as
+-- at opening.
+use mathlib.Core.Path.{_≡_}
+use mathlib.Core.Bool.{true, cond, _&&_}
 use mathlib.Core.List.{List, []}
-use Prim.Native.Nat.{ℕ, zero, suc, _+_, _*_, _/_, _%_}
+use Prim.Native.Nat.{ℕ, zero, suc, _+_, _*_, _/_, _%_, _<_}
 use lib.Dec.{ltb, eqb}
-use lib.ListN.{getD}
+use lib.ListN.{length, getD}
 use Rattle.rules.specs.Limits.{coreCount, maxClasses}
 use Rattle.rules.specs.HeldLocks.{HeldLock, Core, freshCore}
 use Rattle.rules.specs.Marks.{Marks, hardIrq, softIrq, markBit}
 use Rattle.rules.specs.Graph.{Dependencies, Kind, ER, EN, SR, SN, kindBit, Source, lock, irq}
 use Rattle.rules.specs.Decision.{tabulate}
-use Rattle.rules.specs.Cycle.{Entry}
+use Rattle.rules.specs.Cycle.{Entry, entryBytes, entryAt}
 use Rattle.rules.specs.Run.{State}
+use Rattle.layout.specs.Fit.{fits}
 use Rattle.layout.specs.Layout.{framesPerCore, frameNumber, entriesAt, entrySize, classesOf, closedOf, stateOf, depthOf, markOf, heldOf, kindsOf, countOf}
 
 abbrev pub heldLockOf : ℕ → HeldLock
@@ -39,6 +41,20 @@ view desk sheet =
       cores = λ i. cond (ltb i coreCount) (viewCore desk i) freshCore;
       graph = record { locks = viewLocks (classesOf desk) sheet; marks = viewMarks desk };
     }
+
+-- Desk and sheet stand for the state s of K classes. That settles all their bytes (crates/fit/proofs/Settled.antt); of lists of numbers it has to be
+-- said that the mark bytes are bytes.
+pub record StandFor (K : ℕ) (s : State) (desk sheet : List ℕ) : Type 0 where
+  pub fit : fits desk sheet ≡ true
+  pub classes : classesOf desk ≡ K
+  pub byte-marks : (c : ℕ) → c < maxClasses → markOf desk c < 256
+  pub is-view : view desk sheet ≡ s
+
+-- "Byte 0 is n; then n times three bytes: class, kind, source."
+pub record SlipBytes (es : List Entry) (slip : List ℕ) : Type 0 where
+  pub count : countOf slip ≡ length es
+  pub entries : (i j : ℕ) → i < length es → j < entrySize
+      → getD slip (entriesAt + entrySize * i + j) 0 ≡ getD (entryBytes (entryAt es i)) j 0
 
 -- The kind and the source of a byte of a slip: 1 ER, 2 EN, 4 SR, 8 SN; 0 a lock dependency, 1 hard, 2 soft. Other bytes stand in no slip.
 abbrev pub kindOfByte : ℕ → Kind

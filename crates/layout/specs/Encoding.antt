@@ -1,4 +1,5 @@
--- How the bytes encode a state of the rules and a cycle. Desk and sheet are settled by it (crates/fit/proofs/Settled.antt).
+-- How the bytes encode a state of the rules: Decoding.antt the other way round, for the proofs. Nothing here has to be believed
+-- (crates/fit/proofs/Fitting.antt).
 use mathlib.Core.Path.{_≡_}
 use mathlib.Core.Bool.{Bool}
 use mathlib.Core.List.{List, map}
@@ -10,9 +11,8 @@ use Rattle.rules.specs.Context.{Frame}
 use Rattle.rules.specs.HeldLocks.{E, S, R, N, HeldLock, Core}
 use Rattle.rules.specs.Marks.{Marks, Level, hardIrq, softIrq, Usage, safe, unsafe, markBit}
 use Rattle.rules.specs.Graph.{Dependencies, Kind, ER, EN, SR, SN, kindBit}
-use Rattle.rules.specs.Cycle.{Entry, entryBytes, entryAt}
 use Rattle.rules.specs.Run.{State}
-use Rattle.layout.specs.Layout.{framesPerCore, deskSize, sheetSize, entriesAt, entrySize, frameNumber, classesOf, closedOf, stateOf, depthOf, markOf, heldOf, kindsOf, countOf}
+use Rattle.layout.specs.Layout.{framesPerCore, deskSize, sheetSize, frameNumber, classesOf, closedOf, stateOf, depthOf, markOf, heldOf, kindsOf}
 
 -- "marks by class": the sum of the bits of the marks that are set.
 unfoldable pub markByte : Marks → ℕ → ℕ
@@ -57,18 +57,3 @@ pub record SheetBytes (K : ℕ) (locks : Dependencies) (sheet : List ℕ) : Type
 pub record Encodes (K : ℕ) (s : State) (desk sheet : List ℕ) : Type 0 where
   pub in-desk : DeskBytes K (s .is-closed) (s .cores) (s .graph .marks) desk
   pub in-sheet : SheetBytes K (s .graph .locks) sheet
-
--- "Byte 0 is n; then n times three bytes: class, kind, source."
-pub record SlipBytes (es : List Entry) (slip : List ℕ) : Type 0 where
-  pub count : countOf slip ≡ length es
-  pub entries : (i j : ℕ) → i < length es → j < entrySize
-      → getD slip (entriesAt + entrySize * i + j) 0 ≡ getD (entryBytes (entryAt es i)) j 0
-
--- A list of bytes. Every lent buffer is one.
-abbrev pub AllBytes : List ℕ → Type 0
-AllBytes l = (j : ℕ) → getD l j 0 < 256
-
--- A buffer of which only the first n bytes may differ: it is as long, and the others are as they were.
-pub record KeepsPast (n : ℕ) (before after : List ℕ) : Type 0 where
-  pub long : length after ≡ length before
-  pub past : (j : ℕ) → n ≤ j → getD after j 0 ≡ getD before j 0

@@ -1,8 +1,9 @@
 -- Document 01, "What lies on the bench": where each byte of the desk, the sheet and the slip stands. Every other definition goes by these names;
 -- src/lib.rt has them once more for the code.
+use mathlib.Core.Path.{_≡_}
 use mathlib.Core.List.{List}
-use Prim.Native.Nat.{ℕ, _+_, _*_}
-use lib.ListN.{getD}
+use Prim.Native.Nat.{ℕ, _+_, _*_, _≤_}
+use lib.ListN.{length, getD}
 use Rattle.rules.specs.Limits.{coreCount, maxClasses, maxDepth}
 use Rattle.rules.specs.Context.{Frame}
 
@@ -80,3 +81,8 @@ kindsOf sheet K from to = getD sheet (from * K + to) 0
 
 abbrev pub countOf : List ℕ → ℕ
 countOf slip = getD slip countAt 0
+
+-- A buffer of which only the first n bytes may differ: it is as long, and the others are as they were.
+pub record KeepsPast (n : ℕ) (before after : List ℕ) : Type 0 where
+  pub long : length after ≡ length before
+  pub past : (j : ℕ) → n ≤ j → getD after j 0 ≡ getD before j 0

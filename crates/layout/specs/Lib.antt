@@ -1,4 +1,4 @@
 pub mod Layout
-pub mod Encoding
-pub mod Decoding
 pub mod Fit
+pub mod Decoding
+pub mod Encoding

@@ -13,8 +13,8 @@ use Rattle.rules.specs.Limits.{maxDepth}
 use Rattle.rules.specs.Run.{start}
 use Rattle.rules.proofs.Booleans.{and-cases}
 use Rattle.layout.proofs.Buffers.{cell-inside}
-use Rattle.layout.specs.Layout.{classesAt, closedAt, statesAt, depthsAt, marksAt, heldAt, deskSize, sheetSize, frameNumber}
-use Rattle.layout.specs.Encoding.{markByte, kindByte, DeskBytes, SheetBytes, Encodes, KeepsPast}
+use Rattle.layout.specs.Layout.{classesAt, closedAt, statesAt, depthsAt, marksAt, heldAt, deskSize, sheetSize, frameNumber, KeepsPast}
+use Rattle.layout.specs.Encoding.{markByte, kindByte, DeskBytes, SheetBytes, Encodes}
 use Rattle.layout.specs.Fit.{classesFit}
 use Rattle.opening.specs.Open.{opens, zeroed, openedDesk, openedSheet}
 

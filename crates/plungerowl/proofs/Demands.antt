@@ -3,39 +3,34 @@ use mathlib.Core.Path.{_≡_, refl, sym, ap, _∙_, subst}
 use mathlib.Core.Bool.{Bool, true, false}
 use mathlib.Core.List.{List, [], _∷_, _++_}
 use mathlib.Core.Logic.{_⊎_, _↔_}
-use Prim.Native.Nat.{ℕ, zero, suc, _+_, _%_, _<_, _≤_}
+use Prim.Native.Nat.{ℕ, suc, _+_, _<_, _≤_}
 use native.Mathlib.Decide.{ℕ-discrete, decLt}
 use native.Mathlib.Omega.{arith}
 use lib.Count.{ones}
-use lib.Dec.{eqb}
-use lib.ListN.{length, getD, take}
+use lib.ListN.{length, take}
 use borrow.Author.Tests.{leb-true}
 use Rattle.words.specs.Bits.{bit, flag}
 use Rattle.words.proofs.Words.{bit-two, bits-same}
 use Rattle.rules.specs.Record.{Bytes}
-use Rattle.rules.specs.HeldLocks.{HeldLock}
 use Rattle.rules.specs.Graph.{Graph, emptyGraph}
 use Rattle.rules.specs.StrongPath.{ClosedStrongPath}
 use Rattle.rules.specs.Verdict.{number}
 use Rattle.rules.specs.Run.{State, Result, start, step, run, graphAt}
-use Rattle.rules.specs.Balance.{countIf, standing}
+use Rattle.rules.specs.Balance.{acquires, releases, tally, standing}
 use Rattle.rules.proofs.Booleans.{and-cases}
 use Rattle.rules.proofs.Steps.{StepCases, was-refused, was-clean, was-fault, stepped, refused-number, step-exactly}
 use Rattle.rules.proofs.Balanced.{balanced}
 use Rattle.validity.proofs.Kept.{valid-step}
-use Rattle.layout.specs.Layout.{slipSize, frameNumber, classesOf, closedOf, heldOf}
+use Rattle.layout.specs.Layout.{slipSize, classesOf, closedOf}
 use Rattle.layout.specs.Decoding.{view}
 use Rattle.layout.specs.Fit.{fits, fitsAll}
 use Rattle.fit.proofs.Facts.{facts}
-use Rattle.fit.proofs.Fitting.{fit-valid}
+use Rattle.fit.proofs.Fitting.{fit-valid, stand-encodes}
 use Rattle.fit.proofs.Settled.{settled-desk-after, settled-sheet-after}
-use Rattle.update.proofs.Prefixes.{none as unheld, lock-at}
-use Rattle.update.proofs.Cores.{frame-bytes}
-use Rattle.action.proofs.Bytes.{small-classes}
 use Rattle.validator.specs.Step.{Validated}
 use Rattle.question.specs.Question.{Asked}
 use Rattle.plungerowl.specs.Runs.{Buffers, Called, Ran, Opening}
-use Rattle.plungerowl.specs.Demands.{SameStep, ClosedByFault, FaultExactly, DrawnFromRecords, standingBelow, standingIn, Balanced}
+use Rattle.plungerowl.specs.Demands.{SameStep, ClosedByFault, FaultExactly, DrawnFromRecords, Balanced}
 use Rattle.plungerowl.proofs.Runs.{held-fit, validated-by, slip-long, run-holds, opening-holds}
 
 -- ---- The contracts settle the number and every byte, for every input.
@@ -50,10 +45,11 @@ module _ {b b₁ b₂ : Buffers} {r : Bytes} {x y : ℕ} (p : Called b r x b₁)
       let n : x ≡ y = u .number-is ∙ sym (v .number-is) in
       record {
         number-is = n;
-        desk-is = settled-desk-after K (o .is-closed) (o .cores) (o .graph .marks) (b₁ .desk) (b₂ .desk) (u .encodes .in-desk) (v .encodes .in-desk)
+        desk-is = settled-desk-after K (o .is-closed) (o .cores) (o .graph .marks) (b₁ .desk) (b₂ .desk) (stand-encodes (u .stands) .in-desk)
+            (stand-encodes (v .stands) .in-desk)
             (b .desk) (u .keeps-desk) (v .keeps-desk);
-        sheet-is = settled-sheet-after K (facts (b .desk) (b .sheet) f .some) (o .graph .locks) (b₁ .sheet) (b₂ .sheet) (u .encodes .in-sheet)
-            (v .encodes .in-sheet) (b .sheet) (u .keeps-sheet) (v .keeps-sheet);
+        sheet-is = settled-sheet-after K (facts (b .desk) (b .sheet) f .some) (o .graph .locks) (b₁ .sheet) (b₂ .sheet) (stand-encodes (u .stands) .in-sheet)
+            (stand-encodes (v .stands) .in-sheet) (b .sheet) (u .keeps-sheet) (v .keeps-sheet);
         slip-is = λ h. u .unreported h ∙ sym (v .unreported (λ z. h (n ∙ z)));
       }
 
@@ -125,7 +121,7 @@ module _ {b b′ : Buffers} {r : Bytes} {answer : ℕ} (e : fitsAll (b .desk) (b
         some = f .some;
         few = f .few;
         valid = valid-step (classesOf (b .desk)) s r (fit-valid (b .desk) (b .sheet) (p .0));
-        encodes = j .encodes;
+        stands = j .stands;
         room = omega arith;
       })
 
@@ -149,7 +145,8 @@ closed-by-fault {b} {b′} {r} {answer} t = record { exactly = λ z. by z (fitsA
     by z true e =
         let j = t .validated e in
         let w = closed-by (stepped (classesOf (b .desk)) (view (b .desk) (b .sheet)) r) (rw z refl) in
-        (λ q. j .number-is ∙ w .0 (sym (j .encodes .in-desk .closed) ∙ q), λ q. j .encodes .in-desk .closed ∙ w .1 (sym (j .number-is) ∙ q))
+        let c = stand-encodes (j .stands) .in-desk .closed in
+        (λ q. j .number-is ∙ w .0 (sym c ∙ q), λ q. c ∙ w .1 (sym (j .number-is) ∙ q))
     by z false e =
         let u = t .is-unfit e in
         let same : closedOf (b′ .desk) ≡ 0 = ap closedOf (u .1) ∙ z in
@@ -158,7 +155,7 @@ closed-by-fault {b} {b′} {r} {answer} t = record { exactly = λ z. by z (fitsA
 -- ---- Demand 2, of runs from opening.
 
 pub run-drawn : {K : ℕ} {b b′ : Buffers} {rs : List Bytes} {given : List ℕ} → Opening K b → Ran b rs given b′ → DrawnFromRecords K rs b′
-run-drawn o w = let h = run-holds (opening-holds o) w in record { encodes = h .encodes; stays-fit = held-fit h }
+run-drawn o w = let h = run-holds (opening-holds o) w in record { stands = h .stands; stays-fit = held-fit h }
 
 -- The last record of a list, in the rules.
 take-all : (rs : List Bytes) (r : Bytes) → take (suc (length rs)) (rs ++ (r ∷ [])) ≡ rs ++ (r ∷ [])
@@ -176,48 +173,12 @@ run-verdict {K} {b′} {b″} {rs} {r} {answer} o w t =
     (ap (λ (s : State). s .graph) (sym (run-last K start rs r)) ∙ ap (λ (l : List Bytes). run K start l .graph) (sym (take-all rs r)))
     (validated-verdict (validated-by (run-holds (opening-holds o) w) {b′ = b″} t))
 
--- ---- The balance law of the bytes.
-
-count-swap : (a b : Bool) (n : ℕ) → countIf a (countIf b n) ≡ countIf b (countIf a n)
-count-swap true true n = refl
-count-swap true false n = refl
-count-swap false true n = refl
-count-swap false false n = refl
-
-below-first : (t : ℕ → Bool) (d : ℕ) → standingBelow t (suc d) ≡ countIf (t 0) (standingBelow (λ p. t (suc p)) d)
-unfolding standingBelow
-below-first t zero = refl
-below-first t (suc d) =
-    ap (countIf (t (suc d))) (below-first t d) ∙ count-swap (t (suc d)) (t 0) (standingBelow (λ p. t (suc p)) d)
-
-below-same : (t u : ℕ → Bool) (d : ℕ) → ((p : ℕ) → p < d → t p ≡ u p) → standingBelow t d ≡ standingBelow u d
-unfolding standingBelow
-below-same t u zero h = refl
-below-same t u (suc d) h =
-    ap (λ (b : Bool). countIf b (standingBelow t d)) (h d (omega arith)) ∙ ap (countIf (u d)) (below-same t u d (λ p l. h p (omega arith)))
-
-standing-list : (c : ℕ) (hs : List HeldLock) → standingBelow (λ p. eqb c (getD hs p unheld .class)) (length hs) ≡ standing c hs
-unfolding standingBelow
-standing-list c [] = refl
-standing-list c (h ∷ hs) = below-first (λ p. eqb c (getD (h ∷ hs) p unheld .class)) (length hs) ∙ ap (countIf (eqb c (h .class))) (standing-list c hs)
+-- ---- The balance law.
 
 pub run-balanced : {K : ℕ} {b b′ : Buffers} {rs : List Bytes} {given : List ℕ} → Opening K b → Ran b rs given b′ → Balanced K rs b′
-run-balanced {K} {b′} {rs} o w =
-    let h = run-holds (opening-holds o) w in
+run-balanced {K} {b′ = b′} {rs} o w =
     record {
-      balance = λ core f class lc lf.
-          let s = run K start rs in
-          let hs = s .cores core .held f in
-          let n = frameNumber core f in
-          let v = h .valid .cores core in
-          let F = frame-bytes (h .encodes .in-desk) core f lc lf in
-          let d = F .depth in
-          let few = v .depths f in
-          let e : standingIn (b′ .desk) n class ≡ standing class hs =
-          ap (standingBelow (λ p. eqb class (heldOf (b′ .desk) n p % 64))) d
-          ∙ below-same (λ p. eqb class (heldOf (b′ .desk) n p % 64)) (λ p. eqb class (getD hs p unheld .class)) (length hs)
-          (λ p l. ap (eqb class) (lock-at (b′ .desk) n hs F (small-classes (h .few) (s .cores core) v f) p l (omega arith) .class))
-          ∙ standing-list class hs in
-          let q = balanced K emptyGraph rs core f class .balance in
-          omega arith;
+      balance = λ core f class.
+          subst (λ (s : State). standing class (s .cores core .held f) + tally K core f (releases class) start rs ≡ tally K core f (acquires class) start rs)
+          (sym (run-holds (opening-holds o) w .stands .is-view)) (balanced K emptyGraph rs core f class .balance);
     }

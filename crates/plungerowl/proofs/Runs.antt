@@ -19,10 +19,10 @@ use Rattle.rules.proofs.Booleans.{and-cases, and-both}
 use Rattle.rules.proofs.MoreEvidence.{more-evidence}
 use Rattle.validity.specs.Valid.{Valid}
 use Rattle.validity.proofs.Kept.{valid-start, valid-step}
-use Rattle.layout.specs.Layout.{deskSize, sheetSize, slipSize, classesOf, closedOf}
-use Rattle.layout.specs.Encoding.{Encodes, KeepsPast}
+use Rattle.layout.specs.Layout.{deskSize, sheetSize, slipSize, classesOf, closedOf, KeepsPast}
+use Rattle.layout.specs.Decoding.{StandFor}
 use Rattle.layout.specs.Fit.{classesFit, fits, fitsAll}
-use Rattle.fit.proofs.Fitting.{encodes-fit, view-is}
+use Rattle.fit.proofs.Fitting.{encodes-stand}
 use Rattle.opening.specs.Open.{opens, answerBy, bytesBy, openedDesk, openedSheet, Opened}
 use Rattle.opening.proofs.Opens.{open-encodes}
 use Rattle.validator.specs.Step.{Validated}
@@ -33,22 +33,19 @@ pub record Holds (K : ℕ) (s : State) (b : Buffers) : Type 0 where
   pub some : 1 ≤ K
   pub few : K ≤ maxClasses
   pub valid : Valid K s
-  pub encodes : Encodes K s (b .desk) (b .sheet)
+  pub stands : StandFor K s (b .desk) (b .sheet)
   pub room : slipSize K ≤ length (b .slip)
 
 module _ {K : ℕ} {s : State} {b : Buffers} (h : Holds K s b) where
   pub held-fit : fitsAll (b .desk) (b .sheet) (b .slip) ≡ true
   unfolding fitsAll
-  held-fit =
-      let e = h .encodes .in-desk .classes in
-      and-both (encodes-fit K s (b .desk) (b .sheet) (h .some) (h .few) (h .valid) (h .encodes))
-      (rw e (le-leb (slipSize K) (length (b .slip)) (h .room)))
+  held-fit = and-both (h .stands .fit) (rw (h .stands .classes) (le-leb (slipSize K) (length (b .slip)) (h .room)))
 
   pub validated-by : {r : Bytes} {answer : ℕ} {b′ : Buffers} → Called b r answer b′
       → Validated K s r (b .desk) (b .sheet) (b .slip) answer (b′ .desk) (b′ .sheet) (b′ .slip)
   validated-by {r} {answer} {b′} t =
       subst₂ (λ (k : ℕ) (s : State). Validated k s r (b .desk) (b .sheet) (b .slip) answer (b′ .desk) (b′ .sheet) (b′ .slip))
-      (h .encodes .in-desk .classes) (view-is K s (b .desk) (b .sheet) (h .some) (h .few) (h .valid) (h .encodes)) (t .validated held-fit)
+      (h .stands .classes) (h .stands .is-view) (t .validated held-fit)
 
 pub slip-long : {K : ℕ} {s : State} {r : Bytes} {desk sheet slip desk′ sheet′ slip′ : List ℕ} {answer : ℕ}
     → Validated K s r desk sheet slip answer desk′ sheet′ slip′ → length slip′ ≡ length slip
@@ -60,7 +57,7 @@ pub step-holds : {K : ℕ} {s : State} {b b′ : Buffers} {r : Bytes} {answer : 
 step-holds {K} {s} {r} h j =
     let l = slip-long j in
     let m = h .room in
-    record { some = h .some; few = h .few; valid = valid-step K s r (h .valid); encodes = j .encodes; room = omega arith }
+    record { some = h .some; few = h .few; valid = valid-step K s r (h .valid); stands = j .stands; room = omega arith }
 
 pub run-holds : {K : ℕ} {s : State} {b b′ : Buffers} {rs : List Bytes} {given : List ℕ} → Holds K s b → Ran b rs given b′ → Holds K (run K s rs) b′
 run-holds h none = h
@@ -85,14 +82,16 @@ opening-holds {K} {b} o =
     let e = opened-true (o .opened) in
     let f = open-encodes K (o .desk-before) (o .sheet-before) e in
     let c = and-cases (leb 1 K) (leb K maxClasses) (and-cases (classesFit K) _ e .0) in
+    let some = leb-true 1 K (c .0) in
+    let few = leb-true K maxClasses (c .1) in
     record {
-      some = leb-true 1 K (c .0);
-      few = leb-true K maxClasses (c .1);
+      some = some;
+      few = few;
       valid = valid-start K;
-      encodes = subst₂ (λ (x y : List ℕ). Encodes K start x y)
+      stands = subst₂ (λ (x y : List ℕ). StandFor K start x y)
           (sym (o .opened .desk ∙ ap (λ (t : Bool). bytesBy t (openedDesk K (o .desk-before)) (o .desk-before)) e))
           (sym (o .opened .sheet ∙ ap (λ (t : Bool). bytesBy t (openedSheet K (o .sheet-before)) (o .sheet-before)) e))
-          (f .encodes);
+          (encodes-stand some few (valid-start K) (f .encodes));
       room = o .room;
     }
 

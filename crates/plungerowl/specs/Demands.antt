@@ -1,20 +1,18 @@
 -- The user's three demands, as statements about the calls; demand 3 is rules' MoreEvidence.
 use mathlib.Core.Path.{_≡_}
-use mathlib.Core.Bool.{Bool, true}
+use mathlib.Core.Bool.{true}
 use mathlib.Core.List.{List}
 use mathlib.Core.Logic.{_⊎_, _↔_}
-use Prim.Native.Nat.{ℕ, zero, suc, _+_, _%_, _<_}
-use lib.Dec.{eqb}
-use Rattle.rules.specs.Limits.{coreCount}
+use Prim.Native.Nat.{ℕ, _+_}
 use Rattle.rules.specs.Record.{Bytes}
 use Rattle.rules.specs.Context.{Frame}
 use Rattle.rules.specs.Graph.{Graph}
 use Rattle.rules.specs.StrongPath.{ClosedStrongPath}
 use Rattle.rules.specs.Run.{start, run}
-use Rattle.rules.specs.Balance.{acquires, releases, countIf, tally}
-use Rattle.layout.specs.Layout.{framesPerCore, frameNumber, closedOf, depthOf, heldOf}
-use Rattle.layout.specs.Encoding.{Encodes}
+use Rattle.rules.specs.Balance.{acquires, releases, standing, tally}
+use Rattle.layout.specs.Layout.{closedOf}
 use Rattle.layout.specs.Fit.{fitsAll}
+use Rattle.layout.specs.Decoding.{view, StandFor}
 use Rattle.validator.specs.Step.{Reported}
 use Rattle.plungerowl.specs.Runs.{Buffers}
 
@@ -35,20 +33,12 @@ pub record FaultExactly (K : ℕ) (g : Graph) (answer : ℕ) (slip slip′ : Lis
   pub exactly : (answer ≡ 0) ⊎ (answer ≡ 1) → (answer ≡ 1) ↔ ClosedStrongPath K g
   pub cycle : answer ≡ 1 → Reported K g slip slip′
 
--- Demand 2, of a run from opening: the bytes encode what the rules draw from the records alone.
+-- Demand 2, of a run from opening: the bytes stand for what the rules draw from the records alone.
 pub record DrawnFromRecords (K : ℕ) (rs : List Bytes) (b : Buffers) : Type 0 where
-  pub encodes : Encodes K (run K start rs) (b .desk) (b .sheet)
+  pub stands : StandFor K (run K start rs) (b .desk) (b .sheet)
   pub stays-fit : fitsAll (b .desk) (b .sheet) (b .slip) ≡ true
 
--- The held bytes of a class that stand in a frame.
-unfoldable pub standingBelow : (ℕ → Bool) → ℕ → ℕ
-standingBelow test zero = 0
-standingBelow test (suc d) = countIf (test d) (standingBelow test d)
-
-abbrev pub standingIn : List ℕ → ℕ → ℕ → ℕ
-standingIn desk n class = standingBelow (λ p. eqb class (heldOf desk n p % 64)) (depthOf desk n)
-
--- The balance law of the bytes.
+-- The balance law, of a run from opening: the locks that stand in the desk's frames.
 pub record Balanced (K : ℕ) (rs : List Bytes) (b : Buffers) : Type 0 where
-  pub balance : (core : ℕ) (f : Frame) (class : ℕ) → core < coreCount → f < framesPerCore
-      → standingIn (b .desk) (frameNumber core f) class + tally K core f (releases class) start rs ≡ tally K core f (acquires class) start rs
+  pub balance : (core : ℕ) (f : Frame) (class : ℕ)
+      → standing class (view (b .desk) (b .sheet) .cores core .held f) + tally K core f (releases class) start rs ≡ tally K core f (acquires class) start rs

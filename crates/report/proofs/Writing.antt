@@ -1,4 +1,4 @@
--- The report, entry-written entry by entry. Assumes nothing.
+-- The slip, written entry by entry. Assumes nothing.
 use mathlib.Core.Path.{_≡_, refl, sym, ap, _∙_}
 use mathlib.Core.List.{List}
 use Prim.Native.Nat.{ℕ, zero, suc, _+_, _*_, _<_, _≤_}
@@ -9,15 +9,14 @@ use lib.ListN.{length, getD, set, length-set}
 use lib.Seq.{getD-set-same, getD-set-other}
 use Rattle.rules.specs.Cycle.{Entry, entryAt, entryBytes}
 use Rattle.rules.proofs.Closure.{length-tabulate, getD-tabulate}
-use Rattle.layout.specs.Layout.{countOf}
-use Rattle.layout.specs.Encoding.{KeepsPast}
+use Rattle.layout.specs.Layout.{countOf, KeepsPast}
 use Rattle.layout.specs.Decoding.{entryOf, entriesOf}
 use Rattle.search.specs.Reports.{foundClass, foundKind, nextPlace, Searched}
 use Rattle.search.specs.declared.Found.{Found}
 use Rattle.search.proofs.Reported.{cycle-of}
 use Rattle.report.specs.Shown.{SourceOf, Writable, EntryWritten, Shown}
 
--- A cycle that the search found can be entry-written.
+-- A cycle that the search found can be written.
 pub writable : {K : ℕ} {rows : List ℕ} {f : Found} → Searched K rows f → 0 < f .n → Writable K f
 writable s some = record { some = some; few = s .few; inside = s .inside; bytes = s .bytes }
 
@@ -58,7 +57,7 @@ first-byte slip n = record { long = length-set slip 0 n; past = λ j l. getD-set
 
 -- ---- The loop.
 
--- The number and the first i entries are entry-written.
+-- The number and the first i entries are written.
 pub record Writing (K : ℕ) (desk sheet : List ℕ) (f : Found) (before : List ℕ) (i : ℕ) (now : List ℕ) : Type 0 where
   pub long : length now ≡ length before
   pub count : getD now 0 0 ≡ f .n

@@ -1,4 +1,4 @@
--- What is entry-written to the report.
+-- What is written to the slip.
 use mathlib.Core.Path.{_≡_}
 use mathlib.Core.Bool.{Bool, true}
 use mathlib.Core.List.{List}
@@ -8,9 +8,9 @@ use Rattle.rules.specs.HeldLocks.{Core}
 use Rattle.rules.specs.Marks.{Marks}
 use Rattle.rules.specs.Graph.{Kind, kindBit, Dependencies, sourceNumber, dependencyBy, dependency}
 use Rattle.rules.specs.Cycle.{Cycle}
-use Rattle.layout.specs.Layout.{deskSize, sheetSize, slipSize, entriesAt, entrySize, countOf}
-use Rattle.layout.specs.Encoding.{DeskBytes, SheetBytes, SlipBytes, KeepsPast}
-use Rattle.layout.specs.Decoding.{kindOfByte, sourceOfByte, entriesOf}
+use Rattle.layout.specs.Layout.{deskSize, sheetSize, slipSize, entriesAt, entrySize, countOf, KeepsPast}
+use Rattle.layout.specs.Encoding.{DeskBytes, SheetBytes}
+use Rattle.layout.specs.Decoding.{kindOfByte, sourceOfByte, entriesOf, SlipBytes}
 use Rattle.search.specs.Rows.{Rows}
 use Rattle.search.specs.Reports.{foundClass, foundKind, Searched}
 use Rattle.search.specs.declared.Found.{Found}
@@ -36,7 +36,7 @@ pub record SourceOf (K : ℕ) (desk sheet : List ℕ) (from to kind r : ℕ) : T
       → dependency K (record { locks = locks; marks = marks }) from to kd ≡ true
       → dependencyBy (sourceOfByte r) (record { locks = locks; marks = marks }) from to kd ≡ true
 
--- A cycle that can be entry-written: what `Searched` says of the numbers, where there is one.
+-- A cycle that can be written: what `Searched` says of the numbers, where there is one.
 pub record Writable (K : ℕ) (f : Found) : Type 0 where
   pub some : 0 < f .n
   pub few : f .n ≤ K

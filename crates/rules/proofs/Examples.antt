@@ -7,11 +7,11 @@ use native.Mathlib.Omega.{arith}
 use Rattle.rules.specs.Record.{isMalformed}
 use Rattle.rules.specs.Decision.{cyclic, reaches}
 use Rattle.rules.specs.Verdict.{refusal}
-use Rattle.rules.specs.HeldLocks.{exclusive, read, recursive, releaseNewest}
+use Rattle.rules.specs.HeldLocks.{releaseNewest}
 use Rattle.rules.specs.Graph.{EN, emptyGraph, lock, dependency}
 use Rattle.rules.specs.Cycle.{Cycle, entryAt}
 use Rattle.rules.specs.Run.{start, answers, run, graphAt}
-use Rattle.rules.specs.Examples.{lockOf, DrawnCase, drawnCase, drawnCases, Example, p2Cycle, table, example, p2, p6, allClean, endsWith, faultAt, takes, frees, does, says}
+use Rattle.rules.specs.Examples.{exclusive, read, recursive, lockOf, DrawnCase, drawnCase, drawnCases, Example, p2Cycle, table, example, p2, p6, allClean, endsWith, faultAt, takes, frees, does, says}
 
 pub table-holds : map (λ (e : Example). answers 8 start (e .log)) table ≡ map (λ (e : Example). e .given) table
 unfolding table example p2 p6 allClean endsWith faultAt takes frees does says isMalformed refusal dependency cyclic

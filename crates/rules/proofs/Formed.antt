@@ -7,7 +7,8 @@ use lib.Dec.{leb, eqb}
 use lib.ListN.{length, getD}
 use borrow.Author.Tests.{leb-false, eqb-true, not-false}
 use Rattle.rules.specs.Limits.{coreCount, kindCount, modeCount}
-use Rattle.rules.specs.Record.{isMalformed, coreOf, kindOf, classOf, modeOf, strayByte, WellFormed}
+use Rattle.rules.specs.Record.{isMalformed, coreOf, kindOf, classOf, modeOf, strayByte}
+use Rattle.rules.specs.WellFormed.{WellFormed}
 
 or-none : (a b : Bool) → (a || b) ≡ false → (a ≡ false) × (b ≡ false)
 or-none true b h = absurd (true≢false h)

@@ -4,12 +4,21 @@ use mathlib.Core.List.{List, [], _∷_, _++_}
 use Prim.Native.Nat.{ℕ, _+_, pred}
 use lib.ListN.{replicate}
 use Rattle.rules.specs.Record.{Bytes}
-use Rattle.rules.specs.Context.{hardOn, hardOff, softOn, softOff, enterSoft, exitSoft, enterHard, exitHard}
-use Rattle.rules.specs.HeldLocks.{exclusive, read, recursive, HeldLock}
+use Rattle.rules.specs.Context.{exitSoft, exitHard}
+use Rattle.rules.specs.HeldLocks.{HeldLock}
 use Rattle.rules.specs.Graph.{EN, lock}
 use Rattle.rules.specs.Cycle.{Entry}
 
 -- ---- Records: an acquire, a release, an interrupt event. The document's E, r, R are the modes exclusive, read, recursive.
+
+abbrev pub exclusive : ℕ
+exclusive = 0
+
+abbrev pub read : ℕ
+read = 1
+
+abbrev pub recursive : ℕ
+recursive = 2
 
 unfoldable pub says : ℕ → ℕ → ℕ → ℕ → Bytes
 says core kind class mode = 0x4C ∷ 0x4B ∷ core ∷ kind ∷ class ∷ mode ∷ []
@@ -19,6 +28,25 @@ takes core class mode = says core 0 class mode
 
 unfoldable pub frees : ℕ → ℕ → Bytes
 frees core class = says core 1 class 0
+
+-- The other interrupt events by name.
+abbrev pub hardOn : ℕ
+hardOn = 0
+
+abbrev pub hardOff : ℕ
+hardOff = 1
+
+abbrev pub softOn : ℕ
+softOn = 2
+
+abbrev pub softOff : ℕ
+softOff = 3
+
+abbrev pub enterSoft : ℕ
+enterSoft = 4
+
+abbrev pub enterHard : ℕ
+enterHard = 6
 
 unfoldable pub does : ℕ → ℕ → Bytes
 does core event = says core (2 + event) 0 0

@@ -24,7 +24,7 @@ SR = record { first = S; second = R }
 abbrev pub SN : Kind
 SN = record { first = S; second = N }
 
--- The kind's bit in a byte of the dependency matrix ("sheet"): "ER 1, EN 2, SR 4, SN 8".
+-- The kind's bit in a byte of the sheet: "ER 1, EN 2, SR 4, SN 8".
 abbrev pub kindBitBy : First → Second → ℕ
 kindBitBy E R = 1
 kindBitBy E N = 2
@@ -55,7 +55,7 @@ drawnBy (acquire c m) core f t k =
 drawnBy (release c) core f t k = false
 drawnBy (interrupt e) core f t k = false
 
--- Where a dependency comes from. Numbers 0 hold, 1 hard, 2 soft in the report ("slip").
+-- Where a dependency comes from. Numbers 0 hold, 1 hard, 2 soft in the slip.
 pub data Source : Type 0 where
   lock : Source
   irq : Level → Source

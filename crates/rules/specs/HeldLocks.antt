@@ -27,15 +27,6 @@ sameSecond N R = false
 sameSecond N N = true
 
 -- "Modes of a take: 0 exclusive, 1 non-recursive read, 2 recursive read."
-abbrev pub exclusive : ℕ
-exclusive = 0
-
-abbrev pub read : ℕ
-read = 1
-
-abbrev pub recursive : ℕ
-recursive = 2
-
 pub record HeldLock : Type 0 where
   pub class : ℕ
   pub mode : ℕ

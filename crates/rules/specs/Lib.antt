@@ -1,5 +1,6 @@
 pub mod Limits
 pub mod Record
+pub mod WellFormed
 pub mod Context
 pub mod HeldLocks
 pub mod Marks

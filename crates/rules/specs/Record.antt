@@ -3,7 +3,7 @@ use mathlib.Core.Path.{_≡_}
 use mathlib.Core.Bool.{Bool, true, false, not, _&&_, _||_}
 use mathlib.Core.List.{List}
 use mathlib.Core.Option.{Option, none, some}
-use Prim.Native.Nat.{ℕ, zero, suc, _<_}
+use Prim.Native.Nat.{ℕ, zero, suc}
 use lib.Dec.{leb, eqb}
 use lib.ListN.{length, getD}
 use Rattle.rules.specs.Limits.{coreCount, kindCount, modeCount}
@@ -62,11 +62,3 @@ namedIf false core = some core
 
 pub record Names (r : Bytes) (core : ℕ) : Type 0 where
   pub named : namedIf (isMalformed r) (coreOf r) ≡ some core
-
--- What passing refusal 3 says of each field.
-pub record WellFormed (r : Bytes) : Type 0 where
-  pub formed : isMalformed r ≡ false
-  pub long : length r ≡ 6
-  pub core : coreOf r < coreCount
-  pub kind : kindOf r < kindCount
-  pub mode : modeOf r < modeCount

@@ -1,4 +1,4 @@
--- The validator ("judge") over the rules: one record, and a list of records.
+-- The validator over the rules: one record, and a list of records.
 use mathlib.Core.Bool.{Bool, true, false, cond}
 use mathlib.Core.List.{List, [], _∷_}
 use mathlib.Core.Option.{Option, none, some}

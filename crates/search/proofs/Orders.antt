@@ -78,7 +78,7 @@ down-last q n m i j l h hq e (inl x) (inr y) = absurd (omega arith)
 down-last q n m i j l h hq e (inr x) (inl y) = inl (omega arith)
 down-last q n m i j l h hq e (inr x) (inr y) = absurd (omega arith)
 
--- ---- The report.
+-- ---- The cycle found.
 
 module _ {rows : List ℕ} {K : ℕ} {u : Trail} {f : Found} (h : Closed rows K u) (t : InOrder u f) where
   at : (m : ℕ) → m < u .n → At (t .from) (u .n) m

@@ -54,7 +54,7 @@ module _ {K : ℕ} {g : Graph} {rows : List ℕ} (r : Rows K g rows) where
     pub cyclic-found : cyclic K g ≡ true → 0 < f .n
     cyclic-found h = elim (ℕ-discrete (f .n) 0) [ yes z ↦ absurd (false≢true (sym (s .none z g r) ∙ h)) | no n ↦ omega arith ]
 
-    -- Entries with the report's classes and kinds, and with a source of each dependency, are a cycle.
+    -- Entries with the found classes and kinds, and with a source of each dependency, are a cycle.
     pub cycle-of : (es : List Entry) → 0 < f .n → length es ≡ f .n → ((i : ℕ) → i < f .n → entryAt es i .class ≡ foundClass f i)
         → ((i : ℕ) → i < f .n → entryAt es i .kind ≡ foundKind f i)
         → ((i : ℕ) → i < f .n → dependencyBy (entryAt es i .source) g (foundClass f i) (foundClass f (nextPlace (f .n) i)) (foundKind f i) ≡ true) → Cycle K g es

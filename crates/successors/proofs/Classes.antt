@@ -20,7 +20,7 @@ use Rattle.successors.specs.Column.{column, kindWord, Columns}
 use Rattle.successors.specs.Successors.{levelDigit, usageDigit, safeOf, SafeColumns, WithIrq, RowWord, ClassWords, stored, Filled}
 use Rattle.successors.proofs.Digits.{column-bit, column-out, columns-at}
 
--- A row lies in the matrix.
+-- A row lies in the sheet.
 pub row-inside : {c k n : ℕ} → c < k → k * k ≤ n → c * k + k ≤ n
 row-inside {c} {k} {n} h r =
     let l : k - 1 < k = omega arith in

@@ -15,8 +15,8 @@ use Rattle.rules.specs.Limits.{coreCount, maxClasses, maxDepth}
 use Rattle.rules.specs.Context.{CoreState, Frame, frameOf}
 use Rattle.rules.specs.HeldLocks.{HeldLock, Core, withCurrent, withState}
 use Rattle.rules.specs.Marks.{Marks}
-use Rattle.layout.specs.Layout.{framesPerCore, deskSize, closedAt, statesAt, depthsAt, marksAt, heldAt, frameNumber, stateOf, depthOf, heldOf}
-use Rattle.layout.specs.Encoding.{heldByteAt, DeskBytes, KeepsPast}
+use Rattle.layout.specs.Layout.{framesPerCore, deskSize, closedAt, statesAt, depthsAt, marksAt, heldAt, frameNumber, stateOf, depthOf, heldOf, KeepsPast}
+use Rattle.layout.specs.Encoding.{heldByteAt, DeskBytes}
 use Rattle.update.specs.Update.{FrameBytes, KeepsElse, MarkBytes, KeepsUnmarked}
 
 -- The cores with one of them changed, as a step of the rules leaves them.

@@ -16,15 +16,15 @@ use borrow.Author.Tests.{eq-eqb, ne-eqb}
 use Rattle.rules.specs.Limits.{maxDepth}
 use Rattle.rules.specs.HeldLocks.{HeldLock, sameFirst, sameSecond, firstOf, secondBy, someHeld}
 use Rattle.rules.specs.Graph.{Kind, Dependencies}
-use Rattle.layout.specs.Layout.{kindsOf, heldOf, depthOf}
-use Rattle.layout.specs.Encoding.{kindByte, SheetBytes, KeepsPast}
+use Rattle.layout.specs.Layout.{kindsOf, heldOf, depthOf, KeepsPast}
+use Rattle.layout.specs.Encoding.{kindByte, SheetBytes}
 use Rattle.layout.proofs.Buffers.{cell-inside}
 use Rattle.layout.proofs.Flags.{kind-or}
 use Rattle.context.specs.Bits.{kindsBy, kindBits}
 use Rattle.update.specs.Update.{FrameBytes, SmallClasses, drawnFrom, Drawn}
 use Rattle.update.proofs.Prefixes.{none, one-more, all-places, Lock, lock-at}
 
--- ---- Cells of the matrix.
+-- ---- Cells of the sheet.
 
 cell-apart : (K f t f′ t′ : ℕ) → t < K → t′ < K → f * K + t ≡ f′ * K + t′ → f ≡ f′
 cell-apart K f t f′ t′ lt lt′ e =

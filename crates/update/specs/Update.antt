@@ -11,8 +11,8 @@ use Rattle.rules.specs.Record.{acquire}
 use Rattle.rules.specs.HeldLocks.{HeldLock, sameFirst, sameSecond, firstOf, secondBy, someHeld}
 use Rattle.rules.specs.Marks.{Marks, setIn, letterFits}
 use Rattle.rules.specs.Graph.{Dependencies}
-use Rattle.layout.specs.Layout.{frameCount, deskSize, depthsAt, marksAt, heldAt, depthOf, markOf, heldOf}
-use Rattle.layout.specs.Encoding.{markByte, heldByteAt, SheetBytes, KeepsPast}
+use Rattle.layout.specs.Layout.{frameCount, deskSize, depthsAt, marksAt, heldAt, depthOf, markOf, heldOf, KeepsPast}
+use Rattle.layout.specs.Encoding.{markByte, heldByteAt, SheetBytes}
 
 -- The bytes of frame n are the held locks hs.
 pub record FrameBytes (desk : List ℕ) (n : ℕ) (hs : List HeldLock) : Type 0 where

@@ -13,8 +13,8 @@ use Rattle.rules.specs.HeldLocks.{HeldLock, Core, current, someHeld}
 use Rattle.rules.specs.Marks.{Marks, setIn, letterFits}
 use Rattle.rules.specs.Graph.{Dependencies, Graph}
 use Rattle.validity.specs.Valid.{ValidCore}
-use Rattle.layout.specs.Layout.{deskSize, closedAt, frameNumber, classesOf, stateOf}
-use Rattle.layout.specs.Encoding.{DeskBytes, SheetBytes, KeepsPast}
+use Rattle.layout.specs.Layout.{deskSize, closedAt, frameNumber, classesOf, stateOf, KeepsPast}
+use Rattle.layout.specs.Encoding.{DeskBytes, SheetBytes}
 use Rattle.context.proofs.Frames.{frame-less}
 use Rattle.update.specs.Update.{FrameBytes, MarkBytes, Marked}
 use Rattle.update.proofs.Cores.{frame-bytes, marks-changed, closed-changed}

@@ -9,6 +9,7 @@ use lib.Dec.{leb, eqb}
 use lib.ListN.{length, getD}
 use borrow.Author.Tests.{eq-eqb, le-leb, lt-leb, leb-true}
 use Rattle.words.specs.Bits.{flag}
+use Rattle.rules.specs.Limits.{maxClasses}
 use Rattle.rules.specs.Record.{isMalformed, coreOf, eventOf}
 use Rattle.rules.specs.HeldLocks.{Core, afterEvent}
 use Rattle.rules.specs.Marks.{Marks}
@@ -19,14 +20,14 @@ use Rattle.rules.specs.Run.{State, situation, accept, close, Result, step}
 use Rattle.rules.proofs.Booleans.{and-cases}
 use Rattle.rules.proofs.Steps.{closed-step, refused-number}
 use Rattle.validity.specs.Valid.{ValidCore, Valid}
-use Rattle.validity.proofs.Kept.{valid-accept}
-use Rattle.layout.specs.Layout.{deskSize, sheetSize, slipSize, classesOf, closedOf}
-use Rattle.layout.specs.Encoding.{DeskBytes, SheetBytes, Encodes, AllBytes, KeepsPast}
-use Rattle.layout.specs.Decoding.{view}
+use Rattle.validity.proofs.Kept.{valid-accept, valid-close}
+use Rattle.layout.specs.Layout.{deskSize, sheetSize, slipSize, classesOf, closedOf, KeepsPast, markOf}
+use Rattle.layout.specs.Encoding.{DeskBytes, SheetBytes, Encodes}
+use Rattle.layout.specs.Decoding.{view, StandFor}
 use Rattle.layout.specs.Fit.{fits, fitsAll}
 use Rattle.layout.proofs.Buffers.{keeps-self, keeps-both}
 use Rattle.fit.proofs.Facts.{facts}
-use Rattle.fit.proofs.Fitting.{fit-encodes, fit-valid}
+use Rattle.fit.proofs.Fitting.{fit-encodes, fit-valid, encodes-stand}
 use Rattle.action.specs.Action.{ActedOn, refuses, accepts, Acted, Cored}
 use Rattle.validator.specs.Step.{Reported, Validated, Stepped}
 use Rattle.validator.specs.Conclude.{withMarks, ConcludedOn, is-clean, is-fault, Concluded}
@@ -50,7 +51,7 @@ module _ (desk sheet slip bytes : List ℕ) where
   abbrev K : ℕ
   K = classesOf desk
 
-  module _ (small : AllBytes desk) (f : fits desk sheet ≡ true) (room : slipSize K ≤ length slip) where
+  module _ (small : (c : ℕ) → c < maxClasses → markOf desk c < 256) (f : fits desk sheet ≡ true) (room : slipSize K ≤ length slip) where
     fit-law : {answer : ℕ} {desk′ sheet′ slip′ : List ℕ}
         → ((s : State) → Valid K s → Encodes K s desk sheet → Validated K s bytes desk sheet slip answer desk′ sheet′ slip′)
         → Stepped desk sheet slip bytes answer desk′ sheet′ slip′
@@ -59,13 +60,17 @@ module _ (desk sheet slip bytes : List ℕ) where
         let all : fitsAll desk sheet slip ≡ true = rw (f, le-leb (slipSize (classesOf desk)) (length slip) room) refl in
         record { is-unfit = λ h. absurd (true≢false (sym all ∙ h)); validated = λ h. j (view desk sheet) (fit-valid desk sheet f) (fit-encodes desk sheet f small) }
 
-    refused-validated : (s : State) (x : Refusal) → step K s bytes ≡ record { answer = refused x; state = s } → Encodes K s desk sheet
+    -- What encodes a valid state stands for it.
+    stands : {t : State} {desk′ sheet′ : List ℕ} → Valid K t → Encodes K t desk′ sheet′ → StandFor K t desk′ sheet′
+    stands = encodes-stand (facts desk sheet f .some) (facts desk sheet f .few)
+
+    refused-validated : (s : State) (x : Refusal) → step K s bytes ≡ record { answer = refused x; state = s } → Valid K s → Encodes K s desk sheet
         → Validated K s bytes desk sheet slip (refusalNumber x) desk sheet slip
-    refused-validated s x e enc =
+    refused-validated s x e v enc =
         let n = refused-number x in
         record {
           number-is = sym (ap (λ (o : Result). number (o .answer)) e);
-          encodes = subst (λ (o : Result). Encodes K (o .state) desk sheet) (sym e) enc;
+          stands = subst (λ (o : Result). StandFor K (o .state) desk sheet) (sym e) (stands v enc);
           keeps-desk = keeps-self deskSize desk;
           keeps-sheet = keeps-self (sheetSize K) sheet;
           refused = λ h. (refl, refl);
@@ -86,7 +91,7 @@ module _ (desk sheet slip bytes : List ℕ) where
 
     pub is-closed : closedOf desk ≡ 1 → Stepped desk sheet slip bytes 10 desk sheet slip
     is-closed e =
-        fit-law (λ s v enc. refused-validated s closed (closed-step K s bytes (closed-flag (s .is-closed) (sym (enc .in-desk .closed) ∙ e))) enc)
+        fit-law (λ s v enc. refused-validated s closed (closed-step K s bytes (closed-flag (s .is-closed) (sym (enc .in-desk .closed) ∙ e))) v enc)
 
     module _ (open-desk : closedOf desk ≡ 1 → ⊥) where
       opened : (s : State) → Encodes K s desk sheet → s .is-closed ≡ false
@@ -98,7 +103,7 @@ module _ (desk sheet slip bytes : List ℕ) where
 
       pub is-malformed : isMalformed bytes ≡ true → Stepped desk sheet slip bytes 3 desk sheet slip
       is-malformed h =
-          fit-law (λ s v enc. refused-validated s malformed (refusal-step s malformed (malformed-first s (opened s enc) h)) enc)
+          fit-law (λ s v enc. refused-validated s malformed (refusal-step s malformed (malformed-first s (opened s enc) h)) v enc)
 
       -- ---- The record's event.
 
@@ -135,7 +140,7 @@ module _ (desk sheet slip bytes : List ℕ) where
           subst (λ (k : ℕ). Validated K s bytes desk sheet slip k desk′ sheet′ slip) (sym (r .number-is))
           (subst (λ (l : List ℕ). Validated K s bytes desk sheet slip (refusalNumber (r .by)) l sheet′ slip) (sym (r .same-desk))
           (subst (λ (l : List ℕ). Validated K s bytes desk sheet slip (refusalNumber (r .by)) desk l slip) (sym (r .same-sheet))
-          (refused-validated s (r .by) (refusal-step s (r .by) (r .is)) enc))))
+          (refused-validated s (r .by) (refusal-step s (r .by) (r .is)) v enc))))
 
       -- An accepted record leaves valid cores.
       accepted-cores : {desk′ sheet′ : List ℕ} {answer : ℕ} → K ≤ 64 → (s : State) → Valid K s → Encodes K s desk sheet
@@ -184,7 +189,7 @@ module _ (desk sheet slip bytes : List ℕ) where
           → step K s bytes ≡ record { answer = fault; state = close (accept s bytes) }
       step-fault s e c = rw (e, c) refl
 
-      module _ (s : State) {desk′ sheet′ : List ℕ} (o : s .is-closed ≡ false) (p : Accepted s desk′ sheet′) where
+      module _ (s : State) {desk′ sheet′ : List ℕ} (v : Valid K s) (o : s .is-closed ≡ false) (p : Accepted s desk′ sheet′) where
         abbrev marks′ : Marks
         marks′ = withMarks (s .graph .marks) (accept s bytes .cores (coreOf bytes))
 
@@ -203,9 +208,10 @@ module _ (desk sheet slip bytes : List ℕ) where
             let e = step-clean s (p .is) (sym (ap (cyclic K) (same-graph s)) ∙ c) in
             record {
               number-is = sym (ap (λ (t : Result). number (t .answer)) e);
-              encodes = subst (λ (t : Result). Encodes K (t .state) desk″ sheet′) (sym e)
+              stands = subst (λ (t : Result). StandFor K (t .state) desk″ sheet′) (sym e)
+                  (stands (valid-accept K s bytes v (p .is))
                   (subst (λ (b : Bool). Encodes K (record { is-closed = b; cores = accept s bytes .cores; graph = accept s bytes .graph }) desk″ sheet′) (sym o)
-                  (encoded false sb));
+                  (encoded false sb)));
               keeps-desk = keeps-both (p .keeps-desk) ks;
               keeps-sheet = p .keeps-sheet;
               refused = λ h. absurd (omega arith);
@@ -216,7 +222,8 @@ module _ (desk sheet slip bytes : List ℕ) where
             let e = step-fault s (p .is) (sym (ap (cyclic K) (same-graph s)) ∙ c) in
             record {
               number-is = sym (ap (λ (t : Result). number (t .answer)) e);
-              encodes = subst (λ (t : Result). Encodes K (t .state) desk″ sheet′) (sym e) (encoded true sb);
+              stands = subst (λ (t : Result). StandFor K (t .state) desk″ sheet′) (sym e)
+                  (stands (valid-close (valid-accept K s bytes v (p .is))) (encoded true sb));
               keeps-desk = keeps-both (p .keeps-desk) ks;
               keeps-sheet = p .keeps-sheet;
               refused = λ h. absurd (omega arith);
@@ -234,7 +241,7 @@ module _ (desk sheet slip bytes : List ℕ) where
           let o = opened s enc in
           let p = accepted-as (a .acted s o v enc) z in
           let valid = valid-accept K s bytes v (p .is) in
-          validate s o p
+          validate s v o p
           (concluded-at (p .in-desk .classes) c (accept s bytes .cores) (s .graph .marks) (accept s bytes .graph .locks)
           (subst (λ (b : Bool). DeskBytes K b (accept s bytes .cores) (s .graph .marks) desk′) o (p .in-desk)) (valid .cores) (p .in-sheet)))
 

@@ -1,4 +1,4 @@
--- What follows an accepted record: the usage marks, the search, and with a fault the closing and the report.
+-- What follows an accepted record: the usage marks, the search, and with a fault the closing and the slip.
 use mathlib.Core.Path.{_≡_}
 use mathlib.Core.Bool.{Bool, true, false, _||_}
 use mathlib.Core.List.{List}
@@ -8,8 +8,8 @@ use Rattle.rules.specs.Marks.{Marks, marksOf}
 use Rattle.rules.specs.Graph.{Dependencies, Graph}
 use Rattle.rules.specs.Decision.{cyclic}
 use Rattle.validity.specs.Valid.{ValidCore}
-use Rattle.layout.specs.Layout.{deskSize, classesOf}
-use Rattle.layout.specs.Encoding.{DeskBytes, SheetBytes, KeepsPast}
+use Rattle.layout.specs.Layout.{deskSize, classesOf, KeepsPast}
+use Rattle.layout.specs.Encoding.{DeskBytes, SheetBytes}
 use Rattle.validator.specs.Step.{Reported}
 
 -- The marks with those that a core's state sets on the locks of its current frame.

@@ -8,9 +8,8 @@ use Rattle.rules.specs.Graph.{Graph}
 use Rattle.rules.specs.Cycle.{Entry, Cycle}
 use Rattle.rules.specs.Verdict.{unfit, number}
 use Rattle.rules.specs.Run.{State, step}
-use Rattle.layout.specs.Layout.{deskSize, sheetSize, slipSize, classesOf}
-use Rattle.layout.specs.Encoding.{Encodes, SlipBytes, KeepsPast}
-use Rattle.layout.specs.Decoding.{view}
+use Rattle.layout.specs.Layout.{deskSize, sheetSize, slipSize, classesOf, KeepsPast}
+use Rattle.layout.specs.Decoding.{view, StandFor, SlipBytes}
 use Rattle.layout.specs.Fit.{fitsAll}
 
 -- With a fault: a cycle of the graph stands in the slip's first bytes, and the bytes past them stay. Which cycle is the program's choice; `Cycle`
@@ -21,11 +20,11 @@ pub record Reported (K : ℕ) (g : Graph) (slip slip′ : List ℕ) : Type 0 whe
   pub bytes : SlipBytes entries slip′
   pub keeps : KeepsPast (slipSize (length entries)) slip slip′
 
--- A record validated in the state s of the rules: the number is that of the rules, desk and sheet encode the state that the rules give, and no byte
--- past the sizes is touched. A refusal changes nothing; the slip is written with a fault only.
+-- A record validated in the state s of the rules: the number is that of the rules, desk and sheet stand for the state that the rules give, and no
+-- byte past the sizes is touched. A refusal changes nothing; the slip is written with a fault only.
 pub record Validated (K : ℕ) (s : State) (bytes desk sheet slip : List ℕ) (answer : ℕ) (desk′ sheet′ slip′ : List ℕ) : Type 0 where
   pub number-is : answer ≡ number (step K s bytes .answer)
-  pub encodes : Encodes K (step K s bytes .state) desk′ sheet′
+  pub stands : StandFor K (step K s bytes .state) desk′ sheet′
   pub keeps-desk : KeepsPast deskSize desk desk′
   pub keeps-sheet : KeepsPast (sheetSize K) sheet sheet′
   pub refused : 1 < answer → (desk′ ≡ desk) × (sheet′ ≡ sheet)

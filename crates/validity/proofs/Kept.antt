@@ -11,13 +11,14 @@ use lib.Dec.{eqb}
 use lib.ListN.{length, length-append}
 use borrow.Author.Tests.{leb-false, eqb-true, ne-eqb}
 use Rattle.rules.specs.Limits.{maxDepth, kindCount, modeCount}
-use Rattle.rules.specs.Record.{Bytes, Event, acquire, release, interrupt, eventBy, coreOf, kindOf, classOf, modeOf, eventOf, WellFormed}
+use Rattle.rules.specs.Record.{Bytes, Event, acquire, release, interrupt, eventBy, coreOf, kindOf, classOf, modeOf, eventOf}
+use Rattle.rules.specs.WellFormed.{WellFormed}
 use Rattle.rules.specs.Context.{CoreState, nextState, leavesHandler, Frame, soft, hard, frameOf, hardOverSoft, mayHoldSoft, mayHoldHard, taskSoftOff, softHardOn}
 use Rattle.rules.specs.HeldLocks.{First, HeldLock, someHeld, isHeld, releaseNewest, Core, current, withCurrent, afterEvent}
 use Rattle.rules.specs.Marks.{Level, hardIrq, softIrq, Usage, unsafe, setIn, letterFits, marksOf}
 use Rattle.rules.specs.Graph.{Kind, Graph, emptyGraph, addTo, drawnBy}
 use Rattle.rules.specs.Verdict.{Refusal, applies, malformed, noClass, noTransition, stillHeld, tooDeep, classMissing, transitionMissing, someLock, leavesLocked, frameFull, refusal}
-use Rattle.rules.specs.Run.{State, startingFrom, start, situation, accept, Result, step, run}
+use Rattle.rules.specs.Run.{State, startingFrom, start, situation, accept, close, Result, step, run}
 use Rattle.rules.proofs.Booleans.{or-cases, or-left, or-mono, and-cases, and-mono}
 use Rattle.rules.proofs.Formed.{well-formed}
 use Rattle.rules.proofs.Steps.{StepCases, was-refused, was-clean, was-fault, stepped, accepted-passes}
@@ -240,10 +241,13 @@ valid-accept K s r v h =
     by true i = after
     by false i = v .cores i
 
+pub valid-close : {K : ℕ} {s : State} → Valid K s → Valid K (close s)
+valid-close v = record { cores = v .cores; no-more = v .no-more; graph = v .graph }
+
 stepped-valid : {K : ℕ} {s : State} {r : Bytes} {o : Result} → StepCases K s r o → Valid K s → Valid K (o .state)
 stepped-valid (was-refused x e) v = v
 stepped-valid {K} {s} {r} (was-clean e q) v = valid-accept K s r v e
-stepped-valid {K} {s} {r} (was-fault e q) v = let w = valid-accept K s r v e in record { cores = w .cores; no-more = w .no-more; graph = w .graph }
+stepped-valid {K} {s} {r} (was-fault e q) v = valid-close (valid-accept K s r v e)
 
 pub valid-step : (K : ℕ) (s : State) (r : Bytes) → Valid K s → Valid K (step K s r .state)
 valid-step K s r v = stepped-valid (stepped K s r) v

@@ -1,4 +1,4 @@
--- `report::show` meets its contract. The loop's invariant: the number and the first i entries are entry-written. Assumes nothing.
+-- `report::show` meets its contract. The loop's invariant: the number and the first i entries are written. Assumes nothing.
 use mathlib.Core.Path.{_≡_, _∙_}
 use Prim.Native.Nat.{_≤_, _-_}
 use native.Mathlib.Omega.{arith}
