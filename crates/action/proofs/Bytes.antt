@@ -12,7 +12,7 @@ use Rattle.layout.specs.Layout.{frameCount, framesPerCore, deskSize, frameNumbe
 use Rattle.layout.specs.Encoding.{DeskBytes}
 use Rattle.context.proofs.Frames.{frame-less}
 use Rattle.update.specs.Update.{FrameBytes, SmallClasses, HeldIn, newestOf}
-use Rattle.update.proofs.Prefixes.{none, Lock, lock-at}
+use Rattle.update.proofs.Prefixes.{unheld, Lock, lock-at}
 use Rattle.update.proofs.Releases.{found-at, newest-is}
 use Rattle.update.proofs.Cores.{frame-bytes}
 use Rattle.action.specs.Action.{Cored}
@@ -51,8 +51,8 @@ module _ (desk : List ℕ) (c : Cored desk) (i : ℕ) (li : i < coreCount) where
       let F = current-bytes in
       let d = F .depth in
       let few = current-few in
-      let at : (p : ℕ) → p < depthOf desk n → Lock desk n p (getD hs p none) = λ p l. lock-at desk n hs F current-small p (omega arith) (omega arith) in
-      let ok : (p : ℕ) → p < depthOf desk n → ValidLock (classesOf desk) (getD hs p none) = λ p l. c .valid i .locks (frameOf (c .cores i .state)) p none (omega arith) in
+      let at : (p : ℕ) → p < depthOf desk n → Lock desk n p (getD hs p unheld) = λ p l. lock-at desk n hs F current-small p (omega arith) (omega arith) in
+      let ok : (p : ℕ) → p < depthOf desk n → ValidLock (classesOf desk) (getD hs p unheld) = λ p l. c .valid i .locks (frameOf (c .cores i .state)) p unheld (omega arith) in
       record {
         long = c .encodes .long;
         frame = number-less;

@@ -63,7 +63,7 @@ pub const EXIT_SOFT: u8 = 5;
 
 pub const EXIT_HARD: u8 = 7;
 
-// The states by short names, for the table.
+// The states by short names, for the table: task by what is off, soft interrupt, hard interrupt over task and over soft.
 const ON: u8 = CoreState::TASK_BOTH_ON.0;
 
 const SO: u8 = CoreState::TASK_SOFT_OFF.0;
@@ -72,29 +72,29 @@ const HO: u8 = CoreState::TASK_HARD_OFF.0;
 
 const BO: u8 = CoreState::TASK_BOTH_OFF.0;
 
-const S: u8 = CoreState::SOFT_HARD_ON.0;
+const SI: u8 = CoreState::SOFT_HARD_ON.0;
 
-const SH: u8 = CoreState::SOFT_HARD_OFF.0;
+const SX: u8 = CoreState::SOFT_HARD_OFF.0;
 
-const H: u8 = CoreState::HARD_OVER_BOTH_ON.0;
+const HT: u8 = CoreState::HARD_OVER_BOTH_ON.0;
 
-const HS: u8 = CoreState::HARD_OVER_SOFT_OFF.0;
+const HX: u8 = CoreState::HARD_OVER_SOFT_OFF.0;
 
-const HH: u8 = CoreState::HARD_OVER_SOFT.0;
+const HS: u8 = CoreState::HARD_OVER_SOFT.0;
 
 const X: u8 = NO_STATE;
 
 // A row for each state, a column for each interrupt event: hard on, hard off, soft on, soft off, enter soft, exit soft, enter hard, exit hard.
 const NEXT: [[u8; 8]; 9] = [
-    [ON, HO, ON, SO, S, X, H, X],
-    [SO, BO, ON, SO, X, X, HS, X],
+    [ON, HO, ON, SO, SI, X, HT, X],
+    [SO, BO, ON, SO, X, X, HX, X],
     [ON, HO, HO, BO, X, X, X, X],
     [SO, BO, HO, BO, X, X, X, X],
-    [S, SH, X, X, X, ON, HH, X],
-    [S, SH, X, X, X, X, X, X],
+    [SI, SX, X, X, X, ON, HS, X],
+    [SI, SX, X, X, X, X, X, X],
     [X, X, X, X, X, X, X, ON],
     [X, X, X, X, X, X, X, SO],
-    [X, X, X, X, X, X, X, S],
+    [X, X, X, X, X, X, X, SI],
 ];
 
 // The usage marks that a state sets on a held lock of a mode.

@@ -17,7 +17,7 @@ use Rattle.search.specs.Reports.{nextPlace}
 use Rattle.rules.proofs.Closure.{length-tabulate, getD-tabulate}
 use Rattle.log.specs.Text.{digits, kindText, sourceText, entryText, faultText, lineSize, linesOf, Appended, EntryPut}
 use Rattle.log.proofs.Digits.{places-of-byte, places-of-word}
-use Rattle.log.proofs.Writing.{both, as-text}
+use Rattle.log.proofs.Writing.{appended-both, as-text}
 
 -- ---- Kinds and sources by their numbers.
 
@@ -73,7 +73,7 @@ pub entry-put : {b b₁ b₂ b₃ b₄ : List ℕ} {at e₁ e₂ e₃ e₄ class
 unfolding entryText
 entry-put {class = class} {kind = kind} {source = source} {to = to} h k p q r s =
     record {
-      line = both (both (both p q) r) s;
+      line = appended-both (appended-both (appended-both p q) r) s;
       short = omega (arith, p .end-is, q .end-is, r .end-is, s .end-is, places-of-byte class h, places-of-byte to k, length-kind kind, length-source source);
     }
 
@@ -118,7 +118,7 @@ module _ (slip : List ℕ) where
   unfolding linesOf
   turn b out after at end place end′ i h e p q =
       rw add-one
-      (both p (as-text (line-of i h) (rw e at (q .line))))
+      (appended-both p (as-text (line-of i h) (rw e at (q .line))))
 
 -- ---- Room.
 

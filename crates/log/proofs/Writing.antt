@@ -14,9 +14,9 @@ pub sets-append : (b : List ℕ) (at : ℕ) (x y : List ℕ) → sets (sets b at
 sets-append b at [] y = rw add-zero refl
 sets-append b at (v ∷ x) y = rw (add-suc, ← suc-add) (sets-append (set b at v) (suc at) x y)
 
-pub both : {before middle after x y : List ℕ} {at e f : ℕ} → Appended before at x middle e → Appended middle e y after f
+pub appended-both : {before middle after x y : List ℕ} {at e f : ℕ} → Appended before at x middle e → Appended middle e y after f
     → Appended before at (x ++ y) after f
-both {before} {middle} {after} {x} {y} {at} {e} {f} p q =
+appended-both {before} {middle} {after} {x} {y} {at} {e} {f} p q =
     record {
       end-is = omega (arith, p .end-is, q .end-is, length-append x y);
       bytes = q .bytes ∙ rw (p .bytes, p .end-is) (sets-append before at x y);
@@ -24,15 +24,15 @@ both {before} {middle} {after} {x} {y} {at} {e} {f} p q =
     }
 
 -- One byte behind what stands already.
-pub one-more : (b : List ℕ) (at : ℕ) (x : List ℕ) (v : ℕ) → set (sets b at x) (at + length x) v ≡ sets b at (x ++ v ∷ [])
-one-more b at x v = sets-append b at x (v ∷ [])
+pub one-byte-more : (b : List ℕ) (at : ℕ) (x : List ℕ) (v : ℕ) → set (sets b at x) (at + length x) v ≡ sets b at (x ++ v ∷ [])
+one-byte-more b at x v = sets-append b at x (v ∷ [])
 
 -- A turn of the loop that copies a word.
 pub copy-more : (b : List ℕ) (at : ℕ) (word : List ℕ) (i : ℕ) → i < length word
     → set (sets b at (take i word)) (at + i) (getD word i 0) ≡ sets b at (take (i + 1) word)
 copy-more b at word i h =
     let l : length (take i word) ≡ i = length-take-le i word (omega arith) in
-    rw (add-one, take-suc word i 0 h) (rw l at (one-more b at (take i word) (getD word i 0)))
+    rw (add-one, take-suc word i 0 h) (rw l at (one-byte-more b at (take i word) (getD word i 0)))
 
 -- Its end.
 pub copied : (b : List ℕ) (at : ℕ) (word : List ℕ) (i : ℕ) (after : List ℕ) → i ≡ length word → after ≡ sets b at (take i word)
@@ -52,7 +52,7 @@ pub more-placed : (b middle : List ℕ) (at end n v : ℕ) → 10 ≤ n → Appe
     → v ≡ 48 + n % 10 → Appended b at (digits n) (set middle end v) (end + 1)
 more-placed b middle at end n v h p room e =
     rw (digits-more n h, e)
-    (both p (record { end-is = refl; bytes = refl; inside = rw length-set (omega arith) }))
+    (appended-both p (record { end-is = refl; bytes = refl; inside = rw length-set (omega arith) }))
 
 pub as-text : {before after x y : List ℕ} {at end : ℕ} → y ≡ x → Appended before at x after end → Appended before at y after end
 as-text e p = rw e p

@@ -107,7 +107,7 @@ pub fn validate_next(
 }
 
 // Moves the bytes that are left to the front of the buffer, and counts them.
-pub fn keep(buf: &mut [u8], at: usize, until: usize) -> usize
+pub fn loose_to_front(buf: &mut [u8], at: usize, until: usize) -> usize
     requires { ⌜ (at ≤ until) × (until ≤ length (now buf)) ⌝ }
     ensures { λ r. ⌜ Kept (now (buf .entry)) at until (now (buf .exit)) r ⌝ }
 {

@@ -26,7 +26,7 @@ use Rattle.fit.proofs.Fitting.{encodes-stand}
 use Rattle.opening.specs.Open.{opens, answerBy, bytesBy, openedDesk, openedSheet, Opened}
 use Rattle.opening.proofs.Opens.{open-encodes}
 use Rattle.validator.specs.Step.{Validated}
-use Rattle.plungerowl.specs.Runs.{Buffers, Called, Ran, none, call, Opening}
+use Rattle.plungerowl.specs.Runs.{Buffers, Called, Ran, no-call, call, Opening}
 
 -- The buffers encode a state of the rules, and the step will not find them unfit.
 pub record Holds (K : ℕ) (s : State) (b : Buffers) : Type 0 where
@@ -60,11 +60,11 @@ step-holds {K} {s} {r} h j =
     record { some = h .some; few = h .few; valid = valid-step K s r (h .valid); stands = j .stands; room = omega arith }
 
 pub run-holds : {K : ℕ} {s : State} {b b′ : Buffers} {rs : List Bytes} {given : List ℕ} → Holds K s b → Ran b rs given b′ → Holds K (run K s rs) b′
-run-holds h none = h
+run-holds h no-call = h
 run-holds h (call t w) = run-holds (step-holds h (validated-by h t)) w
 
 pub run-answers : {K : ℕ} {s : State} {b b′ : Buffers} {rs : List Bytes} {given : List ℕ} → Holds K s b → Ran b rs given b′ → given ≡ answers K s rs
-run-answers h none = refl
+run-answers h no-call = refl
 run-answers h (call t w) =
     let j = validated-by h t in
     ap₂ {C = List ℕ} _∷_ (j .number-is) (run-answers (step-holds h j) w)

@@ -19,7 +19,7 @@ Called b r answer b′ = Stepped (b .desk) (b .sheet) (b .slip) r answer (b′ .
 
 -- Calls of the step, one record a call, each handed the buffers as the last left them: the buffers, the records, the answers, the buffers left.
 pub data Ran : Buffers → List Bytes → List ℕ → Buffers → Type 0 where
-  none : {b : Buffers} → Ran b [] [] b
+  no-call : {b : Buffers} → Ran b [] [] b
   call : {b b′ b″ : Buffers} {r : Bytes} {rs : List Bytes} {answer : ℕ} {answers : List ℕ}
       → Called b r answer b′ → Ran b′ rs answers b″ → Ran b (r ∷ rs) (answer ∷ answers) b″
 

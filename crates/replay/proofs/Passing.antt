@@ -15,7 +15,7 @@ use Rattle.layout.specs.Fit.{classesFit}
 use Rattle.opening.specs.Open.{Opened, opens, answerBy}
 use Rattle.validator.specs.Step.{Stepped}
 use Rattle.rules.proofs.Booleans.{and-cases}
-use Rattle.plungerowl.specs.Runs.{Buffers, Called, Ran, none, call, Opening}
+use Rattle.plungerowl.specs.Runs.{Buffers, Called, Ran, no-call, call, Opening}
 use Rattle.plungerowl.proofs.Runs.{opening-holds, run-holds, validated-by}
 use Rattle.log.specs.Text.{Showable}
 use Rattle.log.specs.Log.{nextRecord, ValidatedNext}
@@ -24,11 +24,11 @@ use Rattle.replay.specs.Outcomes.{buffers, Passed, Stopped, Came, Replay
 
 ran-more : {b b′ b″ : Buffers} {rs : List Bytes} {answers : List ℕ} {r : Bytes} {answer : ℕ} → Ran b rs answers b′
     → Called b′ r answer b″ → Ran b (rs ++ r ∷ []) (answers ++ answer ∷ []) b″
-ran-more none t = call t none
+ran-more no-call t = call t no-call
 ran-more (call u w) t = call u (ran-more w t)
 
 pub none-passed : (b : Buffers) → Passed b 0 b
-none-passed b = record { records = []; count = refl; ran = none }
+none-passed b = record { records = []; count = refl; ran = no-call }
 
 pub one-passed : {b b′ b″ : Buffers} {n : ℕ} (r : Bytes) → Passed b n b′
     → Called b′ r 0 b″ → Passed b (n + 1) b″

@@ -105,7 +105,7 @@ fn validate(
             if ended {
                 return Outcome::Clean(records);
             }
-            let kept = log::keep(buf, at, until);
+            let kept = log::loose_to_front(buf, at, until);
             let input = read_more(buf, kept);
             if input.failed {
                 return Outcome::Unread;

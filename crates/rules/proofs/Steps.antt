@@ -94,10 +94,10 @@ closed-run : (K : ℕ) (s : State) (rs : List Bytes) → s .is-closed ≡ true �
 closed-run K s [] h = refl
 closed-run K s (r ∷ rs) h = ap (λ (o : Result). run K (o .state) rs) (closed-step K s r h) ∙ closed-run K s rs h
 
-pub closed-by-fault : (K : ℕ) (s : State) (rs : List Bytes) → s .is-closed ≡ false → run K s rs .is-closed ≡ true
+pub run-closed-by-fault : (K : ℕ) (s : State) (rs : List Bytes) → s .is-closed ≡ false → run K s rs .is-closed ≡ true
     → FaultBy (answers K s rs) (length rs)
-closed-by-fault K s [] h c = absurd (false≢true (sym h ∙ c))
-closed-by-fault K s (r ∷ rs) h c = by (step K s r .state .is-closed) refl (closed-by-fault K (step K s r .state) rs)
+run-closed-by-fault K s [] h c = absurd (false≢true (sym h ∙ c))
+run-closed-by-fault K s (r ∷ rs) h c = by (step K s r .state .is-closed) refl (run-closed-by-fault K (step K s r .state) rs)
   where
     by : (b : Bool) → step K s r .state .is-closed ≡ b
         → (step K s r .state .is-closed ≡ false → run K (step K s r .state) rs .is-closed ≡ true → FaultBy (answers K (step K s r .state) rs) (length rs))
@@ -115,7 +115,7 @@ fault-closes K s (r ∷ rs) (suc i) h = fault-closes K (step K s r .state) rs i 
 pub closed-exactly : (K : ℕ) (g : Graph) (rs : List Bytes)
     → run K (startingFrom g) rs .is-closed ≡ true ↔ FaultBy (answers K (startingFrom g) rs) (length rs)
 closed-exactly K g rs =
-    (closed-by-fault K (startingFrom g) rs refl, λ f. fault-closes K (startingFrom g) rs (f .at) (f .is-fault))
+    (run-closed-by-fault K (startingFrom g) rs refl, λ f. fault-closes K (startingFrom g) rs (f .at) (f .is-fault))
 
 -- After a fault every record gets 10.
 pub shut-after : (K : ℕ) (s : State) (rs : List Bytes) (i j : ℕ) → i < j → j < length rs → getD (answers K s rs) i 0 ≡ 1

@@ -104,8 +104,8 @@ pub kind-shift-r : (first : ℕ) → first ≡ firstIndex (firstAt first) → 1 
 kind-shift-r zero e = refl
 kind-shift-r (suc n) e = rw e refl
 
-pub picked : (f : First) (b : Second) {to-r to-n : ℕ} {c : Choice} → c .kind ≡ kindBitBy f b → Lowest (byLetter b to-r to-n) (c .to) → Chosen f to-r to-n c
-picked f b {to-r} {to-n} {c} e l =
+pub picked-lowest : (f : First) (b : Second) {to-r to-n : ℕ} {c : Choice} → c .kind ≡ kindBitBy f b → Lowest (byLetter b to-r to-n) (c .to) → Chosen f to-r to-n c
+picked-lowest f b {to-r} {to-n} {c} e l =
     record {
       none = λ z. absurd (kind-some f b (sym e ∙ z));
       small = l .small;

@@ -20,19 +20,19 @@ use Rattle.successors.specs.declared.KindWords.{KindWords}
 
 -- ---- The four digits of a byte, spread by a product and a mask: a test of all 256 bytes.
 
-every : ℕ → (ℕ → Bool) → Bool
-every zero p = true
-every (suc n) p = p zero && every n (λ i. p (suc i))
+every-digit : ℕ → (ℕ → Bool) → Bool
+every-digit zero p = true
+every-digit (suc n) p = p zero && every-digit n (λ i. p (suc i))
 
-every-at : (n : ℕ) (p : ℕ → Bool) → every n p ≡ true → (i : ℕ) → i < n → p i ≡ true
-unfolding every
+every-at : (n : ℕ) (p : ℕ → Bool) → every-digit n p ≡ true → (i : ℕ) → i < n → p i ≡ true
+unfolding every-digit
 every-at zero p t i l = absurd (not-suc-le-zero l)
-every-at (suc n) p t zero l = and-cases (p zero) (every n (λ i. p (suc i))) t .0
-every-at (suc n) p t (suc i) l = every-at n (λ i. p (suc i)) (and-cases (p zero) (every n (λ i. p (suc i))) t .1) i (le-of-suc-le-suc l)
+every-at (suc n) p t zero l = and-cases (p zero) (every-digit n (λ i. p (suc i))) t .0
+every-at (suc n) p t (suc i) l = every-at n (λ i. p (suc i)) (and-cases (p zero) (every-digit n (λ i. p (suc i))) t .1) i (le-of-suc-le-suc l)
 
 pub spread-law : (b : ℕ) → b < 256
     → bitAnd (b * 35185445863425) 281479271743489 ≡ spreadOf b
-unfolding bit every
+unfolding bit every-digit
 spread-law b l =
     eqb-true _ _ (every-at 256
     (λ x. eqb (bitAnd (x * 35185445863425) 281479271743489) (spreadOf x)) refl b l)

@@ -22,7 +22,7 @@ use Rattle.layout.proofs.Buffers.{cell-inside}
 use Rattle.layout.proofs.Flags.{kind-or}
 use Rattle.context.specs.Bits.{kindsBy, kindBits}
 use Rattle.update.specs.Update.{FrameBytes, SmallClasses, drawnFrom, Drawn}
-use Rattle.update.proofs.Prefixes.{none, one-more, all-places, Lock, lock-at}
+use Rattle.update.proofs.Prefixes.{unheld, one-more, all-places, Lock, lock-at}
 
 -- ---- Cells of the sheet.
 
@@ -117,7 +117,7 @@ module _ (desk : List ℕ) (K n class mode : ℕ) (before : List ℕ) where
         };
         drawn = λ hs F small locks mb.
             let d = F .depth in
-            let h = getD hs p none in
+            let h = getD hs p unheld in
             let lock = lock-at desk n hs F small p (omega arith) m in
             let q = add-cell K (h .class) class (h .mode) mode (rw (lock .class) at lh) lc _ now (D .drawn hs F small locks mb) in
             rw (lock .class, lock .mode, add-one)

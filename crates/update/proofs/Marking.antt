@@ -20,7 +20,7 @@ use Rattle.layout.specs.Encoding.{markByte}
 use Rattle.layout.proofs.Flags.{mark-or}
 use Rattle.context.specs.Bits.{marksBy, markBits}
 use Rattle.update.specs.Update.{FrameBytes, SmallClasses, MarkBytes, KeepsUnmarked, Marked}
-use Rattle.update.proofs.Prefixes.{none, one-more, all-places, Lock, lock-at}
+use Rattle.update.proofs.Prefixes.{unheld, one-more, all-places, Lock, lock-at}
 
 same-marks : {desk : List ℕ} (m m′ : Marks) → ((c : ℕ) (l : Level) (u : Usage) → m c l u ≡ m′ c l u) → MarkBytes desk m → MarkBytes desk m′
 same-marks {desk} m m′ e b = subst (λ (x : Marks). MarkBytes desk x) (fun-ext (λ c. fun-ext (λ l. fun-ext (λ u. e c l u)))) b
@@ -96,7 +96,7 @@ module _ (before : List ℕ) (n context : ℕ) where
         };
         marked = λ hs F small marks b.
             let d = F .depth in
-            let h = getD hs p none in
+            let h = getD hs p unheld in
             let lock = lock-at before n hs F small p (omega arith) m in
             let inside : p < length hs = omega arith in
             let same = same-held M p in

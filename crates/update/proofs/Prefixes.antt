@@ -13,23 +13,23 @@ use Rattle.layout.specs.Layout.{heldOf}
 use Rattle.layout.specs.Encoding.{heldByte, heldByteAt}
 use Rattle.update.specs.Update.{FrameBytes, SmallClasses}
 
-pub none : HeldLock
-none = record { class = 0; mode = 0 }
+pub unheld : HeldLock
+unheld = record { class = 0; mode = 0 }
 
 -- One place more.
 pub one-more : (c : ℕ) (test : HeldLock → Bool) (hs : List HeldLock) (p : ℕ) → p < length hs
-    → someHeld c test (take (suc p) hs) ≡ (someHeld c test (take p hs) || (eqb c (getD hs p none .class) && test (getD hs p none)))
+    → someHeld c test (take (suc p) hs) ≡ (someHeld c test (take p hs) || (eqb c (getD hs p unheld .class) && test (getD hs p unheld)))
 one-more c test [] p l = absurd (not-suc-le-zero l)
 one-more c test (h ∷ hs) zero l = or-false (eqb c (h .class) && test h)
 one-more c test (h ∷ hs) (suc p) l =
     ap (λ (b : Bool). (eqb c (h .class) && test h) || b) (one-more c test hs p (le-of-suc-le-suc l))
-    ∙ sym (or-assoc (eqb c (h .class) && test h) (someHeld c test (take p hs)) (eqb c (getD hs p none .class) && test (getD hs p none)))
+    ∙ sym (or-assoc (eqb c (h .class) && test h) (someHeld c test (take p hs)) (eqb c (getD hs p unheld .class) && test (getD hs p unheld)))
 
 pub all-places : (hs : List HeldLock) → take (length hs) hs ≡ hs
 all-places [] = refl
 all-places (h ∷ hs) = ap {B = List HeldLock} (λ (l : List HeldLock). h ∷ l) (all-places hs)
 
-byte-of : (hs : List HeldLock) (p : ℕ) → p < length hs → heldByteAt hs p ≡ heldByte (getD hs p none)
+byte-of : (hs : List HeldLock) (p : ℕ) → p < length hs → heldByteAt hs p ≡ heldByte (getD hs p unheld)
 byte-of [] p l = absurd (not-suc-le-zero l)
 byte-of (h ∷ hs) zero l = refl
 byte-of (h ∷ hs) (suc p) l = byte-of hs p (le-of-suc-le-suc l)
@@ -40,9 +40,9 @@ pub record Lock (desk : List ℕ) (n p : ℕ) (h : HeldLock) : Type 0 where
   pub mode : heldOf desk n p / 64 ≡ h .mode
 
 pub lock-at : (desk : List ℕ) (n : ℕ) (hs : List HeldLock) → FrameBytes desk n hs → SmallClasses hs → (p : ℕ) → p < length hs → p < maxDepth
-    → Lock desk n p (getD hs p none)
-unfolding none
+    → Lock desk n p (getD hs p unheld)
+unfolding unheld
 lock-at desk n hs F small p l m =
-    let e : heldOf desk n p ≡ heldByte (getD hs p none) = F .held p m ∙ byte-of hs p l in
-    let s = small p none l in
+    let e : heldOf desk n p ≡ heldByte (getD hs p unheld) = F .held p m ∙ byte-of hs p l in
+    let s = small p unheld l in
     record { class = rw e (omega arith); mode = rw e (omega arith) }

@@ -15,7 +15,7 @@ use Rattle.rules.specs.Limits.{maxDepth}
 use Rattle.rules.specs.HeldLocks.{HeldLock, isHeld, releaseNewest}
 use Rattle.layout.specs.Layout.{heldOf, depthOf}
 use Rattle.update.specs.Update.{FrameBytes, SmallClasses, lastBelow, newestOf, removeAt}
-use Rattle.update.proofs.Prefixes.{none, lock-at}
+use Rattle.update.proofs.Prefixes.{unheld, lock-at}
 
 -- What `lastBelow` finds.
 data LastBelow (test : ℕ → Bool) (d : ℕ) : ℕ → Type 0 where
@@ -36,7 +36,7 @@ last-below test (suc d) = by (test d) refl (last-below test d)
     by false e x = more e x
 
 -- The same over a list of held locks.
-none-held : (c : ℕ) (hs : List HeldLock) → ((p : ℕ) → p < length hs → eqb c (getD hs p none .class) ≡ false) → isHeld c hs ≡ false
+none-held : (c : ℕ) (hs : List HeldLock) → ((p : ℕ) → p < length hs → eqb c (getD hs p unheld .class) ≡ false) → isHeld c hs ≡ false
 none-held c [] f = refl
 none-held c (h ∷ hs) f = rw (f 0 (omega arith)) (none-held c hs (λ p l. f (suc p) (omega arith)))
 
@@ -45,8 +45,8 @@ pub record Newest (c : ℕ) (hs : List HeldLock) (q : ℕ) : Type 0 where
   pub found : isHeld c hs ≡ true
   pub released : releaseNewest c hs ≡ removeAt q hs
 
-last-held : (c : ℕ) (hs : List HeldLock) (q : ℕ) → q < length hs → eqb c (getD hs q none .class) ≡ true
-    → ((p : ℕ) → q < p → p < length hs → eqb c (getD hs p none .class) ≡ false) → Newest c hs q
+last-held : (c : ℕ) (hs : List HeldLock) (q : ℕ) → q < length hs → eqb c (getD hs q unheld .class) ≡ true
+    → ((p : ℕ) → q < p → p < length hs → eqb c (getD hs p unheld .class) ≡ false) → Newest c hs q
 last-held c [] q l e f = absurd (not-suc-le-zero l)
 last-held c (h ∷ hs) zero l e f =
     let later = none-held c hs (λ p m. f (suc p) (omega arith) (omega arith)) in
@@ -69,13 +69,13 @@ pub newest-is : (desk : List ℕ) (n : ℕ) (hs : List HeldLock) → FrameBytes 
 unfolding newestOf
 newest-is desk n hs F small few c = by (last-below (λ p. eqb (heldOf desk n p % 64) c) (depthOf desk n))
   where
-    same : (p : ℕ) → p < length hs → eqb c (getD hs p none .class) ≡ eqb (heldOf desk n p % 64) c
+    same : (p : ℕ) → p < length hs → eqb c (getD hs p unheld .class) ≡ eqb (heldOf desk n p % 64) c
     same p l =
         let lock = lock-at desk n hs F small p l (omega arith) in
         rw (lock .class)
-        (elim (ℕ-discrete c (getD hs p none .class)) [
-          | yes e ↦ eq-eqb c (getD hs p none .class) e ∙ sym (eq-eqb (getD hs p none .class) c (sym e))
-          | no ne ↦ ne-eqb c (getD hs p none .class) ne ∙ sym (ne-eqb (getD hs p none .class) c (λ e. ne (sym e)))
+        (elim (ℕ-discrete c (getD hs p unheld .class)) [
+          | yes e ↦ eq-eqb c (getD hs p unheld .class) e ∙ sym (eq-eqb (getD hs p unheld .class) c (sym e))
+          | no ne ↦ ne-eqb c (getD hs p unheld .class) ne ∙ sym (ne-eqb (getD hs p unheld .class) c (λ e. ne (sym e)))
         ])
 
     by : {r : ℕ} → LastBelow (λ p. eqb (heldOf desk n p % 64) c) (depthOf desk n) r → NewestCases c hs r

@@ -13,15 +13,15 @@ use Rattle.rules.proofs.Booleans.{and-cases}
 abbrev pub eventCount : ℕ
 eventCount = 8
 
-abbrev all : ℕ → (ℕ → Bool) → Bool
-all zero test = true
-all (suc n) test = test zero && all n (λ i. test (suc i))
+abbrev allEntries : ℕ → (ℕ → Bool) → Bool
+allEntries zero test = true
+allEntries (suc n) test = test zero && allEntries n (λ i. test (suc i))
 
-all-at : (n : ℕ) (test : ℕ → Bool) → all n test ≡ true → (i : ℕ) → i < n → test i ≡ true
-all-at zero test h i l = absurd (not-suc-le-zero l)
-all-at (suc n) test h zero l = and-cases (test zero) (all n (λ i. test (suc i))) h .0
-all-at (suc n) test h (suc i) l =
-    all-at n (λ i. test (suc i)) (and-cases (test zero) (all n (λ i. test (suc i))) h .1) i (le-of-suc-le-suc l)
+all-entries-at : (n : ℕ) (test : ℕ → Bool) → allEntries n test ≡ true → (i : ℕ) → i < n → test i ≡ true
+all-entries-at zero test h i l = absurd (not-suc-le-zero l)
+all-entries-at (suc n) test h zero l = and-cases (test zero) (allEntries n (λ i. test (suc i))) h .0
+all-entries-at (suc n) test h (suc i) l =
+    all-entries-at n (λ i. test (suc i)) (and-cases (test zero) (allEntries n (λ i. test (suc i))) h .1) i (le-of-suc-le-suc l)
 
 not-or : (a : Bool) {b : Bool} → (not a || b) ≡ true → a ≡ true → b ≡ true
 not-or true h e = h
@@ -36,8 +36,8 @@ abbrev kept : Frame → (CoreState → Bool) → CoreState → ℕ → Bool
 kept f may s e = let n = nextState s e in eqb n noState || (leb n hardOverSoft && (not (may s) || (leavesHandler e && eqb f (frameOf s)) || may n))
 
 pub record FrameStates (f : Frame) (may : CoreState → Bool) : Type 0 where
-  enters : all (suc hardOverSoft) (entered f may) ≡ true
-  keeps : all (suc hardOverSoft) (λ s. all eventCount (kept f may s)) ≡ true
+  enters : allEntries (suc hardOverSoft) (entered f may) ≡ true
+  keeps : allEntries (suc hardOverSoft) (λ s. allEntries eventCount (kept f may s)) ≡ true
 
 pub soft-states : FrameStates soft mayHoldSoft
 soft-states = record { enters = refl; keeps = refl }
@@ -47,14 +47,14 @@ hard-states = record { enters = refl; keeps = refl }
 
 module _ {f : Frame} {may : CoreState → Bool} (t : FrameStates f may) where
   pub current-may : (s : CoreState) → s ≤ hardOverSoft → eqb f (frameOf s) ≡ true → may s ≡ true
-  current-may s l = not-or (eqb f (frameOf s)) (all-at (suc hardOverSoft) (entered f may) (t .enters) s (suc-le-suc l))
+  current-may s l = not-or (eqb f (frameOf s)) (all-entries-at (suc hardOverSoft) (entered f may) (t .enters) s (suc-le-suc l))
 
   module _ (s e : ℕ) (l : s ≤ hardOverSoft) (m : e < eventCount) (h : eqb (nextState s e) noState ≡ false) where
     entry : (leb (nextState s e) hardOverSoft ≡ true)
         × ((not (may s) || (leavesHandler e && eqb f (frameOf s)) || may (nextState s e)) ≡ true)
     entry =
         and-cases _ _
-        (rw h at (all-at eventCount (kept f may s) (all-at (suc hardOverSoft) (λ s. all eventCount (kept f may s)) (t .keeps) s (suc-le-suc l)) e m))
+        (rw h at (all-entries-at eventCount (kept f may s) (all-entries-at (suc hardOverSoft) (λ s. allEntries eventCount (kept f may s)) (t .keeps) s (suc-le-suc l)) e m))
 
     pub next-in-range : nextState s e ≤ hardOverSoft
     next-in-range = leb-true (nextState s e) hardOverSoft (entry .0)
@@ -64,4 +64,4 @@ module _ {f : Frame} {may : CoreState → Bool} (t : FrameStates f may) where
 
 -- No state has a frame past the hard one.
 pub frame-last : (s : CoreState) → s ≤ hardOverSoft → frameOf s ≤ hard
-frame-last s l = leb-true (frameOf s) hard (all-at (suc hardOverSoft) (λ s. leb (frameOf s) hard) refl s (suc-le-suc l))
+frame-last s l = leb-true (frameOf s) hard (all-entries-at (suc hardOverSoft) (λ s. leb (frameOf s) hard) refl s (suc-le-suc l))

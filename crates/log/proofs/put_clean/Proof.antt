@@ -3,7 +3,7 @@ use native.Mathlib.Omega.{arith}
 use borrow.Author.Needs.{needs}
 use Rattle.log.specs.Text.{cleanText}
 use Rattle.log.proofs.Digits.{places-of-word}
-use Rattle.log.proofs.Writing.{both}
+use Rattle.log.proofs.Writing.{appended-both}
 use Rattle.log.proofs.put_clean.Statement.{statement}
 use Rattle.log.proofs.put_clean.Tie as tie
 
@@ -27,7 +27,7 @@ same-length c = search needs
 
 returns : tie.Need-returns
 unfolding cleanText
-returns c = both (both (c .before .before .before .before .before .before .before .before .before .before .before .put-word .ensures) (c .before .before .before .before .before .before .before .put-number .ensures)) (c .before .before .put-word2 .ensures)
+returns c = appended-both (appended-both (c .before .before .before .before .before .before .before .before .before .before .before .put-word .ensures) (c .before .before .before .before .before .before .before .put-number .ensures)) (c .before .before .put-word2 .ensures)
 
 pub put-clean-spec : {M : Type 1} → statement M
 put-clean-spec =

@@ -2,7 +2,7 @@
 use native.Mathlib.Omega.{arith}
 use borrow.Author.Needs.{needs}
 use Rattle.log.proofs.Lines.{fault-short}
-use Rattle.log.proofs.Writing.{both}
+use Rattle.log.proofs.Writing.{appended-both}
 use Rattle.log.proofs.put_fault_cycle.Statement.{statement}
 use Rattle.log.proofs.put_fault_cycle.Tie as tie
 
@@ -18,7 +18,7 @@ same-length : tie.Need-same-length
 same-length c = search needs
 
 returns : tie.Need-returns
-returns c = both (c .before .before .before .before .before .before .put-fault .ensures) (c .before .before .put-cycle .ensures)
+returns c = appended-both (c .before .before .before .before .before .before .put-fault .ensures) (c .before .before .put-cycle .ensures)
 
 pub put-fault-cycle-spec : {M : Type 1} → statement M
 put-fault-cycle-spec =

@@ -4,7 +4,7 @@ use native.Mathlib.Omega.{arith}
 use borrow.Author.Needs.{needs}
 use Rattle.log.specs.Text.{refusedText, digits}
 use Rattle.log.proofs.Digits.{places-of-word, places-of-byte}
-use Rattle.log.proofs.Writing.{both, as-text}
+use Rattle.log.proofs.Writing.{appended-both, as-text}
 use Rattle.log.proofs.put_refused.Statement.{statement}
 use Rattle.log.proofs.put_refused.Tie as tie
 
@@ -42,7 +42,7 @@ returns : tie.Need-returns
 unfolding refusedText
 returns c =
     let answer = as-text (ap digits (sym (c .before .before .before .before .before .before .before .before .before .before .before .before .before .before .before .before .before .wide .ensures))) (c .before .before .before .before .before .before .before .before .before .before .before .before .before .before .before .before .put-number .ensures) in
-    both (both (both (both (c .before .before .before .before .before .before .before .before .before .before .before .before .before .before .before .before .before .before .before .before .before .put-word .ensures) answer) (c .before .before .before .before .before .before .before .before .before .before .before .put-word2 .ensures)) (c .before .before .before .before .before .before .before .put-number2 .ensures)) (c .before .before .put-word3 .ensures)
+    appended-both (appended-both (appended-both (appended-both (c .before .before .before .before .before .before .before .before .before .before .before .before .before .before .before .before .before .before .before .before .before .put-word .ensures) answer) (c .before .before .before .before .before .before .before .before .before .before .before .put-word2 .ensures)) (c .before .before .before .before .before .before .before .put-number2 .ensures)) (c .before .before .put-word3 .ensures)
 
 pub put-refused-spec : {M : Type 1} → statement M
 put-refused-spec =

@@ -56,13 +56,13 @@ same-length-4 c = omega arith
 returns : tie.Need-returns Inv-loop μ-loop
 returns c = same-passed (c .before .before .before .before .before .before .before .before .before .before .before .before .before .before .before .loop .inv .7) (c .before .before .before .before .before .before .before .before .validate-next .ensures) (c .before .if1 .taken)
 
-keep-requires : tie.Need-keep-requires Inv-loop μ-loop
-keep-requires c κs = (omega arith, omega arith)
+loose-to-front-requires : tie.Need-loose-to-front-requires Inv-loop μ-loop
+loose-to-front-requires c κs = (omega arith, omega arith)
 
 read-more-requires : tie.Need-read-more-requires Inv-loop μ-loop
 read-more-requires c κs =
     let l = c .before .before .before .before .before .before .before .before .before .before .before .before .before .before .before .before .before .before .before .before .loop in
-    omega (arith, left-short (l .buf) (l .at) (l .until) (l .inv .1) (c .before .before .before .before .before .before .before .before .before .before .before .before .before .validate-next .ensures) (c .before .before .before .before .before .before .if1 .taken) (c .before .before .before .before .before .if2 .left), c .before .before .before .keep .ensures .count, c .before .before .before .keep .kept .0)
+    omega (arith, left-short (l .buf) (l .at) (l .until) (l .inv .1) (c .before .before .before .before .before .before .before .before .before .before .before .before .before .validate-next .ensures) (c .before .before .before .before .before .before .if1 .taken) (c .before .before .before .before .before .if2 .left), c .before .before .before .loose-to-front .ensures .count, c .before .before .before .loose-to-front .kept .0)
 
 same-length-5 : tie.Need-same-length-5 Inv-loop μ-loop
 same-length-5 c = omega arith
@@ -190,7 +190,7 @@ validate-spec =
     same-length-3
     same-length-4
     returns
-    keep-requires
+    loose-to-front-requires
     read-more-requires
     same-length-5
     same-length-6

@@ -1,7 +1,7 @@
 use borrow.Author.Needs.{needs}
 use native.Mathlib.Omega.{arith}
 use Rattle.rules.specs.HeldLocks.{R, N}
-use Rattle.search.proofs.Choices.{first-small, kind-shift-r, kind-shift-n, picked, none-picked}
+use Rattle.search.proofs.Choices.{first-small, kind-shift-r, kind-shift-n, picked-lowest, none-picked}
 use Rattle.search.proofs.chosen.Statement.{statement}
 use Rattle.search.proofs.chosen.Tie as tie
 
@@ -17,7 +17,7 @@ shl-t7 c = let s = c .before .before in omega (arith, first-small (s .args .firs
 returns : tie.Need-returns
 returns c =
     let s = c .before .before in
-    picked _ N (kind-shift-n (s .args .first) (s .pre)) (c .lowest .ensures)
+    picked-lowest _ N (kind-shift-n (s .args .first) (s .pre)) (c .lowest .ensures)
 
 lowest-requires-2 : tie.Need-lowest-requires-2
 lowest-requires-2 c κs = search needs
@@ -31,7 +31,7 @@ shl-t10 c = let s = c .before .before .before in omega (arith, first-small (s .a
 returns-2 : tie.Need-returns-2
 returns-2 c =
     let s = c .before .before .before in
-    picked _ R (kind-shift-r (s .args .first) (s .pre)) (c .lowest2 .ensures)
+    picked-lowest _ R (kind-shift-r (s .args .first) (s .pre)) (c .lowest2 .ensures)
 
 returns-3 : tie.Need-returns-3
 returns-3 c = none-picked _ (c .if2 .left) (c .before .if1 .left)

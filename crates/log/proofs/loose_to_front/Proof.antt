@@ -1,11 +1,11 @@
--- `log::keep` meets its contract. Assumes nothing.
+-- `log::loose_to_front` meets its contract. Assumes nothing.
 use mathlib.Core.Path.{_≡_, refl}
 use Prim.Native.Nat.{_-_, _≤_}
 use native.Mathlib.Omega.{arith}
 use lib.ListN.{length, take, drop, length-set}
 use Rattle.log.proofs.Keeping.{front-more, rest-more}
-use Rattle.log.proofs.keep.Statement.{statement}
-use Rattle.log.proofs.keep.Tie as tie
+use Rattle.log.proofs.loose_to_front.Statement.{statement}
+use Rattle.log.proofs.loose_to_front.Tie as tie
 
 abbrev Inv-loop : tie.InvT-loop
 Inv-loop buf₀ at until n i₀ buf i = (i ≤ n) × (length buf ≡ length buf₀) × (take i buf ≡ take i (drop at buf₀)) × (drop i buf ≡ drop i buf₀)
@@ -54,8 +54,8 @@ returns c =
     let e : l .i ≡ a .until - a .at = omega arith in
     record { count = refl; bytes = rw (← e) (l .inv .2) }
 
-pub keep-spec : {M : Type 1} → statement M
-keep-spec =
+pub loose-to-front-spec : {M : Type 1} → statement M
+loose-to-front-spec =
     tie.close
     (tie.spec
     Inv-loop
