@@ -1,15 +1,14 @@
 -- What valid cores say of the bytes. Assumes nothing.
-use mathlib.Core.Path.{_≡_, refl, sym, ap, _∙_, subst}
+use mathlib.Core.Path.{_≡_, sym, ap, subst}
 use mathlib.Core.List.{List}
-use Prim.Native.Nat.{ℕ, _+_, _*_, _-_, _%_, _/_, _<_, _≤_}
+use Prim.Native.Nat.{ℕ, _-_, _<_, _≤_}
 use native.Mathlib.Omega.{arith}
 use lib.ListN.{length, getD}
 use Rattle.rules.specs.Limits.{coreCount, maxClasses, maxDepth}
-use Rattle.rules.specs.Context.{CoreState, Frame, frameOf}
-use Rattle.rules.specs.HeldLocks.{HeldLock, Core, current}
+use Rattle.rules.specs.Context.{Frame, frameOf}
+use Rattle.rules.specs.HeldLocks.{Core, current}
 use Rattle.validity.specs.Valid.{ValidLock, ValidCore}
-use Rattle.layout.specs.Layout.{frameCount, framesPerCore, deskSize, frameNumber, classesOf, stateOf, depthOf, heldOf}
-use Rattle.layout.specs.Encoding.{DeskBytes}
+use Rattle.layout.specs.Layout.{frameCount, frameNumber, classesOf, stateOf, depthOf}
 use Rattle.context.proofs.Frames.{frame-less}
 use Rattle.update.specs.Update.{FrameBytes, SmallClasses, HeldIn, newestOf}
 use Rattle.update.proofs.Prefixes.{unheld, Lock, lock-at}

@@ -1,29 +1,28 @@
 -- What each event comes to, from what the functions of `update` leave. Assumes nothing.
 use mathlib.Core.Path.{_≡_, refl, sym, ap, _∙_, subst}
-use mathlib.Core.Bool.{Bool, true, false, cond, not, _&&_, _||_, or-false, and-false}
+use mathlib.Core.Bool.{true, false, cond, _&&_, _||_, or-false, and-false}
 use mathlib.Core.List.{List, [], _∷_, _++_}
 use mathlib.Core.Logic.{_⊎_, inl, inr}
-use mathlib.Core.Option.{Option, none, some}
-use Prim.Native.Nat.{ℕ, zero, suc, _+_, _*_, _-_, _<_, _≤_}
+use mathlib.Core.Option.{none, some}
+use Prim.Native.Nat.{ℕ, suc, _+_, _*_, _-_, _<_, _≤_}
 use native.Mathlib.Omega.{arith}
-use lib.Dec.{leb, eqb}
-use lib.ListN.{length, getD, set, length-set}
+use lib.ListN.{length, set, length-set}
 use lib.Seq.{getD-set-other}
 use borrow.Author.Tests.{le-leb, lt-leb, eq-eqb, ne-eqb}
-use Rattle.rules.specs.Limits.{coreCount, maxDepth}
+use Rattle.rules.specs.Limits.{maxDepth}
 use Rattle.rules.specs.Record.{Event, acquire, release, interrupt, eventBy, eventOf, coreOf, kindOf, classOf, modeOf}
 use Rattle.rules.specs.WellFormed.{WellFormed}
 use Rattle.rules.specs.Context.{Frame, frameOf, noState, nextState, leavesHandler}
-use Rattle.rules.specs.HeldLocks.{HeldLock, Core, current, isHeld, releaseNewest, afterEvent, withState}
+use Rattle.rules.specs.HeldLocks.{HeldLock, Core, current, releaseNewest, afterEvent, withState}
 use Rattle.rules.specs.Graph.{drawnBy}
 use Rattle.rules.specs.Verdict.{Refusal, noClass, noTransition, stillHeld, notHeld, tooDeep, refusalNumber, someLock}
 use Rattle.rules.specs.Run.{State}
 use Rattle.validity.specs.Valid.{Valid}
-use Rattle.layout.specs.Layout.{frameCount, framesPerCore, deskSize, statesAt, depthsAt, heldAt, frameNumber, classesOf, stateOf, depthOf, KeepsPast}
+use Rattle.layout.specs.Layout.{frameCount, framesPerCore, deskSize, statesAt, frameNumber, classesOf, stateOf, depthOf, KeepsPast}
 use Rattle.layout.specs.Encoding.{DeskBytes, SheetBytes, Encodes}
 use Rattle.layout.proofs.Buffers.{keeps-self}
 use Rattle.context.proofs.Frames.{frame-less}
-use Rattle.update.specs.Update.{FrameBytes, KeepsElse, SmallClasses, Pushed, Removed, Drawn, newestOf, removeAt}
+use Rattle.update.specs.Update.{FrameBytes, KeepsElse, SmallClasses, Pushed, Removed, Drawn, newestOf}
 use Rattle.update.proofs.Cores.{changed, frame-bytes, frame-changed, state-changed}
 use Rattle.update.proofs.Drawing.{same-dependencies}
 use Rattle.update.proofs.Releases.{NewestCases, not-found, found-at, newest-is}

@@ -1,10 +1,10 @@
 -- The bits that the rules set, as the bytes have them.
-use mathlib.Core.Bool.{Bool, _&&_}
+use mathlib.Core.Bool.{_&&_}
 use Prim.Native.Nat.{ℕ}
 use Rattle.rules.specs.Context.{taskBothOn}
-use Rattle.rules.specs.HeldLocks.{HeldLock, firstBy, secondBy, sameFirst, sameSecond}
+use Rattle.rules.specs.HeldLocks.{firstBy, secondBy, sameFirst, sameSecond}
 use Rattle.rules.specs.Marks.{Marks, setIn, letterFits}
-use Rattle.rules.specs.Graph.{Dependencies, Kind}
+use Rattle.rules.specs.Graph.{Dependencies}
 use Rattle.layout.specs.Encoding.{markByte, kindByte}
 use Rattle.context.specs.declared.CoreState.{CoreState}
 

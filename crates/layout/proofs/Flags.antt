@@ -1,6 +1,6 @@
 -- Mark bytes and kind bytes as packed flags, and joined by or. Assumes nothing.
 use mathlib.Core.Path.{_≡_, refl, sym, ap, ap₂, _∙_}
-use mathlib.Core.Bool.{Bool, true, false, _||_, or-false}
+use mathlib.Core.Bool.{Bool, false, _||_, or-false}
 use mathlib.Core.List.{List, [], _∷_}
 use Prim.Native.Nat.{ℕ, zero, suc, _/_, _%_, _^_, _<_}
 use native.Mathlib.Omega.{arith}
@@ -12,7 +12,8 @@ use Rattle.words.proofs.Words.{bit-shift}
 use Rattle.words.proofs.Packs.{or-pack, pack-ext, bit-pack}
 use Rattle.rules.specs.HeldLocks.{First, Second, E, S, R, N}
 use Rattle.rules.specs.Marks.{Marks, Level, hardIrq, softIrq, Usage, safe, unsafe, markBit}
-use Rattle.rules.specs.Graph.{kindBitBy, Dependencies, ER, EN, SR, SN}
+use Rattle.rules.specs.Graph.{kindBitBy, Dependencies}
+use Rattle.rules.specs.KindNames.{ER, EN, SR, SN}
 use Rattle.layout.specs.Encoding.{markByte, kindByte}
 
 -- The flags of a byte, the lowest bit's first.

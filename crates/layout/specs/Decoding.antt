@@ -3,13 +3,13 @@
 use mathlib.Core.Path.{_≡_}
 use mathlib.Core.Bool.{true, cond, _&&_}
 use mathlib.Core.List.{List, []}
-use Prim.Native.Nat.{ℕ, zero, suc, _+_, _*_, _/_, _%_, _<_}
+use Prim.Native.Nat.{ℕ, _+_, _*_, _/_, _%_, _<_}
 use lib.Dec.{ltb, eqb}
 use lib.ListN.{length, getD}
 use Rattle.rules.specs.Limits.{coreCount, maxClasses}
 use Rattle.rules.specs.HeldLocks.{HeldLock, Core, freshCore}
-use Rattle.rules.specs.Marks.{Marks, hardIrq, softIrq, markBit}
-use Rattle.rules.specs.Graph.{Dependencies, Kind, ER, EN, SR, SN, kindBit, Source, lock, irq}
+use Rattle.rules.specs.Marks.{Marks, markBit}
+use Rattle.rules.specs.Graph.{Dependencies, kindBit}
 use Rattle.rules.specs.Decision.{tabulate}
 use Rattle.rules.specs.Cycle.{Entry, entryBytes, entryAt}
 use Rattle.rules.specs.Run.{State}
@@ -55,29 +55,3 @@ pub record SlipBytes (es : List Entry) (slip : List ℕ) : Type 0 where
   pub count : countOf slip ≡ length es
   pub entries : (i j : ℕ) → i < length es → j < entrySize
       → getD slip (entriesAt + entrySize * i + j) 0 ≡ getD (entryBytes (entryAt es i)) j 0
-
--- The kind and the source of a byte of a slip: 1 ER, 2 EN, 4 SR, 8 SN; 0 a lock dependency, 1 hard, 2 soft. Other bytes stand in no slip.
-abbrev pub kindOfByte : ℕ → Kind
-kindOfByte zero = EN
-kindOfByte (suc zero) = ER
-kindOfByte (suc (suc zero)) = EN
-kindOfByte (suc (suc (suc zero))) = EN
-kindOfByte (suc (suc (suc (suc zero)))) = SR
-kindOfByte (suc (suc (suc (suc (suc n))))) = SN
-
-abbrev pub sourceOfByte : ℕ → Source
-sourceOfByte zero = lock
-sourceOfByte (suc zero) = irq hardIrq
-sourceOfByte (suc (suc n)) = irq softIrq
-
--- The entry at place i, and all that the slip counts.
-abbrev pub entryOf : List ℕ → ℕ → Entry
-entryOf slip i =
-    record {
-      class = getD slip (entriesAt + entrySize * i) 0;
-      kind = kindOfByte (getD slip (entriesAt + entrySize * i + 1) 0);
-      source = sourceOfByte (getD slip (entriesAt + entrySize * i + 2) 0);
-    }
-
-abbrev pub entriesOf : List ℕ → List Entry
-entriesOf slip = tabulate (countOf slip) (entryOf slip)

@@ -10,7 +10,8 @@ use Rattle.rules.specs.Limits.{coreCount, maxClasses, maxDepth}
 use Rattle.rules.specs.Context.{Frame}
 use Rattle.rules.specs.HeldLocks.{E, S, R, N, HeldLock, Core}
 use Rattle.rules.specs.Marks.{Marks, Level, hardIrq, softIrq, Usage, safe, unsafe, markBit}
-use Rattle.rules.specs.Graph.{Dependencies, Kind, ER, EN, SR, SN, kindBit}
+use Rattle.rules.specs.Graph.{Dependencies, Kind, kindBit}
+use Rattle.rules.specs.KindNames.{ER, EN, SR, SN}
 use Rattle.rules.specs.Run.{State}
 use Rattle.layout.specs.Layout.{framesPerCore, deskSize, sheetSize, frameNumber, classesOf, closedOf, stateOf, depthOf, markOf, heldOf, kindsOf}
 

@@ -1,5 +1,5 @@
 -- The lines of a cycle. Assumes nothing.
-use mathlib.Core.Path.{_≡_, refl, ap, sym}
+use mathlib.Core.Path.{_≡_, refl, sym}
 use mathlib.Core.Bool.{Bool, true, false, cond}
 use mathlib.Core.List.{List}
 use Prim.Native.Nat.{ℕ, zero, suc, _+_, _*_, _≤_, _<_}
@@ -9,10 +9,11 @@ use lib.Dec.{ltb}
 use lib.ListN.{length, getD, length-append}
 use borrow.Author.Tests.{lt-ltb, le-ltb, ltb-true}
 use Rattle.rules.specs.Marks.{hardIrq, softIrq}
-use Rattle.rules.specs.Graph.{lock, irq, ER, EN, SR, SN}
-use Rattle.rules.specs.Cycle.{Entry, entryAt, following}
+use Rattle.rules.specs.Graph.{lock, irq}
+use Rattle.rules.specs.KindNames.{ER, EN, SR, SN}
+use Rattle.rules.specs.Cycle.{entryAt, following}
 use Rattle.layout.specs.Layout.{countOf}
-use Rattle.layout.specs.Decoding.{kindOfByte, sourceOfByte, entryOf, entriesOf}
+use Rattle.layout.specs.Slip.{kindOfByte, sourceOfByte, entryOf, entriesOf}
 use Rattle.search.specs.Reports.{nextPlace}
 use Rattle.rules.proofs.Closure.{length-tabulate, getD-tabulate}
 use Rattle.log.specs.Text.{digits, kindText, sourceText, entryText, faultText, lineSize, linesOf, Appended, EntryPut}

@@ -1,6 +1,6 @@
 -- Document 01, "Logs for the bench": "A log is the header 4C 48 01 K and then records."
 use mathlib.Core.Path.{_≡_}
-use mathlib.Core.Bool.{Bool, true, false, cond, _&&_, _||_}
+use mathlib.Core.Bool.{Bool, cond, _&&_, _||_}
 use mathlib.Core.List.{List, []}
 use Prim.Native.Nat.{ℕ, _-_, _<_}
 use lib.Dec.{leb, eqb}

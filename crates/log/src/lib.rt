@@ -12,9 +12,9 @@ ghost use lib.ListN.{length};
 ghost use Rattle.rules.specs.Limits.{maxClasses};
 ghost use Rattle.layout.specs.Layout.{slipSize, entriesAt, entrySize, countOf};
 ghost use Rattle.search.specs.Reports.{nextPlace};
-ghost use Rattle.layout.specs.Decoding.{kindOfByte, sourceOfByte, entriesOf};
+ghost use Rattle.layout.specs.Slip.{kindOfByte, sourceOfByte, entriesOf};
 ghost use Rattle.log.specs.Log.{headerClasses, nextRecord, ValidatedNext, Kept};
-ghost use Rattle.log.specs.Text.{digits, kindText, sourceText, entryText, cycleText, cleanText, refusedText, faultText, lineSize, entryLineSize, cycleSize, Appended, EntryPut, Showable, textOf, isAnswer};
+ghost use Rattle.log.specs.Text.{digits, kindText, sourceText, cycleText, cleanText, refusedText, faultText, lineSize, entryLineSize, cycleSize, Appended, EntryPut, Showable, textOf, isAnswer};
 
 pub const HEADER_SIZE: usize = 4;
 

@@ -1,6 +1,6 @@
 -- Document 01, "Opening": what it answers and leaves in the desk and in the sheet.
 use mathlib.Core.Path.{_≡_}
-use mathlib.Core.Bool.{Bool, true, false, _&&_}
+use mathlib.Core.Bool.{Bool, cond, _&&_}
 use mathlib.Core.List.{List, _++_}
 use Prim.Native.Nat.{ℕ}
 use lib.Dec.{leb}
@@ -23,16 +23,8 @@ openedDesk K desk = set (zeroed deskSize desk) classesAt K
 abbrev pub openedSheet : ℕ → List ℕ → List ℕ
 openedSheet K sheet = zeroed (sheetSize K) sheet
 
--- By whether K and the buffers will do: "2 with nothing changed", or 0.
-abbrev pub answerBy : Bool → ℕ
-answerBy true = 0
-answerBy false = badOpening
-
-abbrev pub bytesBy : Bool → (opened before : List ℕ) → List ℕ
-bytesBy true opened before = opened
-bytesBy false opened before = before
-
+-- By whether K and the buffers will do: 0, or "2 with nothing changed".
 pub record Opened (K : ℕ) (before before-sheet : List ℕ) (given : ℕ) (after after-sheet : List ℕ) : Type 0 where
-  pub answer : given ≡ answerBy (opens K before before-sheet)
-  pub desk : after ≡ bytesBy (opens K before before-sheet) (openedDesk K before) before
-  pub sheet : after-sheet ≡ bytesBy (opens K before before-sheet) (openedSheet K before-sheet) before-sheet
+  pub answer : given ≡ cond (opens K before before-sheet) 0 badOpening
+  pub desk : after ≡ cond (opens K before before-sheet) (openedDesk K before) before
+  pub sheet : after-sheet ≡ cond (opens K before before-sheet) (openedSheet K before-sheet) before-sheet

@@ -1,29 +1,28 @@
 -- Runs of the calls are runs of the rules. Assumes nothing.
-use mathlib.Core.Path.{_≡_, refl, sym, ap, ap₂, _∙_, subst, subst₂}
+use mathlib.Core.Path.{_≡_, refl, sym, ap, ap₂, _∙_, subst₂}
 use native.Mathlib.Decide.{ℕ-discrete}
-use mathlib.Core.Bool.{Bool, true, false, _&&_, true≢false}
-use mathlib.Core.List.{List, [], _∷_}
-use mathlib.Core.Logic.{_⊎_, inl, inr}
-use Prim.Native.Nat.{ℕ, suc, _+_, _*_, _<_, _≤_}
+use mathlib.Core.Bool.{Bool, true, false, cond}
+use mathlib.Core.List.{List, _∷_}
+use Prim.Native.Nat.{ℕ, _≤_}
 use native.Mathlib.Omega.{arith}
 use lib.Dec.{leb}
-use lib.ListN.{length, getD}
+use lib.ListN.{length}
 use borrow.Author.Tests.{le-leb, leb-true}
 use Rattle.rules.specs.Limits.{maxClasses}
 use Rattle.rules.specs.Record.{Bytes}
 use Rattle.rules.specs.Graph.{emptyGraph}
-use Rattle.rules.specs.Verdict.{number}
+use Rattle.rules.specs.Verdict.{badOpening}
 use Rattle.rules.specs.Run.{State, start, step, answers, run}
 use Rattle.rules.specs.TwoRuns.{Interleaved, MoreEvidence}
 use Rattle.rules.proofs.Booleans.{and-cases, and-both}
 use Rattle.rules.proofs.MoreEvidence.{more-evidence}
 use Rattle.validity.specs.Valid.{Valid}
 use Rattle.validity.proofs.Kept.{valid-start, valid-step}
-use Rattle.layout.specs.Layout.{deskSize, sheetSize, slipSize, classesOf, closedOf, KeepsPast}
+use Rattle.layout.specs.Layout.{slipSize}
 use Rattle.layout.specs.Decoding.{StandFor}
-use Rattle.layout.specs.Fit.{classesFit, fits, fitsAll}
+use Rattle.layout.specs.Fit.{classesFit, fitsAll}
 use Rattle.fit.proofs.Fitting.{encodes-stand}
-use Rattle.opening.specs.Open.{opens, answerBy, bytesBy, openedDesk, openedSheet, Opened}
+use Rattle.opening.specs.Open.{opens, openedDesk, openedSheet, Opened}
 use Rattle.opening.proofs.Opens.{open-encodes}
 use Rattle.validator.specs.Step.{Validated}
 use Rattle.plungerowl.specs.Runs.{Buffers, Called, Ran, no-call, call, Opening}
@@ -74,7 +73,7 @@ opened-true {K} {desk} {sheet} o = by (opens K desk sheet) refl
   where
     by : (b : Bool) → opens K desk sheet ≡ b → opens K desk sheet ≡ true
     by true e = e
-    by false e = absurd (let z : 0 ≡ answerBy false = o .answer ∙ ap answerBy e in omega arith)
+    by false e = absurd (let z : 0 ≡ badOpening = o .answer ∙ ap (λ (t : Bool). cond t 0 badOpening) e in omega arith)
 
 pub opening-holds : {K : ℕ} {b : Buffers} → Opening K b → Holds K start b
 unfolding opens
@@ -89,8 +88,8 @@ opening-holds {K} {b} o =
       few = few;
       valid = valid-start K;
       stands = subst₂ (λ (x y : List ℕ). StandFor K start x y)
-          (sym (o .opened .desk ∙ ap (λ (t : Bool). bytesBy t (openedDesk K (o .desk-before)) (o .desk-before)) e))
-          (sym (o .opened .sheet ∙ ap (λ (t : Bool). bytesBy t (openedSheet K (o .sheet-before)) (o .sheet-before)) e))
+          (sym (o .opened .desk ∙ ap (λ (t : Bool). cond t (openedDesk K (o .desk-before)) (o .desk-before)) e))
+          (sym (o .opened .sheet ∙ ap (λ (t : Bool). cond t (openedSheet K (o .sheet-before)) (o .sheet-before)) e))
           (encodes-stand some few (valid-start K) (f .encodes));
       room = o .room;
     }

@@ -5,14 +5,15 @@ use mathlib.Core.List.{List, [], _∷_, _++_}
 use Prim.Native.Nat.{ℕ, _+_, _-_, _≤_, _<_}
 use native.Mathlib.Omega.{arith}
 use lib.Dec.{leb}
-use lib.ListN.{length, getD, take, drop, length-append, length-take, length-drop, replicate-append-replicate}
+use lib.ListN.{length, take, drop, length-append, length-take, length-drop, replicate-append-replicate}
 use lib.Seq.{length-take-le}
 use borrow.Author.Tests.{leb-true, leb-false}
 use Rattle.rules.specs.Limits.{maxClasses}
 use Rattle.rules.specs.Record.{Bytes}
+use Rattle.rules.specs.Verdict.{badOpening}
 use Rattle.layout.specs.Layout.{slipSize, countOf}
 use Rattle.layout.specs.Fit.{classesFit}
-use Rattle.opening.specs.Open.{Opened, opens, answerBy}
+use Rattle.opening.specs.Open.{Opened, opens}
 use Rattle.validator.specs.Step.{Stepped}
 use Rattle.rules.proofs.Booleans.{and-cases}
 use Rattle.plungerowl.specs.Runs.{Buffers, Called, Ran, no-call, call, Opening}
@@ -97,7 +98,7 @@ module _ (buf : List ℕ) (at until : ℕ) {desk sheet slip desk′ sheet′ sli
 
 -- ---- The whole log.
 
-opens-by : (t : Bool) → 0 ≡ answerBy t → t ≡ true
+opens-by : (t : Bool) → 0 ≡ cond t 0 badOpening → t ≡ true
 opens-by true e = refl
 opens-by false e = absurd (omega arith)
 

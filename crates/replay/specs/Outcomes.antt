@@ -1,7 +1,7 @@
 -- What came of a log, over the calls of the step. No contract can say which bytes a read gives: the records are some list.
 use mathlib.Core.Path.{_≡_}
 use mathlib.Core.List.{List}
-use Prim.Native.Nat.{ℕ, _+_, _<_, _≤_}
+use Prim.Native.Nat.{ℕ, _+_, _<_}
 use lib.ListN.{length, replicate}
 use Rattle.rules.specs.Record.{Bytes}
 use Rattle.rules.specs.Verdict.{badOpening}

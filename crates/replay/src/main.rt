@@ -15,7 +15,6 @@ use libc::STDOUT_FILENO;
 use log::HEADER_SIZE;
 use log::Outcome;
 use log::TEXT_SIZE;
-ghost use mathlib.Core.Path.{_≡_};
 ghost use Prim.Native.Nat.{_<_, _≤_};
 ghost use lib.ListN.{length};
 ghost use Rattle.rules.specs.Limits.{maxClasses};

@@ -3,18 +3,18 @@ use mathlib.Core.Path.{_≡_, refl, sym, ap, _∙_, subst}
 use mathlib.Core.Bool.{Bool, true, false, _&&_, _||_, false≢true, and-false}
 use mathlib.Core.List.{List}
 use mathlib.Core.Logic.{_⊎_, ⊎-elim}
-use Prim.Native.Nat.{ℕ, _+_, _*_, _/_, _%_, _^_, _<_, _≤_}
+use Prim.Native.Nat.{ℕ, _+_, _*_, _/_, _%_, _<_, _≤_}
 use native.Mathlib.Nat.{mul-le-mul-right}
 use native.Mathlib.Omega.{arith}
 use lib.Dec.{ltb}
-use lib.ListN.{length, getD}
+use lib.ListN.{length}
 use Rattle.words.specs.Bits.{flag}
 use Rattle.rules.specs.HeldLocks.{First, Second, E, S, R, N}
-use Rattle.rules.specs.Marks.{Usage, hardIrq, softIrq, safe, unsafe, Marks, markBit}
-use Rattle.rules.specs.Graph.{Kind, kindBitBy, Dependencies, Graph, irq, sourceNumber, dependencyBy, dependency}
+use Rattle.rules.specs.Marks.{Usage, hardIrq, softIrq, safe, unsafe, markBit}
+use Rattle.rules.specs.Graph.{Kind, kindBitBy, Graph, irq, sourceNumber, dependencyBy, dependency}
 use Rattle.layout.specs.Layout.{markOf, kindsOf}
-use Rattle.layout.specs.Encoding.{markByte, kindByte}
-use Rattle.layout.specs.Decoding.{kindOfByte, sourceOfByte}
+use Rattle.layout.specs.Encoding.{kindByte}
+use Rattle.layout.specs.Slip.{kindOfByte, sourceOfByte}
 use Rattle.layout.proofs.Flags.{mark-digit, kind-digit}
 use Rattle.report.specs.Shown.{IsKind, InRange, SourceOf}
 

@@ -10,7 +10,7 @@ use lib.Seq.{getD-set-same, getD-set-other}
 use Rattle.rules.specs.Cycle.{Entry, entryAt, entryBytes}
 use Rattle.rules.proofs.Closure.{length-tabulate, getD-tabulate}
 use Rattle.layout.specs.Layout.{countOf, KeepsPast}
-use Rattle.layout.specs.Decoding.{entryOf, entriesOf}
+use Rattle.layout.specs.Slip.{entryOf, entriesOf}
 use Rattle.search.specs.Reports.{foundClass, foundKind, nextPlace, Searched}
 use Rattle.search.specs.declared.Found.{Found}
 use Rattle.search.proofs.Reported.{cycle-of}

@@ -10,7 +10,8 @@ use Rattle.rules.specs.Graph.{Kind, kindBit, Dependencies, sourceNumber, depend
 use Rattle.rules.specs.Cycle.{Cycle}
 use Rattle.layout.specs.Layout.{deskSize, sheetSize, slipSize, entriesAt, entrySize, countOf, KeepsPast}
 use Rattle.layout.specs.Encoding.{DeskBytes, SheetBytes}
-use Rattle.layout.specs.Decoding.{kindOfByte, sourceOfByte, entriesOf, SlipBytes}
+use Rattle.layout.specs.Decoding.{SlipBytes}
+use Rattle.layout.specs.Slip.{kindOfByte, sourceOfByte, entriesOf}
 use Rattle.search.specs.Rows.{Rows}
 use Rattle.search.specs.Reports.{foundClass, foundKind, Searched}
 use Rattle.search.specs.declared.Found.{Found}

@@ -9,7 +9,7 @@ ghost use Prim.Native.Nat.{_+_, _*_, _/_, _%_, _<_, _≤_};
 ghost use lib.ListN.{length};
 ghost use Rattle.rules.specs.Marks.{hardIrq, safe, unsafe, markBit};
 ghost use Rattle.layout.specs.Layout.{deskSize, sheetSize, slipSize};
-ghost use Rattle.layout.specs.Decoding.{kindOfByte};
+ghost use Rattle.layout.specs.Slip.{kindOfByte};
 ghost use Rattle.search.specs.Reports.{nextPlace};
 ghost use Rattle.report.specs.Shown.{IsKind, InRange, SourceOf, Writable, EntryWritten, Shown};
 

@@ -2,14 +2,15 @@
 use mathlib.Core.Path.{_≡_, refl}
 use mathlib.Core.Bool.{true, false}
 use mathlib.Core.List.{[], _∷_, map}
-use Prim.Native.Nat.{ℕ, zero, suc, _≤_, _<_}
+use Prim.Native.Nat.{ℕ, zero, suc, _<_}
 use native.Mathlib.Omega.{arith}
 use Rattle.rules.specs.Record.{isMalformed}
 use Rattle.rules.specs.Decision.{cyclic, reaches}
 use Rattle.rules.specs.Verdict.{refusal}
 use Rattle.rules.specs.HeldLocks.{releaseNewest}
-use Rattle.rules.specs.Graph.{EN, emptyGraph, lock, dependency}
-use Rattle.rules.specs.Cycle.{Cycle, entryAt}
+use Rattle.rules.specs.Graph.{emptyGraph, dependency}
+use Rattle.rules.specs.KindNames.{EN}
+use Rattle.rules.specs.Cycle.{Cycle}
 use Rattle.rules.specs.Run.{start, answers, run, graphAt}
 use Rattle.rules.specs.Examples.{exclusive, read, recursive, lockOf, DrawnCase, drawnCase, drawnCases, Example, p2Cycle, table, example, p2, p6, allClean, endsWith, faultAt, takes, frees, does, says}
 

@@ -1,10 +1,10 @@
 -- A record that refusal 3 passes, field by field. Assumes nothing.
 use mathlib.Core.Path.{_≡_, refl}
-use mathlib.Core.Bool.{Bool, true, false, not, _&&_, _||_, true≢false}
+use mathlib.Core.Bool.{Bool, true, false, not, _||_, true≢false}
 use mathlib.Core.List.{List}
 use Prim.Native.Nat.{ℕ}
 use lib.Dec.{leb, eqb}
-use lib.ListN.{length, getD}
+use lib.ListN.{length}
 use borrow.Author.Tests.{leb-false, eqb-true, not-false}
 use Rattle.rules.specs.Limits.{coreCount, kindCount, modeCount}
 use Rattle.rules.specs.Record.{isMalformed, coreOf, kindOf, classOf, modeOf, strayByte}

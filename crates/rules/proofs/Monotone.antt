@@ -1,11 +1,11 @@
 -- A larger graph keeps its dependencies, strong paths and closed strong paths. Assumes nothing.
-use mathlib.Core.Path.{_≡_, refl}
-use mathlib.Core.Bool.{Bool, true, false, _&&_, _||_}
+use mathlib.Core.Path.{_≡_}
+use mathlib.Core.Bool.{true, _&&_, _||_}
 use Prim.Native.Nat.{ℕ}
 use lib.Dec.{ltb}
 use Rattle.rules.specs.Marks.{Level, hardIrq, softIrq, Usage, Marks}
 use Rattle.rules.specs.Graph.{Kind, Dependencies, Graph, addTo, Source, lock, irq, dependencyBy, dependency}
-use Rattle.rules.specs.StrongPath.{Dependency, StrongPath, one, more, ClosedStrongPath}
+use Rattle.rules.specs.StrongPath.{StrongPath, one, more, ClosedStrongPath}
 use Rattle.rules.specs.Decision.{cyclic}
 use Rattle.rules.proofs.Booleans.{or-left, or-mono, and-cases, and-both, and-mono}
 use Rattle.rules.proofs.Decided.{cyclic-sound, cyclic-complete}

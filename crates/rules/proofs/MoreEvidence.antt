@@ -5,27 +5,24 @@ use mathlib.Core.Bool.{Bool, true, false, cond, false≢true}
 use mathlib.Core.List.{List, [], _∷_, List·Memᴰ, List·Memᴰ·head, List·Memᴰ·tail}
 use mathlib.Core.Option.{Option, none, some}
 use mathlib.Core.Logic.{_⊎_, inl, inr}
-use Prim.Native.Nat.{ℕ, zero, suc, _≤_, _<_, zero-le, suc-le-suc}
+use Prim.Native.Nat.{ℕ, zero, suc, _<_, zero-le, suc-le-suc}
 use native.Mathlib.Nat.{le-of-suc-le-suc, not-suc-le-zero, le-refl}
-use native.Mathlib.Omega.{arith}
 use lib.Dec.{eqb}
 use lib.ListN.{length, getD}
 use borrow.Author.Tests.{ne-eqb}
 use Rattle.rules.specs.Record.{Bytes, coreOf, eventOf, isMalformed, Names}
 use Rattle.rules.specs.HeldLocks.{Core, afterEvent}
-use Rattle.rules.specs.Marks.{marksOf}
-use Rattle.rules.specs.Graph.{Graph, drawnBy}
-use Rattle.rules.specs.StrongPath.{ClosedStrongPath}
+use Rattle.rules.specs.Graph.{Graph}
 use Rattle.rules.specs.Decision.{cyclic}
-use Rattle.rules.specs.Verdict.{Refusal, malformed, number, Situation, refusal}
+use Rattle.rules.specs.Verdict.{Refusal, malformed, number, refusal}
 use Rattle.rules.specs.Run.{State, startingFrom, situation, acceptOn, accept, Result, decided, settled, step, answers, graphAt}
 use Rattle.rules.specs.TwoRuns.{NamedIn, Foreign, Interleaved, done, keep, insert, place, FaultBy, MoreEvidence}
 use Rattle.rules.proofs.Decided.{cyclic-sound}
 use Rattle.rules.proofs.Monotone.{Within, within-self, within-more, within-both, cyclic-mono}
-use Rattle.rules.proofs.Steps.{closed-answers, closed-no-fault, shut-after, fault-cycle}
+use Rattle.rules.proofs.Steps.{closed-no-fault, shut-after, fault-cycle}
 
 names-its-core : (r : Bytes) → isMalformed r ≡ false → Names r (coreOf r)
-names-its-core r h = record { named = rw h }
+names-its-core r h = record { formed = h; is-core = refl }
 
 module _ (K : ℕ) (whole : List Bytes) where
   record Along (s₁ s₂ : State) : Type 0 where
@@ -165,7 +162,7 @@ fault-kept n j h (inr f) = f
 -- A malformed record names no core, so it may be put in anywhere.
 pub malformed-foreign : (rs : List Bytes) (r : Bytes) → isMalformed r ≡ true → Foreign rs r
 malformed-foreign rs r h =
-    record { apart = λ core n m. let q = n .named in let z : _≡_ {A = Option ℕ} none (some core) = rw h at q in let c : _≡_ {A = ℕ} 0 1 = cc in omega arith }
+    record { apart = λ core n m. false≢true (sym (n .formed) ∙ h) }
 
 -- `place` is where the first list's record stands: the same record, inside the second list, in the first list's order.
 pub place-same : {whole xs ys : List Bytes} (e : Interleaved whole xs ys) (i : ℕ) → i < length xs → getD ys (place e i) [] ≡ getD xs i []

@@ -1,10 +1,10 @@
 -- A single run: what a step comes to, what closes the validator, what a closed one answers. Assumes nothing.
-use mathlib.Core.Path.{_≡_, refl, sym, _∙_, ap, ap₂}
+use mathlib.Core.Path.{_≡_, refl, sym, _∙_, ap}
 use mathlib.Core.Bool.{Bool, true, false, false≢true}
 use mathlib.Core.List.{List, [], _∷_, List·Memᴰ, List·Memᴰ·head, List·Memᴰ·tail, List·Memᴰ·cases-cons, List·Memᴰ·not-nil}
 use mathlib.Core.Logic.{_⊎_, inl, inr, _↔_}
 use mathlib.Core.Option.{Option, none, some}
-use Prim.Native.Nat.{ℕ, zero, suc, _+_, _≤_, _<_, zero-le, suc-le-suc}
+use Prim.Native.Nat.{ℕ, zero, suc, _<_, zero-le, suc-le-suc}
 use native.Mathlib.Nat.{le-of-suc-le-suc, not-suc-le-zero}
 use native.Mathlib.Omega.{arith}
 use lib.ListN.{length, getD, take, replicate, getD-replicate}
@@ -12,8 +12,8 @@ use Rattle.rules.specs.Record.{Bytes}
 use Rattle.rules.specs.Graph.{Graph}
 use Rattle.rules.specs.StrongPath.{ClosedStrongPath}
 use Rattle.rules.specs.Decision.{cyclic}
-use Rattle.rules.specs.Verdict.{Refusal, closed, malformed, noClass, noTransition, stillHeld, notHeld, tooDeep, Answer, clean, fault, refused, refusalNumber, number, order, Situation, applies, firstThatApplies, refusal}
-use Rattle.rules.specs.Run.{State, startingFrom, situation, accept, close, Result, settled, decided, step, answers, run, graphAt}
+use Rattle.rules.specs.Verdict.{Refusal, closed, malformed, noClass, noTransition, stillHeld, notHeld, tooDeep, clean, fault, refused, refusalNumber, number, order, Situation, applies, firstThatApplies, refusal}
+use Rattle.rules.specs.Run.{State, startingFrom, situation, accept, close, Result, settled, step, answers, run, graphAt}
 use Rattle.rules.specs.TwoRuns.{FaultBy}
 use Rattle.rules.proofs.Decided.{cyclic-sound, cyclic-complete}
 

@@ -4,9 +4,10 @@ use mathlib.Core.List.{List, [], _∷_, _++_}
 use Prim.Native.Nat.{ℕ, _+_, pred}
 use lib.ListN.{replicate}
 use Rattle.rules.specs.Record.{Bytes}
-use Rattle.rules.specs.Context.{exitSoft, exitHard}
+use Rattle.rules.specs.Context.{exitHard}
 use Rattle.rules.specs.HeldLocks.{HeldLock}
-use Rattle.rules.specs.Graph.{EN, lock}
+use Rattle.rules.specs.Graph.{lock}
+use Rattle.rules.specs.KindNames.{EN}
 use Rattle.rules.specs.Cycle.{Entry}
 
 -- ---- Records: an acquire, a release, an interrupt event. The document's E, r, R are the modes exclusive, read, recursive.

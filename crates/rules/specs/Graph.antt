@@ -1,28 +1,15 @@
 -- The dependency graph ("drawing"): lock dependencies ("hold arrows") and interrupt dependencies ("interrupt arrows") between lock classes.
-use mathlib.Core.Bool.{Bool, true, false, _&&_, _||_}
-use mathlib.Core.List.{List}
+use mathlib.Core.Bool.{Bool, false, _&&_, _||_}
 use Prim.Native.Nat.{ℕ}
 use lib.Dec.{ltb, eqb}
 use Rattle.rules.specs.Record.{Event, acquire, release, interrupt}
-use Rattle.rules.specs.HeldLocks.{First, Second, E, S, R, N, sameFirst, sameSecond, HeldLock, firstOf, secondBy, someHeld, Core, current}
+use Rattle.rules.specs.HeldLocks.{First, Second, E, S, R, N, sameFirst, sameSecond, firstOf, secondBy, someHeld, Core, current}
 use Rattle.rules.specs.Marks.{Level, hardIrq, softIrq, safe, unsafe, Marks}
 
 -- The kind of a dependency: what its first lock blocks and how its second lock waits (001).
 pub record Kind : Type 0 where
   pub first : First
   pub second : Second
-
-abbrev pub ER : Kind
-ER = record { first = E; second = R }
-
-abbrev pub EN : Kind
-EN = record { first = E; second = N }
-
-abbrev pub SR : Kind
-SR = record { first = S; second = R }
-
-abbrev pub SN : Kind
-SN = record { first = S; second = N }
 
 -- The kind's bit in a byte of the sheet: "ER 1, EN 2, SR 4, SN 8".
 abbrev pub kindBitBy : First → Second → ℕ

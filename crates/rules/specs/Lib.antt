@@ -5,6 +5,7 @@ pub mod Context
 pub mod HeldLocks
 pub mod Marks
 pub mod Graph
+pub mod KindNames
 pub mod StrongPath
 pub mod Decision
 pub mod Cycle

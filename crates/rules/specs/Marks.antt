@@ -1,8 +1,7 @@
 -- Usage marks ("marks"): in which interrupt contexts a lock class was ever held (002).
-use mathlib.Core.Bool.{Bool, true, false, _&&_, _||_}
-use mathlib.Core.List.{List}
+use mathlib.Core.Bool.{Bool, _&&_, _||_}
 use Prim.Native.Nat.{ℕ}
-use lib.Dec.{leb, eqb}
+use lib.Dec.{eqb}
 use Rattle.rules.specs.Context.{CoreState, taskBothOn, taskSoftOff, softHardOn, softHardOff, mayHoldHard}
 use Rattle.rules.specs.HeldLocks.{First, Second, E, S, R, N, sameFirst, sameSecond, HeldLock, firstOf, secondOf, someHeld, Core, current}
 

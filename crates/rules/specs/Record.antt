@@ -1,8 +1,7 @@
 -- Document 01, "A record": six bytes, the mark 4C 4B, core, kind, class, mode.
 use mathlib.Core.Path.{_≡_}
-use mathlib.Core.Bool.{Bool, true, false, not, _&&_, _||_}
+use mathlib.Core.Bool.{Bool, false, not, _&&_, _||_}
 use mathlib.Core.List.{List}
-use mathlib.Core.Option.{Option, none, some}
 use Prim.Native.Nat.{ℕ, zero, suc}
 use lib.Dec.{leb, eqb}
 use lib.ListN.{length, getD}
@@ -56,9 +55,6 @@ isMalformed r =
     || strayByte (kindOf r) (classOf r) (modeOf r)
 
 -- "A record names its core if it meets none of the conditions of refusal 3; one that meets any names no core."
-abbrev pub namedIf : (malformed : Bool) → ℕ → Option ℕ
-namedIf true core = none
-namedIf false core = some core
-
 pub record Names (r : Bytes) (core : ℕ) : Type 0 where
-  pub named : namedIf (isMalformed r) (coreOf r) ≡ some core
+  pub formed : isMalformed r ≡ false
+  pub is-core : coreOf r ≡ core

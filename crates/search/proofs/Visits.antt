@@ -14,7 +14,7 @@ use Rattle.rules.specs.Graph.{Kind, kindBit, kindBitBy}
 use Rattle.rules.specs.StrongPath.{strongJoint}
 use Rattle.search.specs.Rows.{Successor, Ranged, secondIndex}
 use Rattle.search.specs.Arrivals.{wordBy, In, size, Put, kindBy, stackOf, Closing, Undone}
-use Rattle.layout.specs.Decoding.{kindOfByte}
+use Rattle.layout.specs.Slip.{kindOfByte}
 use Rattle.search.specs.Trails.{trailClass, trailByte, trailKind, Ends, ends, Linked, Open, Closed, Exhausted, Given, Visited, Stacked, Finished, Extends, Follows, Starts}
 use Rattle.search.specs.declared.Arrivals.{Arrivals}
 use Rattle.search.specs.declared.Stack.{Stack}

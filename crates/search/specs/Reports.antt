@@ -9,7 +9,7 @@ use Rattle.rules.specs.Graph.{Kind, kindBit, Graph, dependency}
 use Rattle.rules.specs.StrongPath.{Joint}
 use Rattle.rules.specs.Decision.{cyclic}
 use Rattle.search.specs.Rows.{Rows}
-use Rattle.layout.specs.Decoding.{kindOfByte}
+use Rattle.layout.specs.Slip.{kindOfByte}
 use Rattle.search.specs.declared.Found.{Found}
 
 abbrev pub foundClass : Found → ℕ → ℕ

@@ -3,14 +3,14 @@ use mathlib.Core.Path.{_≡_}
 use mathlib.Core.Bool.{true}
 use mathlib.Core.Logic.{_⊎_}
 use mathlib.Core.List.{List}
-use Prim.Native.Nat.{ℕ, zero, suc, _+_, _-_, _^_, _<_, _≤_}
+use Prim.Native.Nat.{ℕ, _+_, _-_, _^_, _<_, _≤_}
 use lib.ListN.{getD}
 use lib.Count.{ones}
 use Rattle.words.specs.Bits.{bit, With}
 use Rattle.rules.specs.HeldLocks.{First, Second, E, R}
-use Rattle.rules.specs.Graph.{Kind, ER, EN, SR, SN, kindBit}
+use Rattle.rules.specs.Graph.{Kind, kindBit}
 use Rattle.rules.specs.StrongPath.{strongJoint, Joint}
-use Rattle.layout.specs.Decoding.{kindOfByte}
+use Rattle.layout.specs.Slip.{kindOfByte}
 use Rattle.search.specs.Rows.{Successor, Ranged}
 use Rattle.search.specs.Arrivals.{In, Fits}
 use Rattle.search.specs.declared.Arrivals.{Arrivals}

@@ -1,21 +1,20 @@
 -- From bytes that changed to the cores and marks that they encode. Assumes nothing.
-use mathlib.Core.Path.{_≡_, refl, sym, ap, _∙_, subst}
-use mathlib.Core.Bool.{Bool, true, false, cond}
-use mathlib.Core.List.{List, [], _∷_}
-use mathlib.Core.Logic.{_⊎_, inl, inr, ⊎-elim}
-use Prim.Native.Nat.{ℕ, zero, suc, _+_, _*_, _<_, _≤_}
+use mathlib.Core.Path.{_≡_, refl, sym, ap, _∙_}
+use mathlib.Core.Bool.{Bool, true, cond}
+use mathlib.Core.List.{List}
+use mathlib.Core.Logic.{_⊎_, inl, inr}
+use Prim.Native.Nat.{ℕ, _+_, _*_, _<_, _≤_}
 use native.Mathlib.Decide.{ℕ-discrete, decLt}
 use native.Mathlib.Omega.{arith}
 use lib.Dec.{eqb}
 use lib.ListN.{length, getD, set, length-set}
 use lib.Seq.{getD-set-same, getD-set-other}
 use borrow.Author.Tests.{eq-eqb, ne-eqb}
-use Rattle.words.specs.Bits.{flag}
-use Rattle.rules.specs.Limits.{coreCount, maxClasses, maxDepth}
+use Rattle.rules.specs.Limits.{coreCount, maxDepth}
 use Rattle.rules.specs.Context.{CoreState, Frame, frameOf}
 use Rattle.rules.specs.HeldLocks.{HeldLock, Core, withCurrent, withState}
 use Rattle.rules.specs.Marks.{Marks}
-use Rattle.layout.specs.Layout.{framesPerCore, deskSize, closedAt, statesAt, depthsAt, marksAt, heldAt, frameNumber, stateOf, depthOf, heldOf, KeepsPast}
+use Rattle.layout.specs.Layout.{framesPerCore, closedAt, statesAt, depthsAt, marksAt, heldAt, frameNumber, depthOf, heldOf}
 use Rattle.layout.specs.Encoding.{heldByteAt, DeskBytes}
 use Rattle.update.specs.Update.{FrameBytes, KeepsElse, MarkBytes, KeepsUnmarked}
 

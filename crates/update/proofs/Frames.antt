@@ -1,20 +1,18 @@
 -- A frame's bytes after a lock is held or released. Assumes nothing.
 use mathlib.Core.Path.{_≡_, refl, sym, ap, _∙_}
-use mathlib.Core.Bool.{Bool, true, false, cond}
-use mathlib.Core.List.{List, [], _∷_, _++_, map}
+use mathlib.Core.List.{List, [], _∷_, _++_}
 use mathlib.Core.Logic.{_⊎_, inl, inr, ⊎-elim}
-use Prim.Native.Nat.{ℕ, zero, suc, _+_, _*_, _-_, _%_, _/_, _<_, _≤_}
+use Prim.Native.Nat.{ℕ, zero, suc, _+_, _*_, _-_, _<_, _≤_}
 use native.Mathlib.Nat.{le-of-suc-le-suc, not-suc-le-zero}
 use native.Mathlib.Decide.{ℕ-discrete, decLt}
 use native.Mathlib.Omega.{arith}
-use lib.Dec.{eqb}
 use lib.ListN.{length, getD, set, length-set, length-append}
 use lib.Seq.{getD-set-same, getD-set-other}
 use Rattle.rules.specs.Limits.{maxDepth}
 use Rattle.rules.specs.HeldLocks.{HeldLock}
-use Rattle.layout.specs.Layout.{frameCount, deskSize, depthsAt, heldAt, depthOf, heldOf}
+use Rattle.layout.specs.Layout.{frameCount, deskSize, depthsAt, heldAt, depthOf}
 use Rattle.layout.specs.Encoding.{heldByte, heldByteAt}
-use Rattle.update.specs.Update.{FrameBytes, KeepsElse, Pushed, removeAt, Removed}
+use Rattle.update.specs.Update.{FrameBytes, Pushed, removeAt, Removed}
 
 -- The byte at place p of a list with one lock more.
 byte-inside : (hs : List HeldLock) (h : HeldLock) (p : ℕ) → (p ≡ length hs → ⊥) → heldByteAt (hs ++ (h ∷ [])) p ≡ heldByteAt hs p

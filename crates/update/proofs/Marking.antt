@@ -1,9 +1,9 @@
 -- Usage marks set place by place. Assumes nothing.
 use mathlib.Core.Path.{_≡_, refl, sym, ap, _∙_, fun-ext, subst}
 use mathlib.Core.Bool.{Bool, true, false, _&&_, _||_, or-false, and-false}
-use mathlib.Core.List.{List, [], _∷_}
-use mathlib.Core.Logic.{_⊎_, inl, inr, ⊎-elim}
-use Prim.Native.Nat.{ℕ, zero, suc, _+_, _*_, _%_, _/_, _<_, _≤_}
+use mathlib.Core.List.{List, []}
+use mathlib.Core.Logic.{_⊎_, inr, ⊎-elim}
+use Prim.Native.Nat.{ℕ, suc, _+_, _*_, _%_, _/_, _<_, _≤_}
 use native.Mathlib.Decide.{ℕ-discrete}
 use native.Mathlib.Numerals.{add-one}
 use native.Mathlib.Omega.{arith}
@@ -13,14 +13,14 @@ use lib.ListN.{length, getD, set, take, length-set}
 use lib.Seq.{getD-set-same, getD-set-other}
 use borrow.Author.Tests.{eq-eqb, ne-eqb}
 use Rattle.rules.specs.Limits.{maxClasses, maxDepth}
-use Rattle.rules.specs.HeldLocks.{First, Second, HeldLock, someHeld}
+use Rattle.rules.specs.HeldLocks.{HeldLock, someHeld}
 use Rattle.rules.specs.Marks.{Level, Usage, safe, unsafe, Marks, setIn, letterFits}
 use Rattle.layout.specs.Layout.{deskSize, marksAt, heldAt, markOf, heldOf, depthOf}
 use Rattle.layout.specs.Encoding.{markByte}
 use Rattle.layout.proofs.Flags.{mark-or}
 use Rattle.context.specs.Bits.{marksBy, markBits}
 use Rattle.update.specs.Update.{FrameBytes, SmallClasses, MarkBytes, KeepsUnmarked, Marked}
-use Rattle.update.proofs.Prefixes.{unheld, one-more, all-places, Lock, lock-at}
+use Rattle.update.proofs.Prefixes.{unheld, one-more, all-places, lock-at}
 
 same-marks : {desk : List ℕ} (m m′ : Marks) → ((c : ℕ) (l : Level) (u : Usage) → m c l u ≡ m′ c l u) → MarkBytes desk m → MarkBytes desk m′
 same-marks {desk} m m′ e b = subst (λ (x : Marks). MarkBytes desk x) (fun-ext (λ c. fun-ext (λ l. fun-ext (λ u. e c l u)))) b

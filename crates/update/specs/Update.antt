@@ -3,11 +3,10 @@ use mathlib.Core.Path.{_≡_}
 use mathlib.Core.Bool.{Bool, cond, _&&_, _||_}
 use mathlib.Core.List.{List, [], _∷_, _++_}
 use mathlib.Core.Logic.{_⊎_}
-use Prim.Native.Nat.{ℕ, zero, suc, _+_, _*_, _-_, _%_, _/_, _<_, _≤_}
+use Prim.Native.Nat.{ℕ, zero, suc, _+_, _*_, _%_, _/_, _<_, _≤_}
 use lib.Dec.{eqb}
 use lib.ListN.{length, getD}
 use Rattle.rules.specs.Limits.{maxClasses, maxDepth}
-use Rattle.rules.specs.Record.{acquire}
 use Rattle.rules.specs.HeldLocks.{HeldLock, sameFirst, sameSecond, firstOf, secondBy, someHeld}
 use Rattle.rules.specs.Marks.{Marks, setIn, letterFits}
 use Rattle.rules.specs.Graph.{Dependencies}

@@ -6,10 +6,10 @@ use layout::HELD_AT;
 use layout::MARKS_AT;
 use layout::MAX_DEPTH;
 ghost use mathlib.Core.Path.{_≡_};
-ghost use Prim.Native.Nat.{ℕ, _+_, _*_, _%_, _/_, _<_, _≤_};
+ghost use Prim.Native.Nat.{_+_, _*_, _%_, _/_, _<_, _≤_};
 ghost use lib.ListN.{length};
 ghost use Rattle.rules.specs.Limits.{maxDepth};
-ghost use Rattle.layout.specs.Layout.{frameCount, deskSize, depthOf, heldOf};
+ghost use Rattle.layout.specs.Layout.{frameCount, deskSize, depthOf};
 ghost use Rattle.update.specs.Update.{Pushed, newestOf, Removed, HeldIn, Drawn, Marked};
 
 // A lock is held in a frame that has room: it is the newest.

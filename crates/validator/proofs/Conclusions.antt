@@ -1,15 +1,15 @@
 -- What follows an accepted record, from what the called functions leave. Assumes nothing.
-use mathlib.Core.Path.{_≡_, refl, sym, ap, _∙_, subst}
-use mathlib.Core.Bool.{Bool, true, false, _||_, _&&_}
+use mathlib.Core.Path.{_≡_, refl, sym, _∙_, subst}
+use mathlib.Core.Bool.{false, _||_, _&&_}
 use mathlib.Core.List.{List}
-use mathlib.Core.Logic.{_⊎_, inl, inr}
-use Prim.Native.Nat.{ℕ, suc, _+_, _*_, _<_, _≤_}
+use mathlib.Core.Logic.{inr}
+use Prim.Native.Nat.{ℕ, _<_, _≤_}
 use native.Mathlib.Omega.{arith}
-use lib.ListN.{length, getD, set, length-set}
+use lib.ListN.{set, length-set}
 use lib.Seq.{getD-set-other}
 use Rattle.rules.specs.Limits.{coreCount, maxClasses}
-use Rattle.rules.specs.Context.{Frame, frameOf}
-use Rattle.rules.specs.HeldLocks.{HeldLock, Core, current, someHeld}
+use Rattle.rules.specs.Context.{frameOf}
+use Rattle.rules.specs.HeldLocks.{Core, current, someHeld}
 use Rattle.rules.specs.Marks.{Marks, setIn, letterFits}
 use Rattle.rules.specs.Graph.{Dependencies, Graph}
 use Rattle.validity.specs.Valid.{ValidCore}
@@ -24,10 +24,9 @@ use Rattle.search.specs.Reports.{Searched}
 use Rattle.search.specs.declared.Found.{Found}
 use Rattle.search.proofs.Reported.{found-cyclic}
 use Rattle.successors.specs.Successors.{Successors}
-use Rattle.layout.specs.Decoding.{entriesOf}
+use Rattle.layout.specs.Slip.{entriesOf}
 use Rattle.report.specs.Shown.{Shown}
-use Rattle.validator.specs.Step.{Reported}
-use Rattle.validator.specs.Conclude.{withMarks, ConcludedOn, is-clean, is-fault, Concluded}
+use Rattle.validator.specs.Conclude.{withMarks, is-clean, is-fault, Concluded}
 
 module _ (desk sheet slip : List ℕ) (core : ℕ) (few : classesOf desk ≤ maxClasses) (lc : core < coreCount)
     (marked rows : List ℕ) (found : Found)

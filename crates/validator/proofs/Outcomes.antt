@@ -1,13 +1,12 @@
 -- What a step comes to at each of its returns. Assumes nothing.
 use mathlib.Core.Path.{_≡_, refl, sym, ap, _∙_, subst}
-use mathlib.Core.Bool.{Bool, true, false, cond, _||_, _&&_, true≢false, false≢true}
+use mathlib.Core.Bool.{Bool, true, false, true≢false}
 use mathlib.Core.List.{List}
-use mathlib.Core.Option.{Option, none, some}
-use Prim.Native.Nat.{ℕ, suc, _+_, _*_, _<_, _≤_}
+use mathlib.Core.Option.{none, some}
+use Prim.Native.Nat.{ℕ, _*_, _<_, _≤_}
 use native.Mathlib.Omega.{arith}
-use lib.Dec.{leb, eqb}
-use lib.ListN.{length, getD}
-use borrow.Author.Tests.{eq-eqb, le-leb, lt-leb, leb-true}
+use lib.ListN.{length}
+use borrow.Author.Tests.{eq-eqb, le-leb, lt-leb}
 use Rattle.words.specs.Bits.{flag}
 use Rattle.rules.specs.Limits.{maxClasses}
 use Rattle.rules.specs.Record.{isMalformed, coreOf, eventOf}
@@ -17,7 +16,6 @@ use Rattle.rules.specs.Graph.{Dependencies, Graph}
 use Rattle.rules.specs.Decision.{cyclic}
 use Rattle.rules.specs.Verdict.{Refusal, closed, malformed, clean, fault, refused, refusalNumber, number, refusal}
 use Rattle.rules.specs.Run.{State, situation, accept, close, Result, step}
-use Rattle.rules.proofs.Booleans.{and-cases}
 use Rattle.rules.proofs.Steps.{closed-step, refused-number}
 use Rattle.validity.specs.Valid.{ValidCore, Valid}
 use Rattle.validity.proofs.Kept.{valid-accept, valid-close}

@@ -1,11 +1,11 @@
 -- What follows an accepted record: the usage marks, the search, and with a fault the closing and the slip.
 use mathlib.Core.Path.{_≡_}
-use mathlib.Core.Bool.{Bool, true, false, _||_}
+use mathlib.Core.Bool.{true, false, _||_}
 use mathlib.Core.List.{List}
-use Prim.Native.Nat.{ℕ, _<_, _≤_}
+use Prim.Native.Nat.{ℕ}
 use Rattle.rules.specs.HeldLocks.{Core}
 use Rattle.rules.specs.Marks.{Marks, marksOf}
-use Rattle.rules.specs.Graph.{Dependencies, Graph}
+use Rattle.rules.specs.Graph.{Dependencies}
 use Rattle.rules.specs.Decision.{cyclic}
 use Rattle.validity.specs.Valid.{ValidCore}
 use Rattle.layout.specs.Layout.{deskSize, classesOf, KeepsPast}

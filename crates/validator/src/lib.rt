@@ -18,7 +18,6 @@ use report::show;
 use search::find_cycle;
 use successors::successors;
 use update::mark;
-ghost use mathlib.Core.Path.{_≡_};
 ghost use Prim.Native.Nat.{_<_, _≤_};
 ghost use lib.ListN.{length};
 ghost use Rattle.rules.specs.Limits.{coreCount};

@@ -13,7 +13,7 @@ use borrow.Author.Tests.{leb-false, eqb-true, ne-eqb}
 use Rattle.rules.specs.Limits.{maxDepth, kindCount, modeCount}
 use Rattle.rules.specs.Record.{Bytes, Event, acquire, release, interrupt, eventBy, coreOf, kindOf, classOf, modeOf, eventOf}
 use Rattle.rules.specs.WellFormed.{WellFormed}
-use Rattle.rules.specs.Context.{CoreState, nextState, leavesHandler, Frame, soft, hard, frameOf, hardOverSoft, mayHoldSoft, mayHoldHard, taskSoftOff, softHardOn}
+use Rattle.rules.specs.Context.{CoreState, leavesHandler, Frame, soft, hard, frameOf, hardOverSoft, mayHoldSoft, mayHoldHard, taskSoftOff, softHardOn}
 use Rattle.rules.specs.HeldLocks.{First, HeldLock, someHeld, isHeld, releaseNewest, Core, current, withCurrent, afterEvent}
 use Rattle.rules.specs.Marks.{Level, hardIrq, softIrq, Usage, unsafe, setIn, letterFits, marksOf}
 use Rattle.rules.specs.Graph.{Kind, Graph, emptyGraph, addTo, drawnBy}

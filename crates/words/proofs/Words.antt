@@ -1,15 +1,15 @@
 -- Laws of the binary digits of a word. Assumes nothing.
-use mathlib.Core.Path.{_≡_, refl, sym, ap, ap₂, _∙_, subst}
+use mathlib.Core.Path.{_≡_, refl, sym, ap, _∙_, subst}
 use mathlib.Core.Logic.{_⊎_, inl, inr, ⊎-elim}
-use Prim.Native.Nat.{ℕ, zero, suc, _+_, _-_, _*_, _/_, _%_, _^_, _≤_, _<_, zero-le, min, max}
-use native.Mathlib.Nat.{mod-lt, pow-suc, add-mul-div-right, mul-comm, mul-one, one-mul}
+use Prim.Native.Nat.{ℕ, zero, suc, _+_, _-_, _*_, _/_, _%_, _^_, _≤_, _<_, min, max}
+use native.Mathlib.Nat.{pow-suc, one-mul}
 use native.Mathlib.Numerals.{one-add}
 use native.Mathlib.Decide.{decLt}
 use native.Mathlib.Omega.{arith}
 use lib.Arith.{digits-div, digits-mod}
 use lib.Bits.{bitAnd, bitOr, and-step, or-step, or-zero-r, or-lt}
 use lib.Count.{ones, ones-step, ones-le, trailingZeros, under}
-use lib.Pow.{pow-pos, shr-shr, shl-exact, pow-lt}
+use lib.Pow.{shr-shr, shl-exact, pow-lt}
 use Rattle.words.specs.Bits.{bit, With, Lowest, Without, Both}
 
 -- the digit is a shift and a remainder

@@ -1,6 +1,6 @@
 // A word as a set of up to 64 lock classes: bit i is class i.
 ghost use mathlib.Core.Path.{_≡_};
-ghost use Prim.Native.Nat.{ℕ, _+_, _-_, _<_, _≤_};
+ghost use Prim.Native.Nat.{_-_, _<_, _≤_};
 ghost use lib.Count.{ones};
 ghost use Rattle.words.specs.Bits.{Without, With, Lowest, Both};
 

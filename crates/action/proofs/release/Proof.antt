@@ -1,5 +1,4 @@
-use mathlib.Core.Path.{_≡_, sym, _∙_}
-use native.Mathlib.Omega.{arith}
+use mathlib.Core.Path.{sym, _∙_}
 use Rattle.rules.specs.Record.{coreOf}
 use Rattle.action.proofs.Bytes.{state-less, held-in, newest-inside}
 use Rattle.action.proofs.Outcomes.{release-no-class, release-not-held, release-accepts}

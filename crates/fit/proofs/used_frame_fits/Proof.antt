@@ -1,5 +1,5 @@
 -- The invariant: the result is the test of the depth and of the bytes passed.
-use mathlib.Core.Path.{_≡_, refl, _∙_, sym}
+use mathlib.Core.Path.{_≡_, _∙_, sym}
 use mathlib.Core.Bool.{Bool, _&&_, and-true}
 use mathlib.Core.List.{List}
 use mathlib.Core.Logic.{⊎-elim}

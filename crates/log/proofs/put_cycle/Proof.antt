@@ -5,7 +5,7 @@ use native.Mathlib.Omega.{arith}
 use lib.ListN.{length, getD}
 use Rattle.log.proofs.Lines.{long, started, turn, next-below}
 use Rattle.log.specs.Text.{linesOf, Appended}
-use Rattle.layout.specs.Decoding.{entriesOf}
+use Rattle.layout.specs.Slip.{entriesOf}
 use Rattle.log.proofs.put_cycle.Statement.{statement}
 use Rattle.log.proofs.put_cycle.Tie as tie
 

@@ -1,5 +1,4 @@
 use Rattle.record.proofs.Conditions.{stray-acquire, stray-mode, stray-release, stray-interrupt}
-use borrow.Author.Needs.{needs}
 use Rattle.record.proofs.stray_byte.Statement.{statement}
 use Rattle.record.proofs.stray_byte.Tie as tie
 use Rattle.record.proofs.stray_byte.Reads as reads

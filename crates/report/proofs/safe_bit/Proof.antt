@@ -1,7 +1,7 @@
 -- `report::safe_bit` meets its contract. Assumes nothing.
 use mathlib.Core.Path.{_∙_}
 use borrow.Author.Needs.{needs}
-use Rattle.layout.specs.Decoding.{kindOfByte}
+use Rattle.layout.specs.Slip.{kindOfByte}
 use Rattle.report.proofs.Sources.{safe-n}
 use Rattle.report.proofs.safe_bit.Statement.{statement}
 use Rattle.report.proofs.safe_bit.Tie as tie

@@ -4,7 +4,7 @@ use mathlib.Core.Logic.{inl, inr}
 use native.Mathlib.Omega.{arith}
 use borrow.Author.Needs.{needs}
 use Rattle.rules.specs.Marks.{safe, unsafe}
-use Rattle.layout.specs.Decoding.{kindOfByte}
+use Rattle.layout.specs.Slip.{kindOfByte}
 use Rattle.report.proofs.Sources.{cell-in-sheet, kind-positive, mark-positive, lock-source, hard-source, soft-source}
 use Rattle.report.proofs.source_of.Statement.{statement}
 use Rattle.report.proofs.source_of.Tie as tie

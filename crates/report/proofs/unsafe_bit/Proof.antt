@@ -1,7 +1,7 @@
 -- `report::unsafe_bit` meets its contract. Assumes nothing.
 use mathlib.Core.Path.{refl}
 use native.Mathlib.Omega.{arith}
-use Rattle.layout.specs.Decoding.{kindOfByte}
+use Rattle.layout.specs.Slip.{kindOfByte}
 use Rattle.report.proofs.Sources.{unsafe-bit}
 use Rattle.report.proofs.unsafe_bit.Statement.{statement}
 use Rattle.report.proofs.unsafe_bit.Tie as tie

@@ -1,7 +1,7 @@
 use Prim.Native.Nat.{_+_, _*_, _%_}
 use Rattle.rules.specs.Limits.{maxDepth}
 use Rattle.layout.specs.Layout.{heldAt, heldOf}
-use Prim.Native.Nat.{ℕ, _≤_, _-_}
+use Prim.Native.Nat.{_≤_, _-_}
 use native.Mathlib.Omega.{arith}
 use Rattle.layout.proofs.Buffers.{cell-inside}
 use Rattle.update.proofs.Drawing.{Drawing, drawing-start, drawing-step, drawing-done}

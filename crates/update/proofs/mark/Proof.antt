@@ -1,7 +1,7 @@
-use Prim.Native.Nat.{ℕ, _≤_, _-_, _+_, _*_, _%_}
+use Prim.Native.Nat.{_≤_, _-_, _+_, _*_}
 use native.Mathlib.Omega.{arith}
 use Rattle.rules.specs.Limits.{maxDepth}
-use Rattle.layout.specs.Layout.{heldAt, heldOf}
+use Rattle.layout.specs.Layout.{heldAt}
 use Rattle.update.proofs.Marking.{Marking, same-held, marking-start, marking-step, marking-done}
 use Rattle.update.proofs.mark.Statement.{statement}
 use Rattle.update.proofs.mark.Tie as tie
