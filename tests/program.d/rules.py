@@ -1,5 +1,5 @@
-"""The rules of a lock log for the tests of the program: what a record is answered and changes, and the dependencies that are drawn then. Whether
-these hold a closed strong path is left to the second program."""
+"""The rules of a lock log for the tests of the program and of the host: what a record is answered and changes, the dependencies that are drawn then, and
+what they reach. Of the program's faults the second program decides whether they are due."""
 import re
 
 ACQUIRE, RELEASE, HARD_ON, HARD_OFF, SOFT_ON, SOFT_OFF, ENTER_SOFT, EXIT_SOFT, ENTER_HARD, EXIT_HARD = range(10)
@@ -95,6 +95,28 @@ class Machine:
         if source == "hold":
             return (lock_class, kind, to) in self.hold_dependencies
         return (source, lock_class, kind[0]) in self.unsafe and (source, to, kind[1]) in self.safe
+
+    def reach(self, lock_class, letter="N"):
+        """The classes that a strong path from the class ends at, by its last letter, as words; as after an arrival by the letter (N: any)."""
+        to = {}
+        for c, kind, d in self.hold_dependencies:
+            to[c, kind] = to.get((c, kind), 0) | 1 << d
+        for level, c, first in self.unsafe:
+            for other, d, second in self.safe:
+                if other == level:
+                    to[c, first + second] = to.get((c, first + second), 0) | 1 << d
+        reached, todo = {"R": 0, "N": 0}, [(lock_class, letter)]
+        while todo:
+            c, arrival = todo.pop()
+            for kind in ("ER", "EN", "SR", "SN")[:4 if arrival == "N" else 2]:
+                new = to.get((c, kind), 0) & ~reached[kind[1]]
+                reached[kind[1]] |= new
+                todo += [(d, kind[1]) for d in range(self.classes) if new >> d & 1]
+        return reached
+
+    def is_cyclic(self):
+        """Whether there is a closed strong path."""
+        return any(self.reach(c, letter)[letter] >> c & 1 for c in range(self.classes) for letter in "RN")
 
     def wrong_cycle(self, cycle):
         """What is wrong with a cycle of (class, kind, class, source), or None."""

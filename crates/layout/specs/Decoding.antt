@@ -1,5 +1,5 @@
--- What the bytes stand for: a fit desk and sheet for a state of the rules, a slip for a cycle. Past the cores, frames and classes the state is as
--- at opening.
+-- Document 01, "What lies on the bench": what the bytes stand for, a fit desk and sheet for a state of the rules, a slip for a cycle. Past the cores,
+-- frames and classes the state is as at opening.
 use mathlib.Core.Path.{_≡_}
 use mathlib.Core.Bool.{true, cond, _&&_}
 use mathlib.Core.List.{List, []}
@@ -16,6 +16,7 @@ use Rattle.rules.specs.Run.{State}
 use Rattle.layout.specs.Fit.{fits}
 use Rattle.layout.specs.Layout.{framesPerCore, frameNumber, entriesAt, entrySize, classesOf, closedOf, stateOf, depthOf, markOf, heldOf, kindsOf, countOf}
 
+-- "each class + 64 x mode"
 abbrev pub heldLockOf : ℕ → HeldLock
 heldLockOf byte = record { class = byte % 64; mode = byte / 64 }
 
@@ -23,17 +24,20 @@ heldLockOf byte = record { class = byte % 64; mode = byte / 64 }
 abbrev pub heldLocks : List ℕ → ℕ → List HeldLock
 heldLocks desk n = tabulate (depthOf desk n) (λ p. heldLockOf (heldOf desk n p))
 
+-- "each core's state; hold depths, core 0 task, soft, hard, then core 1 and so on"
 abbrev pub viewCore : List ℕ → ℕ → Core
 viewCore desk i =
     record { state = stateOf desk i; held = λ f. cond (ltb f framesPerCore) (heldLocks desk (frameNumber i f)) [] }
 
+-- "marks by class", a bit each
 abbrev pub viewMarks : List ℕ → Marks
 viewMarks desk c l u = ltb c maxClasses && eqb (markOf desk c / markBit l u % 2) 1
 
+-- "byte from x K + to holds the sum of the arrow kinds seen"
 abbrev pub viewLocks : ℕ → List ℕ → Dependencies
 viewLocks K sheet from to k = (ltb from K && ltb to K) && eqb (kindsOf sheet K from to / kindBit k % 2) 1
 
--- The state that desk and sheet stand for.
+-- The state that desk and sheet stand for: "byte 1 is 0 open, 1 closed".
 abbrev pub view : (desk sheet : List ℕ) → State
 view desk sheet =
     record {
