@@ -1,4 +1,4 @@
-// The numbers of the answers, once for the code. Opening gives OK or BAD_OPENING, the question OK, UNFIT or NO_CLASS, the step all others.
+// The numbers of the answers, once for the code. Opening gives OK or BAD_OPENING, the question OK, UNFIT or NO_CLASS, the step all but BAD_OPENING.
 
 pub const OK: u8 = 0;
 

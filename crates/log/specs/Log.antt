@@ -8,7 +8,7 @@ use lib.ListN.{length, getD, take, drop}
 use Rattle.rules.specs.Limits.{maxClasses}
 use Rattle.validator.specs.Step.{Stepped}
 
--- A good header: four bytes, the mark 4C 48, version 1, and K from 1 to 64.
+-- A good header: four bytes, the signature 4C 48, version 1, and K from 1 to 64.
 unfoldable pub isHeader : List ℕ → Bool
 isHeader bytes =
     eqb (length bytes) 4

@@ -28,7 +28,7 @@ pub enum Outcome {
     // The number of the refusal, and the record: 0 is the header.
     Refused(u8, u64),
     Fault(u64),
-    // A read failed.
+    // A read failed, or the log was not ended when the turns were used up.
     Unread,
 }
 

@@ -99,7 +99,7 @@ fn closing(rows: &[u64; 256], class: u32, first: u32, stack: Stack) -> Choice
     chosen(first, both(to_r, stack.e), both(to_n, stack.on))
 }
 
-// A dependency from class to a arrival that is not done.
+// A dependency from class to an arrival that is not done.
 fn undone(rows: &[u64; 256], class: u32, first: u32, done: Arrivals) -> Choice
     requires { ⌜ (class < 64) × (first ≡ firstIndex (firstAt first)) ⌝ }
     ensures { λ c. ⌜ Undone (now (rows .entry)) class (firstAt first) done c ⌝ }
