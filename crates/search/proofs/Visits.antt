@@ -68,7 +68,7 @@ pub record Visiting (rows : List ℕ) (K : ℕ) (f : First) (x : ℕ) (a : Secon
   pub left-by : bit (l .e) x ≡ 1 → f ≡ E
   pub goes : strongJoint a f ≡ true
 
--- A turn of the loop: c leads from class x to a arrival that is not done, if it is not 0.
+-- A turn of the loop: c leads from class x to an arrival that is not done, if it is not 0.
 pub record Turn (rows : List ℕ) (K : ℕ) (f : First) (x : ℕ) (a : Second) (k l : Stack) (left : ℕ) (s₀ u : Arrivals) (c : Choice) : Type 0 where
   pub frame : Visiting rows K f x a k l left s₀
   pub none-back : (b : Second) (j : ℕ) → Successor rows x (kindBy f b) j → bit (stackOf l b) j ≡ 1 → ⊥
