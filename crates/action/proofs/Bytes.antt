@@ -10,15 +10,15 @@ use Rattle.rules.specs.HeldLocks.{Core, current}
 use Rattle.validity.specs.Valid.{ValidLock, ValidCore}
 use Rattle.layout.specs.Layout.{frameCount, frameNumber, classesOf, stateOf, depthOf}
 use Rattle.context.proofs.Frames.{frame-less}
-use Rattle.update.specs.Update.{FrameBytes, SmallClasses, HeldIn, newestOf}
+use Rattle.update.specs.Update.{FrameBytes, SmallLocks, HeldIn, newestOf}
 use Rattle.update.proofs.Prefixes.{unheld, Lock, lock-at}
 use Rattle.update.proofs.Releases.{found-at, newest-is}
 use Rattle.update.proofs.Cores.{frame-bytes}
 use Rattle.action.specs.Action.{Cored}
 
 module _ {K : ℕ} (few : K ≤ maxClasses) (core : Core) (valid : ValidCore K core) where
-  pub small-classes : (f : Frame) → SmallClasses (core .held f)
-  small-classes f p d l = let h = valid .locks f p d l .class in omega arith
+  pub small-locks : (f : Frame) → SmallLocks (core .held f)
+  small-locks f p d l = let h = valid .locks f p d l in record { class = let c = h .class in omega arith; mode = h .mode }
 
 -- What valid cores say of a core's bytes.
 module _ (desk : List ℕ) (c : Cored desk) (i : ℕ) (li : i < coreCount) where
@@ -37,8 +37,8 @@ module _ (desk : List ℕ) (c : Cored desk) (i : ℕ) (li : i < coreCount) where
       subst (λ (f : Frame). FrameBytes desk (frameNumber i f) (current (c .cores i))) (sym now-is)
       (frame-bytes (c .encodes) i (frameOf (c .cores i .state)) li (frame-less (c .cores i .state) (let e = c .encodes .states i li in let v = c .valid i .states in omega arith)))
 
-  pub current-small : SmallClasses (current (c .cores i))
-  current-small = small-classes (c .few) (c .cores i) (c .valid i) (frameOf (c .cores i .state))
+  pub current-small : SmallLocks (current (c .cores i))
+  current-small = small-locks (c .few) (c .cores i) (c .valid i) (frameOf (c .cores i .state))
 
   pub current-few : length (current (c .cores i)) ≤ maxDepth
   current-few = c .valid i .depths (frameOf (c .cores i .state))
@@ -57,7 +57,7 @@ module _ (desk : List ℕ) (c : Cored desk) (i : ℕ) (li : i < coreCount) where
         frame = number-less;
         depth = omega arith;
         class = λ p l. rw (at p l .class) (ok p l .class);
-        mode = λ p l. rw (at p l .mode) (ok p l .mode);
+        mode = λ p l. rw (at p l .held-as) (omega arith);
       }
 
   -- A lock that was found stands in the frame.

@@ -22,16 +22,16 @@ use Rattle.layout.specs.Layout.{frameCount, framesPerCore, deskSize, statesAt, 
 use Rattle.layout.specs.Encoding.{DeskBytes, SheetBytes, Encodes}
 use Rattle.layout.proofs.Buffers.{keeps-self}
 use Rattle.context.proofs.Frames.{frame-less}
-use Rattle.update.specs.Update.{FrameBytes, KeepsElse, SmallClasses, Pushed, Removed, Drawn, newestOf}
+use Rattle.update.specs.Update.{FrameBytes, KeepsElse, SmallLocks, Pushed, Removed, Drawn, newestOf}
 use Rattle.update.proofs.Cores.{changed, frame-bytes, frame-changed, state-changed}
 use Rattle.update.proofs.Drawing.{same-dependencies}
 use Rattle.update.proofs.Releases.{NewestCases, not-found, found-at, newest-is}
 use Rattle.action.specs.Action.{ActedOn, refuses, accepts, Acted}
 use Rattle.action.proofs.Refusals.{refusalBy, refusal-by}
-use Rattle.action.proofs.Bytes.{small-classes}
+use Rattle.action.proofs.Bytes.{small-locks}
 
 keeps-past : {n : ℕ} {before after : List ℕ} → n < frameCount → KeepsElse n before after → KeepsPast deskSize before after
-keeps-past {n} l k = record { long = k .long; past = λ j h. k .else j (λ e. omega arith) (inr (omega arith)) }
+keeps-past {n} l k = record { long = k .long; past = λ j h. k .else j (λ e. omega arith) (inr (omega arith)) (inr h) }
 
 module _ (desk sheet bytes : List ℕ) (w : WellFormed bytes) (few : classesOf desk ≤ 64) where
   abbrev K : ℕ
@@ -68,8 +68,8 @@ module _ (desk sheet bytes : List ℕ) (w : WellFormed bytes) (few : classesOf d
         subst (λ (f : Frame). FrameBytes desk (frameNumber i f) (current core)) (sym now-is)
         (frame-bytes (enc .in-desk) i (frameOf (core .state)) (w .core) now-less)
 
-    small : SmallClasses (current core)
-    small = small-classes few core (valid .cores i) (frameOf (core .state))
+    small : SmallLocks (current core)
+    small = small-locks few core (valid .cores i) (frameOf (core .state))
 
     refuses-by : (ev : Event) → eventOf bytes ≡ ev → (x : Refusal) → refusalBy K core ev ≡ some x
         → ActedOn K s bytes desk sheet (refusalNumber x) desk sheet

@@ -1,6 +1,7 @@
 // Interrupt context: a core's state, the next-state table, and the bits that a state and a mode set.
 ghost use mathlib.Core.Path.{_≡_};
 ghost use Prim.Native.Nat.{_<_};
+ghost use Rattle.rules.specs.Limits.{heldModes, modeCount};
 ghost use Rattle.rules.specs.Context.{nextState, frameOf};
 ghost use Rattle.context.specs.Bits.{markBits, kindBits, fresh};
 
@@ -97,17 +98,17 @@ const NEXT: [[u8; 8]; 9] = [
     [X, X, X, X, X, X, X, SI],
 ];
 
-// The usage marks that a state sets on a held lock of a mode.
-const MARK_BITS: [[u8; 3]; 9] = [
-    [68, 136, 136],
-    [4, 8, 8],
-    [0, 0, 0],
-    [0, 0, 0],
-    [20, 24, 40],
-    [16, 16, 32],
-    [1, 1, 2],
-    [1, 1, 2],
-    [1, 1, 2],
+// The usage marks that a state sets on a held lock of a mode. A try, in the last three columns, has no safe mark.
+const MARK_BITS: [[u8; 6]; 9] = [
+    [68, 136, 136, 68, 136, 136],
+    [4, 8, 8, 4, 8, 8],
+    [0, 0, 0, 0, 0, 0],
+    [0, 0, 0, 0, 0, 0],
+    [20, 24, 40, 4, 8, 8],
+    [16, 16, 32, 0, 0, 0],
+    [1, 1, 2, 0, 0, 0],
+    [1, 1, 2, 0, 0, 0],
+    [1, 1, 2, 0, 0, 0],
 ];
 
 // The kind of the dependency from a held lock of one mode to an acquired lock of another.
@@ -122,14 +123,14 @@ pub fn next(state: usize, event: usize) -> u8
 }
 
 pub fn mark_bits(state: usize, mode: usize) -> u8
-    requires { ⌜ (state < 9) × (mode < 3) ⌝ }
+    requires { ⌜ (state < 9) × (mode < modeCount) ⌝ }
     ensures { λ r. ⌜ r ≡ markBits state mode ⌝ }
 {
     MARK_BITS[state][mode]
 }
 
 pub fn kind_bit(held: usize, acquired: usize) -> u8
-    requires { ⌜ (held < 3) × (acquired < 3) ⌝ }
+    requires { ⌜ (held < heldModes) × (acquired < heldModes) ⌝ }
     ensures { λ r. ⌜ r ≡ kindBits held acquired ⌝ }
 {
     KIND_BITS[held][acquired]

@@ -9,11 +9,11 @@ use native.Mathlib.Omega.{arith}
 use lib.Dec.{leb, ltb, eqb}
 use lib.ListN.{length, getD}
 use borrow.Author.Tests.{ltb-true, leb-true, eqb-true, lt-ltb, le-ltb, le-leb, eq-eqb}
-use Rattle.rules.specs.Limits.{coreCount, maxClasses, maxDepth, modeCount}
+use Rattle.rules.specs.Limits.{coreCount, maxClasses, maxDepth, heldModes}
 use Rattle.rules.specs.Context.{hardOverSoft, soft, hard, mayHoldSoft, mayHoldHard}
 use Rattle.rules.proofs.Booleans.{or-cases, or-left, or-right, and-cases, and-both}
-use Rattle.layout.specs.Layout.{frameCount, deskSize, sheetSize, frameNumber, classesOf, closedOf, stateOf, depthOf, markOf, heldOf}
-use Rattle.layout.specs.Fit.{allBelow, classesFit, coreFits, heldFits, frameFits, markFits, kindsFit, fits}
+use Rattle.layout.specs.Layout.{frameCount, originBits, deskSize, sheetSize, frameNumber, classesOf, closedOf, stateOf, depthOf, markOf, heldOf, originBit}
+use Rattle.layout.specs.Fit.{allBelow, classesFit, coreFits, heldFits, frameFits, originFits, markFits, kindsFit, fits}
 use Rattle.fit.proofs.AllBelow.{all-at, all-of}
 
 pub record CoreFacts (desk : List ℕ) (i : ℕ) : Type 0 where
@@ -24,7 +24,7 @@ pub record CoreFacts (desk : List ℕ) (i : ℕ) : Type 0 where
 pub record FrameFacts (K : ℕ) (desk : List ℕ) (n : ℕ) : Type 0 where
   pub depth : depthOf desk n ≤ maxDepth
   pub class : (p : ℕ) → p < depthOf desk n → heldOf desk n p % 64 < K
-  pub mode : (p : ℕ) → p < depthOf desk n → heldOf desk n p / 64 < modeCount
+  pub mode : (p : ℕ) → p < depthOf desk n → heldOf desk n p / 64 < heldModes
   pub unused : (p : ℕ) → p < maxDepth → depthOf desk n ≤ p → heldOf desk n p ≡ 0
 
 pub record MarkFacts (K : ℕ) (desk : List ℕ) (c : ℕ) : Type 0 where
@@ -40,6 +40,7 @@ pub record Facts (desk sheet : List ℕ) : Type 0 where
   pub closed : closedOf desk ≤ 1
   pub cores : (i : ℕ) → i < coreCount → CoreFacts desk i
   pub frames : (n : ℕ) → n < frameCount → FrameFacts (classesOf desk) desk n
+  pub origins : (i : ℕ) → i < originBits → depthOf desk (i / maxDepth) ≤ i % maxDepth → originBit desk i ≡ 0
   pub marks : (c : ℕ) → c < maxClasses → MarkFacts (classesOf desk) desk c
   pub kinds : (j : ℕ) → j < sheetSize (classesOf desk) → getD sheet j 0 ≤ 15
 
@@ -79,7 +80,7 @@ module _ (K : ℕ) (desk : List ℕ) (n : ℕ) where
       let a = and-cases (leb (depthOf desk n) maxDepth) _ e in
       let at = all-at maxDepth fitsAt (a .1) in
       let d : depthOf desk n ≤ maxDepth = leb-true _ _ (a .0) in
-      let held : (p : ℕ) → p < depthOf desk n → (ltb (heldOf desk n p % 64) K && ltb (heldOf desk n p / 64) modeCount) ≡ true =
+      let held : (p : ℕ) → p < depthOf desk n → (ltb (heldOf desk n p % 64) K && ltb (heldOf desk n p / 64) heldModes) ≡ true =
       λ p l. rw (lt-ltb p (depthOf desk n) l) at (at p (omega arith)) in
       record {
         depth = d;
@@ -99,6 +100,21 @@ module _ (K : ℕ) (desk : List ℕ) (n : ℕ) where
             let g : depthOf desk n ≤ p = omega arith in
             rw (le-ltb p (depthOf desk n) g) (eq-eqb _ _ (f .unused p l g))
       ]))
+
+module _ (desk : List ℕ) (i : ℕ) where
+  origin-fact : originFits desk i ≡ true → depthOf desk (i / maxDepth) ≤ i % maxDepth → originBit desk i ≡ 0
+  unfolding originFits
+  origin-fact e h =
+      ⊎-elim (λ z. eqb-true _ _ z) (λ z. absurd (let l = ltb-true (i % maxDepth) (depthOf desk (i / maxDepth)) z in omega arith))
+      (or-cases (eqb (originBit desk i) 0) (ltb (i % maxDepth) (depthOf desk (i / maxDepth))) e)
+
+  origin-fits : (depthOf desk (i / maxDepth) ≤ i % maxDepth → originBit desk i ≡ 0) → originFits desk i ≡ true
+  unfolding originFits
+  origin-fits h =
+      elim (decLt (i % maxDepth) (depthOf desk (i / maxDepth))) [
+        | yes l ↦ or-right (eqb (originBit desk i) 0) (lt-ltb _ _ l)
+        | no l ↦ or-left _ (eq-eqb (originBit desk i) 0 (h (omega arith)))
+      ]
 
 module _ (K : ℕ) (desk : List ℕ) (c : ℕ) where
   mark-facts : markFits K desk c ≡ true → MarkFacts K desk c
@@ -134,7 +150,8 @@ module _ (desk sheet : List ℕ) where
       let f = and-cases (leb (closedOf desk) 1) _ (d .1) in
       let g = and-cases (allBelow coreCount (coreFits desk)) _ (f .1) in
       let h = and-cases (allBelow frameCount (frameFits K desk)) _ (g .1) in
-      let m = and-cases (allBelow maxClasses (markFits K desk)) _ (h .1) in
+      let o = and-cases (allBelow originBits (originFits desk)) _ (h .1) in
+      let m = and-cases (allBelow maxClasses (markFits K desk)) _ (o .1) in
       record {
         long = leb-true _ _ (a .0);
         some = leb-true _ _ (k .0);
@@ -143,6 +160,7 @@ module _ (desk sheet : List ℕ) where
         closed = leb-true _ _ (f .0);
         cores = λ i l. core-facts desk i (all-at coreCount (coreFits desk) (g .0) i l);
         frames = λ n l. frame-facts K desk n (all-at frameCount (frameFits K desk) (h .0) n l);
+        origins = λ i l. origin-fact desk i (all-at originBits (originFits desk) (o .0) i l);
         marks = λ c l. mark-facts K desk c (all-at maxClasses (markFits K desk) (m .0) c l);
         kinds = λ j l. leb-true _ _ (all-at (sheetSize K) (kindsFit sheet) (m .1) j l);
       }
@@ -156,5 +174,6 @@ module _ (desk sheet : List ℕ) where
       (and-both (le-leb _ _ (f .closed))
       (and-both (all-of coreCount (coreFits desk) (λ i l. core-fits desk i (f .cores i l)))
       (and-both (all-of frameCount (frameFits (classesOf desk) desk) (λ n l. frame-fits _ desk n (f .frames n l)))
+      (and-both (all-of originBits (originFits desk) (λ i l. origin-fits desk i (f .origins i l)))
       (and-both (all-of maxClasses (markFits (classesOf desk) desk) (λ c l. mark-fits _ desk c (f .marks c l)))
-      (all-of (sheetSize (classesOf desk)) (kindsFit sheet) (λ j l. le-leb _ _ (f .kinds j l)))))))))
+      (all-of (sheetSize (classesOf desk)) (kindsFit sheet) (λ j l. le-leb _ _ (f .kinds j l))))))))))

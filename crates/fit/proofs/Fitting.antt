@@ -9,14 +9,14 @@ use native.Mathlib.Omega.{arith}
 use lib.Dec.{ltb, eqb}
 use lib.Seq.{ext-getD}
 use lib.ListN.{length, getD, length-map, List·getD-map, List·getD-eq-default}
-use borrow.Author.Tests.{ltb-true, eqb-true, lt-ltb, le-ltb, eq-eqb}
+use borrow.Author.Tests.{ltb-true, eqb-true, lt-ltb, le-ltb, lt-leb, le-leb, eq-eqb}
 use Rattle.words.specs.Bits.{bit, flag}
 use Rattle.words.specs.Pack.{pack}
 use Rattle.words.proofs.Words.{bit-shift}
 use Rattle.words.proofs.Packs.{flag-back, flag-le, pack-lt, pack-ext, pack-bits}
-use Rattle.rules.specs.Limits.{coreCount, maxClasses, maxDepth}
+use Rattle.rules.specs.Limits.{coreCount, maxClasses, maxDepth, heldModes, modeCount}
 use Rattle.rules.specs.Context.{CoreState, Frame, soft, hard}
-use Rattle.rules.specs.HeldLocks.{First, E, S, HeldLock, Core, freshCore}
+use Rattle.rules.specs.HeldLocks.{First, E, S, HeldLock, isTry, heldAs, Core, freshCore}
 use Rattle.rules.specs.Marks.{Marks, Level, hardIrq, softIrq, Usage, unsafe, markBit}
 use Rattle.rules.specs.Graph.{Kind, kindBit, Dependencies, Graph}
 use Rattle.rules.specs.Decision.{tabulate}
@@ -25,13 +25,26 @@ use Rattle.rules.proofs.Booleans.{and-cases, and-both}
 use Rattle.rules.proofs.Closure.{length-tabulate, getD-tabulate}
 use Rattle.layout.proofs.Flags.{markFlags, kindFlags, mark-packed, kind-packed, mark-digit, kind-digit}
 use Rattle.layout.proofs.Buffers.{cell-inside}
-use Rattle.layout.specs.Layout.{framesPerCore, frameCount, sheetSize, frameNumber, classesOf, closedOf, depthOf, markOf, heldOf, kindsOf}
-use Rattle.layout.specs.Encoding.{markByte, kindByte, heldByte, heldByteAt, DeskBytes, SheetBytes, Encodes}
+use Rattle.layout.specs.Layout.{framesPerCore, frameCount, marksAt, originsAt, originBits, deskSize, sheetSize, frameNumber, classesOf, closedOf, depthOf, markOf, heldOf, originBit, originOf, kindsOf, AreBytes}
+use Rattle.layout.specs.Encoding.{markByte, kindByte, heldByte, heldByteAt, heldOrigin, originAt, DeskBytes, SheetBytes, Encodes}
 use Rattle.layout.specs.Fit.{fits}
 use Rattle.validity.specs.Valid.{ValidLock, ValidLocks, ValidCore, Valid}
 use Rattle.layout.specs.Decoding.{heldLockOf, heldLocks, viewCore, viewMarks, viewLocks, view, StandFor}
-use Rattle.fit.proofs.Places.{by-frame, by-pair}
+use Rattle.fit.proofs.Places.{AtPlaces, by-frame, by-place, by-origin, by-pair}
 use Rattle.fit.proofs.Facts.{CoreFacts, FrameFacts, MarkFacts, Facts, facts, fits-of}
+
+-- The lock at place p of frame n, and no lock.
+abbrev lockAt : List ℕ → ℕ → ℕ → HeldLock
+lockAt desk n p = heldLockOf (heldOf desk n p) (originOf desk n p)
+
+abbrev none-held : HeldLock
+none-held = heldLockOf 0 0
+
+-- The origin bit of a byte and a bit taken for a lock.
+origin-back : (byte origin : ℕ) → byte / 64 < heldModes → origin < 2 → origin ≡ heldOrigin (heldLockOf byte origin)
+origin-back byte zero l h = rw (lt-leb heldModes (byte / 64 + heldModes * 0) (omega arith)) refl
+origin-back byte (suc zero) l h = rw (le-leb heldModes (byte / 64 + heldModes * 1) (omega arith)) refl
+origin-back byte (suc (suc o)) l h = absurd (omega arith)
 
 -- ---- Flags in a byte.
 
@@ -58,17 +71,31 @@ module _ (desk sheet : List ℕ) (f : Facts desk sheet) where
   held-at i g l = rw (lt-ltb g framesPerCore l)
 
   depth-view : (n : ℕ) → depthOf desk n ≡ length (heldLocks desk n)
-  depth-view n = sym (length-tabulate (depthOf desk n) (λ p. heldLockOf (heldOf desk n p)))
+  depth-view n = sym (length-tabulate (depthOf desk n) (lockAt desk n))
+
+  -- What a byte or a bit says of the lock at a place, v being its value there.
+  value-view : (say : HeldLock → ℕ) → say none-held ≡ 0 → (v n p : ℕ) → (p < depthOf desk n → v ≡ say (lockAt desk n p)) → (depthOf desk n ≤ p → v ≡ 0)
+      → v ≡ getD (map say (heldLocks desk n)) p 0
+  value-view say z v n p held unused =
+      elim (decLt p (depthOf desk n)) [
+        | yes q ↦ held q
+            ∙ ap say (sym (getD-tabulate (depthOf desk n) (lockAt desk n) none-held p q))
+            ∙ sym (List·getD-map say (heldLocks desk n) p none-held)
+            ∙ ap (λ (d : ℕ). getD (map say (heldLocks desk n)) p d) z
+        | no q ↦ unused (omega arith)
+            ∙ sym (List·getD-eq-default (map say (heldLocks desk n)) 0 (rw (length-map (heldLocks desk n) say, ← depth-view n) (omega arith)))
+      ]
 
   held-view : (n p : ℕ) → n < frameCount → p < maxDepth → heldOf desk n p ≡ heldByteAt (heldLocks desk n) p
   held-view n p l h =
-      elim (decLt p (depthOf desk n)) [
-        | yes q ↦ (let e : heldOf desk n p ≡ heldByte (heldLockOf (heldOf desk n p)) = omega arith in e)
-            ∙ ap heldByte (sym (getD-tabulate (depthOf desk n) (λ k. heldLockOf (heldOf desk n k)) (heldLockOf 0) p q))
-            ∙ sym (List·getD-map heldByte (heldLocks desk n) p (heldLockOf 0))
-        | no q ↦ f .frames n l .unused p h (omega arith)
-            ∙ sym (List·getD-eq-default (map heldByte (heldLocks desk n)) 0 (rw (length-map (heldLocks desk n) heldByte, ← depth-view n) (omega arith)))
-      ]
+      value-view heldByte refl (heldOf desk n p) n p (λ q. let m = f .frames n l .mode p q in omega arith) (f .frames n l .unused p h)
+
+  origin-view : (n p : ℕ) → n < frameCount → p < maxDepth → originOf desk n p ≡ originAt (heldLocks desk n) p
+  origin-view n p l h =
+      let d : (maxDepth * n + p) / maxDepth ≡ n = omega arith in
+      let m : (maxDepth * n + p) % maxDepth ≡ p = omega arith in
+      value-view heldOrigin refl (originOf desk n p) n p (λ q. origin-back (heldOf desk n p) (originOf desk n p) (f .frames n l .mode p q) (omega arith))
+      (λ q. f .origins (maxDepth * n + p) (omega arith) (rw (d, m) q))
 
   marks-view : (c : ℕ) → c < maxClasses → markOf desk c < 256 → markOf desk c ≡ markByte (viewMarks desk) c
   marks-view c l h = sym (mark-packed (viewMarks desk) c ∙ bits-packed 8 (markOf desk c) (ltb c maxClasses) (lt-ltb c maxClasses l) h)
@@ -80,7 +107,7 @@ module _ (desk sheet : List ℕ) (f : Facts desk sheet) where
       let small : kindsOf sheet K from to < 2 ^ 4 = let k = f .kinds (from * K + to) (cell-inside K from to l h) in omega arith in
       sym (kind-packed (viewLocks K sheet) from to ∙ bits-packed 4 (kindsOf sheet K from to) (ltb from K && ltb to K) (and-both (lt-ltb from K l) (lt-ltb to K h)) small)
 
-  fit-desk : ((c : ℕ) → c < maxClasses → markOf desk c < 256)
+  fit-desk : AreBytes deskSize desk
       → DeskBytes (classesOf desk) (view desk sheet .is-closed) (view desk sheet .cores) (viewMarks desk) desk
   fit-desk bytes =
       record {
@@ -89,15 +116,17 @@ module _ (desk sheet : List ℕ) (f : Facts desk sheet) where
         closed = sym (flag-of (closedOf desk) (let h = f .closed in omega arith));
         states = λ i l. rw (core-at i l);
         depths = λ i g l h. rw (core-at i l, held-at i g h) (depth-view (frameNumber i g));
-        usage = λ c l. marks-view c l (bytes c l);
+        usage = λ c l. marks-view c l (bytes (marksAt + c) (omega arith));
         held = λ i g p l h q. rw (core-at i l, held-at i g h) (held-view (frameNumber i g) p (omega arith) q);
+        origins = λ i g p l h q. rw (core-at i l, held-at i g h) (origin-view (frameNumber i g) p (omega arith) q);
+        eight = λ b l. bytes (originsAt + b) (omega arith);
       }
 
   fit-sheet : SheetBytes (classesOf desk) (viewLocks (classesOf desk) sheet) sheet
   fit-sheet = record { long = f .square; kinds = kinds-view }
 
 -- A fit pair of buffers encodes its view.
-pub fit-encodes : (desk sheet : List ℕ) → fits desk sheet ≡ true → ((c : ℕ) → c < maxClasses → markOf desk c < 256)
+pub fit-encodes : (desk sheet : List ℕ) → fits desk sheet ≡ true → AreBytes deskSize desk
     → Encodes (classesOf desk) (view desk sheet) desk sheet
 fit-encodes desk sheet e bytes =
     let f = facts desk sheet e in record { in-desk = fit-desk desk sheet f bytes; in-sheet = fit-sheet desk sheet f }
@@ -119,8 +148,8 @@ module _ (desk sheet : List ℕ) (f : Facts desk sheet) where
   locks-valid : (n : ℕ) → n < frameCount → ValidLocks (classesOf desk) (heldLocks desk n)
   locks-valid n l p d h =
       let q : p < depthOf desk n = rw (← depth-view desk sheet f n) at h in
-      rw (getD-tabulate (depthOf desk n) (λ k. heldLockOf (heldOf desk n k)) d p q)
-      record { class = f .frames n l .class p q; mode = f .frames n l .mode p q }
+      rw (getD-tabulate (depthOf desk n) (lockAt desk n) d p q)
+      record { class = f .frames n l .class p q; mode = let m = f .frames n l .mode p q in omega arith }
 
   -- What holds of no locks and of the locks of a frame holds of the core's locks in any frame.
   any-frame : (P : List HeldLock → Type 0) (i : ℕ) (g : Frame) → P [] → (g < framesPerCore → P (heldLocks desk (frameNumber i g)))
@@ -207,10 +236,18 @@ not-true-false : (b : Bool) → (b ≡ true → ⊥) → b ≡ false
 not-true-false true h = absurd (h refl)
 not-true-false false h = refl
 
-heldByte-at : (hs : List HeldLock) (p : ℕ) (d : HeldLock) → p < length hs → heldByteAt hs p ≡ heldByte (getD hs p d)
-heldByte-at [] p d l = absurd (not-suc-le-zero l)
-heldByte-at (h ∷ hs) zero d l = refl
-heldByte-at (h ∷ hs) (suc p) d l = heldByte-at hs p d (le-of-suc-le-suc l)
+value-at : (say : HeldLock → ℕ) (hs : List HeldLock) (p : ℕ) (d : HeldLock) → p < length hs → getD (map say hs) p 0 ≡ say (getD hs p d)
+value-at say [] p d l = absurd (not-suc-le-zero l)
+value-at say (h ∷ hs) zero d l = refl
+value-at say (h ∷ hs) (suc p) d l = value-at say hs p d (le-of-suc-le-suc l)
+
+-- A mode below modeCount, from that in which the lock is held and its origin.
+mode-back : (mode : ℕ) → mode < modeCount → heldAs mode + heldModes * flag (isTry mode) ≡ mode
+mode-back mode l =
+    elim (decLt mode heldModes) [
+      | yes h ↦ rw (lt-leb heldModes mode h) (omega arith)
+      | no h ↦ rw (le-leb heldModes mode (omega arith)) (omega arith)
+    ]
 
 module _ (desk sheet : List ℕ) (some : 1 ≤ classesOf desk) (few : classesOf desk ≤ maxClasses)
     (s : State) (v : Valid (classesOf desk) s) (e : Encodes (classesOf desk) s desk sheet) where
@@ -230,10 +267,10 @@ module _ (desk sheet : List ℕ) (some : 1 ≤ classesOf desk) (few : classesOf 
       let hs = s .cores i .held g in
       let depth : depthOf desk n ≡ length hs = e .in-desk .depths i g l h in
       let small : length hs ≤ maxDepth = v .cores i .depths g in
-      let lock : (p : ℕ) → p < depthOf desk n → (heldOf desk n p ≡ heldByte (getD hs p (heldLockOf 0))) =
-      λ p q. e .in-desk .held i g p l h (omega arith) ∙ heldByte-at hs p (heldLockOf 0) (omega arith) in
-      let good : (p : ℕ) → p < depthOf desk n → ValidLock (classesOf desk) (getD hs p (heldLockOf 0)) =
-      λ p q. v .cores i .locks g p (heldLockOf 0) (omega arith) in
+      let lock : (p : ℕ) → p < depthOf desk n → (heldOf desk n p ≡ heldByte (getD hs p none-held)) =
+      λ p q. e .in-desk .held i g p l h (omega arith) ∙ value-at heldByte hs p none-held (omega arith) in
+      let good : (p : ℕ) → p < depthOf desk n → ValidLock (classesOf desk) (getD hs p none-held) =
+      λ p q. v .cores i .locks g p none-held (omega arith) in
       record {
         depth = omega arith;
         class = λ p q. let a = lock p q in let b = good p q in omega arith;
@@ -241,6 +278,17 @@ module _ (desk sheet : List ℕ) (some : 1 ≤ classesOf desk) (few : classesOf 
         unused = λ p q r. e .in-desk .held i g p l h q
             ∙ List·getD-eq-default (map heldByte hs) 0 (rw (length-map hs heldByte, ← depth) r);
       }
+
+  origin-fact : (k : ℕ) → k < originBits → depthOf desk (k / maxDepth) ≤ k % maxDepth → originBit desk k ≡ 0
+  origin-fact =
+      by-origin (λ k. depthOf desk (k / maxDepth) ≤ k % maxDepth → originBit desk k ≡ 0)
+      (λ i g p l h q r.
+      let hs = s .cores i .held g in
+      let depth : depthOf desk (frameNumber i g) ≡ length hs = e .in-desk .depths i g l h in
+      let d : (maxDepth * frameNumber i g + p) / maxDepth ≡ frameNumber i g = omega arith in
+      let m : (maxDepth * frameNumber i g + p) % maxDepth ≡ p = omega arith in
+      let past : length hs ≤ p = rw (d, m, depth) at r in
+      e .in-desk .origins i g p l h q ∙ List·getD-eq-default (map heldOrigin hs) 0 (rw (length-map hs heldOrigin) past))
 
   mark-at : (c : ℕ) (l : Level) (u : Usage) → c < maxClasses → markOf desk c / markBit l u % 2 ≡ flag (s .graph .marks c l u)
   mark-at c l u h = rw (e .in-desk .usage c h) (mark-digit (s .graph .marks) c l u)
@@ -272,18 +320,21 @@ module _ (desk sheet : List ℕ) (some : 1 ≤ classesOf desk) (few : classesOf 
       let n = frameNumber i g in
       let hs = s .cores i .held g in
       let depth : depthOf desk n ≡ length hs = e .in-desk .depths i g l h in
-      let long : length (heldLocks desk n) ≡ depthOf desk n = length-tabulate (depthOf desk n) (λ p. heldLockOf (heldOf desk n p)) in
-      ext-getD (heldLockOf 0) (heldLocks desk n) hs (long ∙ depth)
+      let long : length (heldLocks desk n) ≡ depthOf desk n = length-tabulate (depthOf desk n) (lockAt desk n) in
+      ext-getD none-held (heldLocks desk n) hs (long ∙ depth)
       (λ p q.
       let k : p < depthOf desk n = rw long at q in
       let small : length hs ≤ maxDepth = v .cores i .depths g in
-      let good = v .cores i .locks g p (heldLockOf 0) (omega arith) in
-      let byte : heldOf desk n p ≡ heldByte (getD hs p (heldLockOf 0)) =
-      e .in-desk .held i g p l h (omega arith) ∙ heldByte-at hs p (heldLockOf 0) (omega arith) in
-      getD-tabulate (depthOf desk n) (λ p. heldLockOf (heldOf desk n p)) (heldLockOf 0) p k
+      let good = v .cores i .locks g p none-held (omega arith) in
+      let byte : heldOf desk n p ≡ heldByte (getD hs p none-held) =
+      e .in-desk .held i g p l h (omega arith) ∙ value-at heldByte hs p none-held (omega arith) in
+      let origin : originOf desk n p ≡ heldOrigin (getD hs p none-held) =
+      e .in-desk .origins i g p l h (omega arith) ∙ value-at heldOrigin hs p none-held (omega arith) in
+      let held-mode : heldOf desk n p / 64 ≡ heldAs (getD hs p none-held .mode) = omega arith in
+      getD-tabulate (depthOf desk n) (lockAt desk n) none-held p k
       ∙ ap₂ (λ (c m : ℕ). record { class = c; mode = m })
-      (let w : heldOf desk n p % 64 ≡ getD hs p (heldLockOf 0) .class = omega arith in w)
-      (let w : heldOf desk n p / 64 ≡ getD hs p (heldLockOf 0) .mode = omega arith in w))
+      (let w : heldOf desk n p % 64 ≡ getD hs p none-held .class = omega arith in w)
+      (let w : heldOf desk n p / 64 + heldModes * originOf desk n p ≡ getD hs p none-held .mode = rw (held-mode, origin) (mode-back _ (good .mode)) in w))
 
   core-is : (i : ℕ) → cond (ltb i coreCount) (viewCore desk i) freshCore ≡ s .cores i
   core-is i =
@@ -339,8 +390,26 @@ module _ (desk sheet : List ℕ) (some : 1 ≤ classesOf desk) (few : classesOf 
         closed = rw (e .in-desk .closed) (flag-le (s .is-closed));
         cores = core-fact;
         frames = by-frame (FrameFacts (classesOf desk) desk) frame-fact;
+        origins = origin-fact;
         marks = mark-fact;
         kinds = kind-fact;
+      }
+
+  byte-places : AtPlaces (λ j. getD desk j 0 < 256)
+  byte-places =
+      record {
+        classes = omega arith;
+        closed = rw (e .in-desk .closed) (let l = flag-le (s .is-closed) in omega arith);
+        states = λ i l. let c = core-fact i l .states in omega arith;
+        depths = λ i g l h. let d = frame-fact i g l h .depth in omega arith;
+        usage = λ c l. let p = pack-lt 8 (λ i. getD (markFlags (s .graph .marks) c) i false) in rw (e .in-desk .usage c l, mark-packed (s .graph .marks) c) p;
+        held = λ i g p l h q.
+            let F = frame-fact i g l h in
+            elim (decLt p (depthOf desk (frameNumber i g))) [
+              | yes k ↦ let m = F .mode p k in omega arith
+              | no k ↦ let z = F .unused p q (omega arith) in omega arith
+            ];
+        origins = e .in-desk .eight;
       }
 
 pub encodes-fit : (K : ℕ) (s : State) (desk sheet : List ℕ) → 1 ≤ K → K ≤ maxClasses → Valid K s → Encodes K s desk sheet
@@ -355,17 +424,23 @@ view-is K s desk sheet some few v e =
     let k : classesOf desk ≡ K = e .in-desk .classes in
     view-of desk sheet (rw k some) (rw k few) s (rw k v) (subst (λ (n : ℕ). Encodes n s desk sheet) (sym k) e)
 
+bytes-are : (K : ℕ) (s : State) (desk sheet : List ℕ) → 1 ≤ K → K ≤ maxClasses → Valid K s → Encodes K s desk sheet
+    → AreBytes deskSize desk
+bytes-are K s desk sheet some few v e =
+    let k : classesOf desk ≡ K = e .in-desk .classes in
+    by-place (λ j. getD desk j 0 < 256) (byte-places desk sheet (rw k some) (rw k few) s (rw k v) (subst (λ (n : ℕ). Encodes n s desk sheet) (sym k) e))
+
 -- ---- Standing for a state and encoding it are the same.
 
 pub stand-encodes : {K : ℕ} {s : State} {desk sheet : List ℕ} → StandFor K s desk sheet → Encodes K s desk sheet
 stand-encodes {desk = desk} {sheet} f =
-    subst₂ (λ (k : ℕ) (s : State). Encodes k s desk sheet) (f .classes) (f .is-view) (fit-encodes desk sheet (f .fit) (f .byte-marks))
+    subst₂ (λ (k : ℕ) (s : State). Encodes k s desk sheet) (f .classes) (f .is-view) (fit-encodes desk sheet (f .fit) (f .bytes))
 
 pub encodes-stand : {K : ℕ} {s : State} {desk sheet : List ℕ} → 1 ≤ K → K ≤ maxClasses → Valid K s → Encodes K s desk sheet → StandFor K s desk sheet
 encodes-stand {K} {s} {desk} {sheet} some few v e =
     record {
       fit = encodes-fit K s desk sheet some few v e;
       classes = e .in-desk .classes;
-      byte-marks = λ c l. let p = pack-lt 8 (λ i. getD (markFlags (s .graph .marks) c) i false) in rw (e .in-desk .usage c l, mark-packed (s .graph .marks) c) p;
+      bytes = bytes-are K s desk sheet some few v e;
       is-view = view-is K s desk sheet some few v e;
     }

@@ -1,4 +1,5 @@
 pub mod AllBelow
+pub mod Origins
 pub mod MarkTests
 pub mod Facts
 pub mod Places

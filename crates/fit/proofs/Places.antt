@@ -6,7 +6,7 @@ use native.Mathlib.Decide.{decLt}
 use native.Mathlib.Omega.{arith}
 use Rattle.rules.specs.Limits.{coreCount, maxClasses, maxDepth}
 use Rattle.rules.specs.Context.{Frame}
-use Rattle.layout.specs.Layout.{framesPerCore, frameCount, classesAt, closedAt, statesAt, depthsAt, marksAt, heldAt, deskSize, sheetSize, frameNumber}
+use Rattle.layout.specs.Layout.{framesPerCore, frameCount, classesAt, closedAt, statesAt, depthsAt, marksAt, heldAt, originsAt, originBits, originBytes, deskSize, sheetSize, frameNumber}
 
 -- Every frame is one of a core's.
 pub by-frame : (P : ℕ → Type 0) → ((i : ℕ) (f : Frame) → i < coreCount → f < framesPerCore → P (frameNumber i f))
@@ -24,8 +24,9 @@ pub record AtPlaces (P : ℕ → Type 0) : Type 0 where
   pub usage : (c : ℕ) → c < maxClasses → P (marksAt + c)
   pub held : (i : ℕ) (f : Frame) (p : ℕ) → i < coreCount → f < framesPerCore → p < maxDepth
       → P (heldAt + maxDepth * frameNumber i f + p)
+  pub origins : (b : ℕ) → b < originBytes → P (originsAt + b)
 
--- Every byte below stateSize has a named place.
+-- Every byte below deskSize has a named place.
 pub by-place : (P : ℕ → Type 0) → AtPlaces P → (j : ℕ) → j < deskSize → P j
 by-place P a j l =
     elim (decLt j closedAt) [
@@ -40,17 +41,27 @@ by-place P a j l =
                 subst P e (by-frame (λ n. P (depthsAt + n)) (a .depths) (j - depthsAt) (omega arith))
             | no h₃ ↦ elim (decLt j heldAt) [
               | yes h ↦ let e : marksAt + (j - marksAt) ≡ j = omega arith in subst P e (a .usage (j - marksAt) (omega arith))
-              | no h₄ ↦
-                  let q = j - heldAt in
-                  let e : heldAt + maxDepth * (q / maxDepth) + q % maxDepth ≡ j = omega arith in
-                  subst P e
-                  (by-frame (λ n. P (heldAt + maxDepth * n + q % maxDepth)) (λ i f h g. a .held i f (q % maxDepth) h g (omega arith))
-                  (q / maxDepth) (omega arith))
+              | no h₄ ↦ elim (decLt j originsAt) [
+                | yes h ↦
+                    let q = j - heldAt in
+                    let e : heldAt + maxDepth * (q / maxDepth) + q % maxDepth ≡ j = omega arith in
+                    subst P e
+                    (by-frame (λ n. P (heldAt + maxDepth * n + q % maxDepth)) (λ i f h g. a .held i f (q % maxDepth) h g (omega arith))
+                    (q / maxDepth) (omega arith))
+                | no h₅ ↦ let e : originsAt + (j - originsAt) ≡ j = omega arith in subst P e (a .origins (j - originsAt) (omega arith))
+              ]
             ]
           ]
         ]
       ]
     ]
+
+-- Every origin bit is that of a place of a frame.
+pub by-origin : (P : ℕ → Type 0) → ((i : ℕ) (f : Frame) (p : ℕ) → i < coreCount → f < framesPerCore → p < maxDepth → P (maxDepth * frameNumber i f + p))
+    → (k : ℕ) → k < originBits → P k
+by-origin P a k l =
+    let e : maxDepth * (k / maxDepth) + k % maxDepth ≡ k = omega arith in
+    subst P e (by-frame (λ n. P (maxDepth * n + k % maxDepth)) (λ i f h g. a i f (k % maxDepth) h g (omega arith)) (k / maxDepth) (omega arith))
 
 -- Every byte below K x K is that of a pair of classes.
 pub by-pair : (K : ℕ) → 1 ≤ K → (P : ℕ → Type 0) → ((from to : ℕ) → from < K → to < K → P (from * K + to))

@@ -2,17 +2,18 @@
 use mathlib.Core.Path.{_≡_, sym, _∙_}
 use mathlib.Core.Bool.{Bool}
 use mathlib.Core.List.{List}
-use Prim.Native.Nat.{ℕ, _≤_, _<_}
+use Prim.Native.Nat.{ℕ, _+_, _*_, _/_, _%_, _^_, _≤_, _<_}
 use native.Mathlib.Decide.{decLt}
 use native.Mathlib.Omega.{arith}
 use lib.ListN.{length, getD}
 use lib.Seq.{ext-getD}
+use Rattle.words.proofs.Words.{bits-same, bit-shift, bit-high}
 use Rattle.rules.specs.HeldLocks.{Core}
 use Rattle.rules.specs.Marks.{Marks}
 use Rattle.rules.specs.Graph.{Dependencies}
-use Rattle.layout.specs.Layout.{deskSize, sheetSize, KeepsPast}
+use Rattle.layout.specs.Layout.{originsAt, originBits, deskSize, sheetSize, originBit, KeepsPast}
 use Rattle.layout.specs.Encoding.{DeskBytes, SheetBytes}
-use Rattle.fit.proofs.Places.{AtPlaces, by-place, by-pair}
+use Rattle.fit.proofs.Places.{AtPlaces, by-place, by-origin, by-pair}
 
 -- Two lists of one length are equal if they are below n and from n on.
 meets : (n : ℕ) (x y : List ℕ) → length x ≡ length y → ((j : ℕ) → j < n → getD x j 0 ≡ getD y j 0)
@@ -24,8 +25,20 @@ meets n x y long below past =
 both-keep : (n : ℕ) (before x y : List ℕ) → ((j : ℕ) → j < n → getD x j 0 ≡ getD y j 0) → KeepsPast n before x → KeepsPast n before y → x ≡ y
 both-keep n before x y below a b = meets n x y (a .long ∙ sym (b .long)) below (λ j l. a .past j l ∙ sym (b .past j l))
 
+-- Two bytes of the same digits are equal.
+same-byte : (w v : ℕ) → w < 256 → v < 256 → ((t : ℕ) → t < 8 → w / 2 ^ t % 2 ≡ v / 2 ^ t % 2) → w ≡ v
+same-byte w v l h e =
+    bits-same 256 w v (omega arith) (omega arith)
+    (λ t. elim (decLt t 8) [
+      | yes q ↦ sym (bit-shift w t) ∙ e t q ∙ bit-shift v t
+      | no q ↦ bit-high 8 w t l (omega arith) ∙ sym (bit-high 8 v t h (omega arith))
+    ])
+
 module _ (K : ℕ) (is-closed : Bool) (cores : ℕ → Core) (marks : Marks) (x y : List ℕ)
     (a : DeskBytes K is-closed cores marks x) (b : DeskBytes K is-closed cores marks y) where
+  same-bits : (k : ℕ) → k < originBits → originBit x k ≡ originBit y k
+  same-bits = by-origin (λ k. originBit x k ≡ originBit y k) (λ i f p l h q. a .origins i f p l h q ∙ sym (b .origins i f p l h q))
+
   same-places : AtPlaces (λ j. getD x j 0 ≡ getD y j 0)
   same-places =
       record {
@@ -35,6 +48,12 @@ module _ (K : ℕ) (is-closed : Bool) (cores : ℕ → Core) (marks : Marks) (x 
         depths = λ i f l h. a .depths i f l h ∙ sym (b .depths i f l h);
         usage = λ c l. a .usage c l ∙ sym (b .usage c l);
         held = λ i f p l h q. a .held i f p l h q ∙ sym (b .held i f p l h q);
+        origins = λ k l.
+            same-byte (getD x (originsAt + k) 0) (getD y (originsAt + k) 0) (a .eight k l) (b .eight k l)
+            (λ t h.
+            let e : (8 * k + t) / 8 ≡ k = omega arith in
+            let m : (8 * k + t) % 8 ≡ t = omega arith in
+            rw (e, m) at (same-bits (8 * k + t) (omega arith)));
       }
 
   pub settled-desk : length x ≡ length y → ((j : ℕ) → deskSize ≤ j → getD x j 0 ≡ getD y j 0) → x ≡ y

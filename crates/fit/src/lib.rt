@@ -6,9 +6,9 @@ ghost use lib.Dec.{leb, eqb};
 ghost use Rattle.rules.specs.Context.{mayHoldSoft, mayHoldHard};
 ghost use lib.ListN.{length};
 ghost use Rattle.rules.specs.Limits.{coreCount, maxClasses, maxDepth};
-ghost use Rattle.layout.specs.Layout.{frameCount, deskSize};
-ghost use Rattle.fit.specs.Empty.{emptyAt};
-ghost use Rattle.layout.specs.Fit.{allBelow, coreFits, heldFits, frameFits, markFits, kindsFit};
+ghost use Rattle.layout.specs.Layout.{frameCount, originBits, originBytes, deskSize};
+ghost use Rattle.fit.specs.Empty.{emptyAt, noTryIn, byteFits};
+ghost use Rattle.layout.specs.Fit.{allBelow, coreFits, heldFits, frameFits, originFits, markFits, kindsFit};
 use context::CoreState;
 use context::HARD;
 use context::SOFT;
@@ -20,11 +20,14 @@ use layout::DESK_SIZE;
 use layout::FRAMES;
 use layout::FRAMES_PER_CORE;
 use layout::HELD_AT;
+use layout::HELD_MODES;
 use layout::MARKS_AT;
 use layout::MAX_CLASSES;
 use layout::MAX_DEPTH;
-use layout::MODES;
+use layout::ORIGIN_BYTES;
+use layout::ORIGINS_AT;
 use layout::STATES_AT;
+use origins::origin;
 
 const ALL_KINDS: u8 = 15;
 
@@ -90,7 +93,7 @@ fn held_fits(classes: u8, standing: bool, byte: u8) -> bool
 {
     if standing {
         if byte % 64 < classes {
-            byte / 64 < MODES
+            byte / 64 < HELD_MODES
         } else {
             false
         }
@@ -154,6 +157,76 @@ fn frames_fit(classes: u8, desk: &[u8]) -> bool
         n += 1;
     }
     ok
+}
+
+// Most desks hold no try: their origin bytes are all 0, and this loop is the quicker one.
+fn no_tries(desk: &[u8]) -> bool
+    requires { ⌜ deskSize ≤ length (now desk) ⌝ }
+    ensures { λ r. ⌜ r ≡ allBelow originBytes (noTryIn (now (desk .entry))) ⌝ }
+{
+    let mut ok = true;
+    let mut b: usize = 0;
+    while b < ORIGIN_BYTES {
+        if desk[ORIGINS_AT + b] != 0 {
+            ok = false;
+        }
+        b += 1;
+    }
+    ok
+}
+
+fn origin_fits(desk: &[u8], i: usize) -> bool
+    requires { ⌜ (i < originBits) × (deskSize ≤ length (now desk)) ⌝ }
+    ensures { λ r. ⌜ r ≡ originFits (now (desk .entry)) i ⌝ }
+{
+    if origin(desk, i) == 0 {
+        return true;
+    }
+    i % MAX_DEPTH < desk[DEPTHS_AT + i / MAX_DEPTH] as usize
+}
+
+// The eight bits of one byte.
+fn byte_fits(desk: &[u8], b: usize) -> bool
+    requires { ⌜ (b < originBytes) × (deskSize ≤ length (now desk)) ⌝ }
+    ensures { λ r. ⌜ r ≡ byteFits (now (desk .entry)) b ⌝ }
+{
+    if desk[ORIGINS_AT + b] == 0 {
+        return true;
+    }
+    let mut ok = true;
+    let mut j: usize = 0;
+    while j < 8 {
+        if !origin_fits(desk, 8 * b + j) {
+            ok = false;
+        }
+        j += 1;
+    }
+    ok
+}
+
+fn bytes_fit(desk: &[u8]) -> bool
+    requires { ⌜ deskSize ≤ length (now desk) ⌝ }
+    ensures { λ r. ⌜ r ≡ allBelow originBytes (byteFits (now (desk .entry))) ⌝ }
+{
+    let mut ok = true;
+    let mut b: usize = 0;
+    while b < ORIGIN_BYTES {
+        if !byte_fits(desk, b) {
+            ok = false;
+        }
+        b += 1;
+    }
+    ok
+}
+
+fn origins_fit(desk: &[u8]) -> bool
+    requires { ⌜ deskSize ≤ length (now desk) ⌝ }
+    ensures { λ r. ⌜ r ≡ allBelow originBits (originFits (now (desk .entry))) ⌝ }
+{
+    if no_tries(desk) {
+        return true;
+    }
+    bytes_fit(desk)
 }
 
 // Bit 64 of a mark byte needs bit 4, and 128 needs 8.
@@ -238,6 +311,9 @@ pub fn fits(desk: &[u8], sheet: &[u8]) -> bool
         return false;
     }
     if !frames_fit(classes, desk) {
+        return false;
+    }
+    if !origins_fit(desk) {
         return false;
     }
     if !marks_fit(k, desk) {

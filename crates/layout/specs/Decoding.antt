@@ -6,7 +6,7 @@ use mathlib.Core.List.{List, []}
 use Prim.Native.Nat.{ℕ, _+_, _*_, _/_, _%_, _<_}
 use lib.Dec.{ltb, eqb}
 use lib.ListN.{length, getD}
-use Rattle.rules.specs.Limits.{coreCount, maxClasses}
+use Rattle.rules.specs.Limits.{coreCount, maxClasses, heldModes}
 use Rattle.rules.specs.HeldLocks.{HeldLock, Core, freshCore}
 use Rattle.rules.specs.Marks.{Marks, markBit}
 use Rattle.rules.specs.Graph.{Dependencies, kindBit}
@@ -14,15 +14,15 @@ use Rattle.rules.specs.Decision.{tabulate}
 use Rattle.rules.specs.Cycle.{Entry, entryBytes, entryAt}
 use Rattle.rules.specs.Run.{State}
 use Rattle.layout.specs.Fit.{fits}
-use Rattle.layout.specs.Layout.{framesPerCore, frameNumber, entriesAt, entrySize, classesOf, closedOf, stateOf, depthOf, markOf, heldOf, kindsOf, countOf}
+use Rattle.layout.specs.Layout.{framesPerCore, frameNumber, deskSize, entriesAt, entrySize, classesOf, closedOf, stateOf, depthOf, markOf, heldOf, originOf, kindsOf, countOf, AreBytes}
 
--- "each class + 64 x mode"
-abbrev pub heldLockOf : ℕ → HeldLock
-heldLockOf byte = record { class = byte % 64; mode = byte / 64 }
+-- "each class + 64 x mode", and the origin, "1 for a try"
+abbrev pub heldLockOf : ℕ → ℕ → HeldLock
+heldLockOf byte origin = record { class = byte % 64; mode = byte / 64 + heldModes * origin }
 
 -- The locks held in frame n, oldest first.
 abbrev pub heldLocks : List ℕ → ℕ → List HeldLock
-heldLocks desk n = tabulate (depthOf desk n) (λ p. heldLockOf (heldOf desk n p))
+heldLocks desk n = tabulate (depthOf desk n) (λ p. heldLockOf (heldOf desk n p) (originOf desk n p))
 
 -- "each core's state; hold depths, core 0 task, soft, hard, then core 1 and so on"
 abbrev pub viewCore : List ℕ → ℕ → Core
@@ -46,12 +46,11 @@ view desk sheet =
       graph = record { locks = viewLocks (classesOf desk) sheet; marks = viewMarks desk };
     }
 
--- Desk and sheet stand for the state s of K classes. That settles all their bytes (crates/fit/proofs/Settled.antt); of lists of numbers it has to be
--- said that the mark bytes are bytes.
+-- Desk and sheet stand for the state s of K classes. That settles all their bytes (crates/fit/proofs/Settled.antt).
 pub record StandFor (K : ℕ) (s : State) (desk sheet : List ℕ) : Type 0 where
   pub fit : fits desk sheet ≡ true
   pub classes : classesOf desk ≡ K
-  pub byte-marks : (c : ℕ) → c < maxClasses → markOf desk c < 256
+  pub bytes : AreBytes deskSize desk
   pub is-view : view desk sheet ≡ s
 
 -- "Byte 0 is n; then n times three bytes: class, kind, source."

@@ -8,12 +8,12 @@ use lib.ListN.{length, getD}
 use Rattle.words.specs.Bits.{flag}
 use Rattle.rules.specs.Limits.{coreCount, maxClasses, maxDepth}
 use Rattle.rules.specs.Context.{Frame}
-use Rattle.rules.specs.HeldLocks.{E, S, R, N, HeldLock, Core}
+use Rattle.rules.specs.HeldLocks.{E, S, R, N, HeldLock, isTry, heldAs, Core}
 use Rattle.rules.specs.Marks.{Marks, Level, hardIrq, softIrq, Usage, safe, unsafe, markBit}
 use Rattle.rules.specs.Graph.{Dependencies, Kind, kindBit}
 use Rattle.rules.specs.KindNames.{ER, EN, SR, SN}
 use Rattle.rules.specs.Run.{State}
-use Rattle.layout.specs.Layout.{framesPerCore, deskSize, sheetSize, frameNumber, classesOf, closedOf, stateOf, depthOf, markOf, heldOf, kindsOf}
+use Rattle.layout.specs.Layout.{framesPerCore, originsAt, originBytes, deskSize, sheetSize, frameNumber, classesOf, closedOf, stateOf, depthOf, markOf, heldOf, originOf, kindsOf}
 
 -- "marks by class": the sum of the bits of the marks that are set.
 unfoldable pub markByte : Marks → ℕ → ℕ
@@ -31,15 +31,26 @@ kindByte d from to = part ER + part EN + part SR + part SN
     part : Kind → ℕ
     part k = flag (d from to k) * kindBit k
 
--- "each class + 64 x mode"; "Unused hold bytes are zero."
+-- "each class + 64 x mode", the mode in which it is held; "Unused hold bytes are zero."
 abbrev pub heldByte : HeldLock → ℕ
-heldByte h = h .class + 64 * h .mode
+heldByte h = h .class + 64 * heldAs (h .mode)
 
 abbrev pub heldByteAt : List HeldLock → ℕ → ℕ
 heldByteAt hs p = getD (map heldByte hs) p 0
 
+-- "1 for a try", "zero where no hold stands"
+abbrev pub heldOrigin : HeldLock → ℕ
+heldOrigin h = flag (isTry (h .mode))
+
+abbrev pub originAt : List HeldLock → ℕ → ℕ
+originAt hs p = getD (map heldOrigin hs) p 0
+
+-- The bytes of the origins have eight bits and no more.
+abbrev pub EightBits : List ℕ → Type 0
+EightBits desk = (b : ℕ) → b < originBytes → getD desk (originsAt + b) 0 < 256
+
 -- "byte 0 K; byte 1 is 0 open, 1 closed; bytes 2-9 each core's state; bytes 10-33 hold depths; bytes 34-97 marks by class; bytes 98-577 the
--- holds, 20 per frame in the order of the depths, oldest first".
+-- holds, 20 per frame in the order of the depths, oldest first"; the origins after them, eight to a byte.
 pub record DeskBytes (K : ℕ) (is-closed : Bool) (cores : ℕ → Core) (marks : Marks) (desk : List ℕ) : Type 0 where
   pub long : deskSize ≤ length desk
   pub classes : classesOf desk ≡ K
@@ -49,6 +60,9 @@ pub record DeskBytes (K : ℕ) (is-closed : Bool) (cores : ℕ → Core) (marks 
   pub usage : (c : ℕ) → c < maxClasses → markOf desk c ≡ markByte marks c
   pub held : (i : ℕ) (f : Frame) (p : ℕ) → i < coreCount → f < framesPerCore → p < maxDepth
       → heldOf desk (frameNumber i f) p ≡ heldByteAt (cores i .held f) p
+  pub origins : (i : ℕ) (f : Frame) (p : ℕ) → i < coreCount → f < framesPerCore → p < maxDepth
+      → originOf desk (frameNumber i f) p ≡ originAt (cores i .held f) p
+  pub eight : EightBits desk
 
 -- "byte from x K + to holds the sum of the arrow kinds seen"
 pub record SheetBytes (K : ℕ) (locks : Dependencies) (sheet : List ℕ) : Type 0 where

@@ -4,11 +4,11 @@ use mathlib.Core.List.{List}
 use Prim.Native.Nat.{ℕ, zero, suc, _/_, _%_}
 use lib.Dec.{leb, ltb, eqb}
 use lib.ListN.{length, getD}
-use Rattle.rules.specs.Limits.{coreCount, maxClasses, maxDepth, modeCount}
+use Rattle.rules.specs.Limits.{coreCount, maxClasses, maxDepth, heldModes}
 use Rattle.rules.specs.Context.{hardOverSoft, soft, hard, mayHoldSoft, mayHoldHard}
 use Rattle.rules.specs.HeldLocks.{First, E, S}
 use Rattle.rules.specs.Marks.{Level, hardIrq, softIrq, unsafe, markBit}
-use Rattle.layout.specs.Layout.{frameCount, deskSize, sheetSize, slipSize, frameNumber, classesOf, closedOf, stateOf, depthOf, markOf, heldOf}
+use Rattle.layout.specs.Layout.{frameCount, originBits, deskSize, sheetSize, slipSize, frameNumber, classesOf, closedOf, stateOf, depthOf, markOf, heldOf, originBit}
 
 -- The test holds of every number below n.
 unfoldable pub allBelow : ℕ → (ℕ → Bool) → Bool
@@ -28,13 +28,17 @@ coreFits desk i =
 
 -- "a standing hold with class K or more or mode 3; an unused hold byte not 0"
 abbrev pub heldFits : ℕ → (standing : Bool) → ℕ → Bool
-heldFits K true byte = ltb (byte % 64) K && ltb (byte / 64) modeCount
+heldFits K true byte = ltb (byte % 64) K && ltb (byte / 64) heldModes
 heldFits K false byte = eqb byte 0
 
 -- "a depth over 20", and the frame's bytes
 unfoldable pub frameFits : ℕ → List ℕ → ℕ → Bool
 frameFits K desk n =
     leb (depthOf desk n) maxDepth && allBelow maxDepth (λ p. heldFits K (ltb p (depthOf desk n)) (heldOf desk n p))
+
+-- An origin bit is "zero where no hold stands, else the desk is unfit": bit i is that of place i % maxDepth of frame i / maxDepth.
+unfoldable pub originFits : List ℕ → ℕ → Bool
+originFits desk i = eqb (originBit desk i) 0 || ltb (i % maxDepth) (depthOf desk (i / maxDepth))
 
 -- "a mark on a class K or more; a soft-unsafe mark without its hard-unsafe one": 64 needs 4 and 128 needs 8
 unfoldable pub markFits : ℕ → List ℕ → ℕ → Bool
@@ -58,8 +62,9 @@ fits desk sheet =
     && (leb (closedOf desk) 1
     && (allBelow coreCount (coreFits desk)
     && (allBelow frameCount (frameFits (classesOf desk) desk)
+    && (allBelow originBits (originFits desk)
     && (allBelow maxClasses (markFits (classesOf desk) desk)
-    && allBelow (sheetSize (classesOf desk)) (kindsFit sheet)))))))
+    && allBelow (sheetSize (classesOf desk)) (kindsFit sheet))))))))
 
 -- The step has a slip too.
 unfoldable pub fitsAll : (desk sheet slip : List ℕ) → Bool

@@ -2,7 +2,7 @@
 -- src/lib.rt has them once more for the code.
 use mathlib.Core.Path.{_≡_}
 use mathlib.Core.List.{List}
-use Prim.Native.Nat.{ℕ, _+_, _*_, _≤_}
+use Prim.Native.Nat.{ℕ, _+_, _*_, _/_, _%_, _^_, _≤_, _<_}
 use lib.ListN.{length, getD}
 use Rattle.rules.specs.Limits.{coreCount, maxClasses, maxDepth}
 use Rattle.rules.specs.Context.{Frame}
@@ -32,8 +32,18 @@ marksAt = depthsAt + frameCount
 abbrev pub heldAt : ℕ
 heldAt = marksAt + maxClasses
 
+-- "The holds need an origin": a bit for each place of a held lock.
+abbrev pub originsAt : ℕ
+originsAt = heldAt + maxDepth * frameCount
+
+abbrev pub originBits : ℕ
+originBits = maxDepth * frameCount
+
+abbrev pub originBytes : ℕ
+originBytes = originBits / 8
+
 abbrev pub deskSize : ℕ
-deskSize = heldAt + maxDepth * frameCount
+deskSize = originsAt + originBytes
 
 abbrev pub sheetSize : ℕ → ℕ
 sheetSize K = K * K
@@ -76,11 +86,22 @@ markOf desk class = getD desk (marksAt + class) 0
 abbrev pub heldOf : List ℕ → ℕ → ℕ → ℕ
 heldOf desk frame p = getD desk (heldAt + maxDepth * frame + p) 0
 
+-- "one bit per hold place in order, lowest bit first": bit i of the origins, and that of place p of a frame.
+abbrev pub originBit : List ℕ → ℕ → ℕ
+originBit desk i = getD desk (originsAt + i / 8) 0 / 2 ^ (i % 8) % 2
+
+abbrev pub originOf : List ℕ → ℕ → ℕ → ℕ
+originOf desk frame p = originBit desk (maxDepth * frame + p)
+
 abbrev pub kindsOf : List ℕ → ℕ → ℕ → ℕ → ℕ
 kindsOf sheet K from to = getD sheet (from * K + to) 0
 
 abbrev pub countOf : List ℕ → ℕ
 countOf slip = getD slip countAt 0
+
+-- The first n numbers of a buffer are bytes: of a slice they are, of a list it has to be said.
+abbrev pub AreBytes : ℕ → List ℕ → Type 0
+AreBytes n buffer = (j : ℕ) → j < n → getD buffer j 0 < 256
 
 -- A buffer of which only the first n bytes may differ: it is as long, and the others are as they were.
 pub record KeepsPast (n : ℕ) (before after : List ℕ) : Type 0 where

@@ -6,7 +6,10 @@ pub const MAX_CLASSES: usize = 64;
 
 pub const MAX_DEPTH: usize = 20;
 
-pub const MODES: u8 = 3;
+// Modes in which a lock is held, and modes of an acquire: the same and by a try.
+pub const HELD_MODES: u8 = 3;
+
+pub const MODES: u8 = 2 * HELD_MODES;
 
 pub const FRAMES_PER_CORE: usize = 3;
 
@@ -24,7 +27,12 @@ pub const MARKS_AT: usize = DEPTHS_AT + FRAMES;
 
 pub const HELD_AT: usize = MARKS_AT + MAX_CLASSES;
 
-pub const DESK_SIZE: usize = HELD_AT + MAX_DEPTH * FRAMES;
+// A bit for each place of a held lock, eight to a byte, the lowest first: 1 for a try.
+pub const ORIGINS_AT: usize = HELD_AT + MAX_DEPTH * FRAMES;
+
+pub const ORIGIN_BYTES: usize = MAX_DEPTH * FRAMES / 8;
+
+pub const DESK_SIZE: usize = ORIGINS_AT + ORIGIN_BYTES;
 
 // The slip: a count, and an entry for each dependency of the cycle.
 pub const COUNT_AT: usize = 0;

@@ -1,8 +1,9 @@
 -- What opening leaves encodes the state in which every run starts, and no byte past the stated sizes is changed. Assumes nothing.
-use mathlib.Core.Path.{_≡_, _∙_}
+use mathlib.Core.Path.{_≡_, refl, ap, _∙_}
 use mathlib.Core.Bool.{true}
 use mathlib.Core.List.{List}
-use Prim.Native.Nat.{ℕ, _+_, _-_, _*_, _≤_, _<_}
+use Prim.Native.Nat.{ℕ, _+_, _-_, _*_, _/_, _%_, _^_, _≤_, _<_}
+use native.Mathlib.Nat.{zero-div}
 use native.Mathlib.Omega.{arith}
 use lib.Dec.{leb}
 use lib.ListN.{length, getD, drop, replicate, length-append, length-drop, length-replicate, length-set, getD-replicate, List·getD-append}
@@ -12,7 +13,7 @@ use Rattle.rules.specs.Limits.{maxDepth}
 use Rattle.rules.specs.Run.{start}
 use Rattle.rules.proofs.Booleans.{and-cases}
 use Rattle.layout.proofs.Buffers.{cell-inside}
-use Rattle.layout.specs.Layout.{classesAt, closedAt, statesAt, depthsAt, marksAt, heldAt, deskSize, sheetSize, frameNumber, KeepsPast}
+use Rattle.layout.specs.Layout.{classesAt, closedAt, statesAt, depthsAt, marksAt, heldAt, originsAt, deskSize, sheetSize, frameNumber, KeepsPast}
 use Rattle.layout.specs.Encoding.{markByte, kindByte, DeskBytes, SheetBytes, Encodes}
 use Rattle.layout.specs.Fit.{classesFit}
 use Rattle.opening.specs.Open.{opens, zeroed, openedDesk, openedSheet}
@@ -58,6 +59,10 @@ module _ (K : ℕ) (desk : List ℕ) (long : deskSize ≤ length desk) where
         depths = λ i f l h. desk-below (depthsAt + frameNumber i f) (omega arith) (omega arith);
         usage = λ c l. desk-below (marksAt + c) (omega arith) (omega arith);
         held = λ i f p l h q. desk-below (heldAt + maxDepth * frameNumber i f + p) (omega arith) (omega arith);
+        origins = λ i f p l h q.
+            let k = maxDepth * frameNumber i f + p in
+            ap (λ (x : ℕ). x / 2 ^ (k % 8) % 2) (desk-below (originsAt + k / 8) (omega arith) (omega arith)) ∙ rw (zero-div (2 ^ (k % 8))) refl;
+        eight = λ b l. rw (desk-below (originsAt + b) (omega arith) (omega arith)) (omega arith);
       }
 
 module _ (K : ℕ) (sheet : List ℕ) (square : sheetSize K ≤ length sheet) where

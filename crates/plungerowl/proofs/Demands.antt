@@ -167,7 +167,7 @@ run-last K s [] r = refl
 run-last K s (x ∷ rs) r = run-last K (step K s x .state) rs r
 
 pub run-verdict : {K : ℕ} {b b′ b″ : Buffers} {rs : List Bytes} {given : List ℕ} {r : Bytes} {answer : ℕ} → Opening K b → Ran b rs given b′
-    → Called b′ r answer b″ → FaultExactly K (graphAt K emptyGraph (rs ++ (r ∷ [])) (length rs)) answer (b′ .slip) (b″ .slip)
+    → Called b′ r answer b″ → FaultExactly K (graphAt K start (rs ++ (r ∷ [])) (length rs)) answer (b′ .slip) (b″ .slip)
 run-verdict {K} {b′} {b″} {rs} {r} {answer} o w t =
     subst (λ (g : Graph). FaultExactly K g answer (b′ .slip) (b″ .slip))
     (ap (λ (s : State). s .graph) (sym (run-last K start rs r)) ∙ ap (λ (l : List Bytes). run K start l .graph) (sym (take-all rs r)))

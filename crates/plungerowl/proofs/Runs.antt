@@ -10,7 +10,6 @@ use lib.ListN.{length}
 use borrow.Author.Tests.{le-leb, leb-true}
 use Rattle.rules.specs.Limits.{maxClasses}
 use Rattle.rules.specs.Record.{Bytes}
-use Rattle.rules.specs.Graph.{emptyGraph}
 use Rattle.rules.specs.Verdict.{badOpening}
 use Rattle.rules.specs.Run.{State, start, step, answers, run}
 use Rattle.rules.specs.TwoRuns.{Interleaved, MoreEvidence}
@@ -96,7 +95,7 @@ opening-holds {K} {b} o =
 
 -- Demand 3, of two runs of the exported calls, each from its own opening with the same K.
 pub two-runs : {K : ℕ} {b₁ b₁′ b₂ b₂′ : Buffers} {xs ys : List Bytes} {given₁ given₂ : List ℕ} → Opening K b₁ → Ran b₁ xs given₁ b₁′ → Opening K b₂
-    → Ran b₂ ys given₂ b₂′ → (e : Interleaved xs xs ys) → MoreEvidence K emptyGraph e given₁ given₂
+    → Ran b₂ ys given₂ b₂′ → (e : Interleaved xs xs ys) → MoreEvidence K start e given₁ given₂
 two-runs {K} {xs} {ys} {given₁} {given₂} o₁ w₁ o₂ w₂ e =
-    subst₂ (λ (a b : List ℕ). MoreEvidence K emptyGraph e a b) (sym (run-answers (opening-holds o₁) w₁)) (sym (run-answers (opening-holds o₂) w₂))
-    (more-evidence K emptyGraph e)
+    subst₂ (λ (a b : List ℕ). MoreEvidence K start e a b) (sym (run-answers (opening-holds o₁) w₁)) (sym (run-answers (opening-holds o₂) w₂))
+    (more-evidence K start refl e)

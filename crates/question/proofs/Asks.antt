@@ -5,8 +5,7 @@ use mathlib.Core.List.{List}
 use Prim.Native.Nat.{ℕ, _<_, _≤_}
 use native.Mathlib.Omega.{arith}
 use lib.Count.{ones}
-use Rattle.rules.specs.Limits.{maxClasses}
-use Rattle.layout.specs.Layout.{classesOf, markOf}
+use Rattle.layout.specs.Layout.{deskSize, classesOf, AreBytes}
 use Rattle.layout.specs.Decoding.{view}
 use Rattle.layout.specs.Fit.{fits}
 use Rattle.fit.proofs.Fitting.{fit-encodes}
@@ -31,7 +30,7 @@ module _ (desk sheet : List ℕ) (class : ℕ) where
         answered = λ h m. absurd (omega arith);
       }
 
-  pub asked-answered : (word count : ℕ) (rows : List ℕ) → ((c : ℕ) → c < maxClasses → markOf desk c < 256) → fits desk sheet ≡ true → class < classesOf desk
+  pub asked-answered : (word count : ℕ) (rows : List ℕ) → AreBytes deskSize desk → fits desk sheet ≡ true → class < classesOf desk
       → Successors desk sheet (classesOf desk) rows → Reached (classesOf desk) rows class word → count ≡ ones word
       → Asked desk sheet class 0 word count
   asked-answered word count rows small f l s r e =

@@ -6,6 +6,7 @@ use Prim.Native.Nat.{ℕ, zero, suc, _≤_, _<_}
 use lib.Dec.{eqb}
 use lib.ListN.{length, getD}
 use borrow.Author.Tests.{eq-eqb, ne-eqb, le-leb, lt-leb}
+use Rattle.rules.specs.Limits.{coreCount, kindCount, modeCount}
 use Rattle.rules.specs.Record.{coreOf, kindOf, classOf, modeOf, strayByte, isMalformed}
 
 module _ (r : List ℕ) where
@@ -21,24 +22,24 @@ module _ (r : List ℕ) where
   unfolding isMalformed
   by-mark-1 n = simp (ne-eqb (getD r 1 0) 0x4B n, and-false, or-true)
 
-  pub by-core : 8 ≤ coreOf r → true ≡ isMalformed r
+  pub by-core : coreCount ≤ coreOf r → true ≡ isMalformed r
   unfolding isMalformed
-  by-core h = simp (le-leb 8 (coreOf r) h, or-true)
+  by-core h = simp (le-leb coreCount (coreOf r) h, or-true)
 
-  pub by-kind : 10 ≤ kindOf r → true ≡ isMalformed r
+  pub by-kind : kindCount ≤ kindOf r → true ≡ isMalformed r
   unfolding isMalformed
-  by-kind h = simp (le-leb 10 (kindOf r) h, or-true)
+  by-kind h = simp (le-leb kindCount (kindOf r) h, or-true)
 
-  pub by-mode : 3 ≤ modeOf r → true ≡ isMalformed r
+  pub by-mode : modeCount ≤ modeOf r → true ≡ isMalformed r
   unfolding isMalformed
-  by-mode h = simp (le-leb 3 (modeOf r) h, or-true)
+  by-mode h = simp (le-leb modeCount (modeOf r) h, or-true)
 
   -- All others passed, a stray byte decides.
-  pub by-stray : length r ≡ 6 → getD r 0 0 ≡ 0x4C → getD r 1 0 ≡ 0x4B → coreOf r < 8 → kindOf r < 10 → modeOf r < 3
+  pub by-stray : length r ≡ 6 → getD r 0 0 ≡ 0x4C → getD r 1 0 ≡ 0x4B → coreOf r < coreCount → kindOf r < kindCount → modeOf r < modeCount
       → strayByte (kindOf r) (classOf r) (modeOf r) ≡ isMalformed r
   unfolding isMalformed
   by-stray l m0 m1 c k m =
-      simp (eq-eqb (length r) 6 l, eq-eqb (getD r 0 0) 0x4C m0, eq-eqb (getD r 1 0) 0x4B m1, lt-leb 8 (coreOf r) c, lt-leb 10 (kindOf r) k, lt-leb 3 (modeOf r) m)
+      simp (eq-eqb (length r) 6 l, eq-eqb (getD r 0 0) 0x4C m0, eq-eqb (getD r 1 0) 0x4B m1, lt-leb coreCount (coreOf r) c, lt-leb kindCount (kindOf r) k, lt-leb modeCount (modeOf r) m)
 
 pub stray-acquire : (k c m : ℕ) → k ≡ 0 → false ≡ strayByte k c m
 stray-acquire k c m e = rw e refl

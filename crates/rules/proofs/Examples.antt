@@ -8,11 +8,11 @@ use Rattle.rules.specs.Record.{isMalformed}
 use Rattle.rules.specs.Decision.{cyclic, reaches}
 use Rattle.rules.specs.Verdict.{refusal}
 use Rattle.rules.specs.HeldLocks.{releaseNewest}
-use Rattle.rules.specs.Graph.{emptyGraph, dependency}
+use Rattle.rules.specs.Graph.{dependency}
 use Rattle.rules.specs.KindNames.{EN}
 use Rattle.rules.specs.Cycle.{Cycle}
 use Rattle.rules.specs.Run.{start, answers, run, graphAt}
-use Rattle.rules.specs.Examples.{exclusive, read, recursive, lockOf, DrawnCase, drawnCase, drawnCases, Example, p2Cycle, table, example, p2, p6, allClean, endsWith, faultAt, takes, frees, does, says}
+use Rattle.rules.specs.Examples.{exclusive, read, recursive, tryExclusive, lockOf, DrawnCase, drawnCase, drawnCases, MarkCase, markCase, markCases, Example, p2Cycle, table, example, p2, p6, allClean, endsWith, faultAt, takes, frees, does, says}
 
 pub table-holds : map (λ (e : Example). answers 8 start (e .log)) table ≡ map (λ (e : Example). e .given) table
 unfolding table example p2 p6 allClean endsWith faultAt takes frees does says isMalformed refusal dependency cyclic
@@ -23,7 +23,7 @@ of-two P a b zero l = a
 of-two P a b (suc zero) l = b
 of-two P a b (suc (suc i)) l = absurd (omega arith)
 
-pub p2-cycle : Cycle 8 (graphAt 8 emptyGraph p2 5) p2Cycle
+pub p2-cycle : Cycle 8 (graphAt 8 start p2 5) p2Cycle
 unfolding p2 takes frees says isMalformed refusal dependency cyclic
 p2-cycle =
     record {
@@ -40,15 +40,23 @@ p2-cycle =
       lowest-first = of-two _ (omega arith) (omega arith);
     }
 
--- Two rules that show in no answer from opening: no dependency crosses frames, and a release takes the newest.
+-- Rules that show in no answer, or in few: no dependency crosses frames, a try is marked unsafe and not safe, a release takes the newest.
 pub draws : map (λ (e : DrawnCase). run 8 start (e .log) .graph .locks (e .from) (e .to) EN) drawnCases ≡ map (λ (e : DrawnCase). e .drawn) drawnCases
 unfolding drawnCases drawnCase takes does says isMalformed refusal dependency cyclic
 draws = refl
 
+pub marks : map (λ (e : MarkCase). run 8 start (e .log) .graph .marks (e .class) (e .level) (e .usage)) markCases ≡ map (λ (e : MarkCase). e .set) markCases
+unfolding markCases markCase takes does says isMalformed refusal dependency cyclic
+marks = refl
+
 pub newest-released : releaseNewest 0 (lockOf 0 read ∷ lockOf 1 exclusive ∷ lockOf 0 recursive ∷ []) ≡ lockOf 0 read ∷ lockOf 1 exclusive ∷ []
 newest-released = refl
 
+-- Whatever its origin.
+pub try-released : releaseNewest 1 (lockOf 1 exclusive ∷ lockOf 1 tryExclusive ∷ []) ≡ lockOf 1 exclusive ∷ []
+try-released = refl
+
 -- The question is not the fault test: after P6, which is clean, class 0 reaches itself.
-pub p6-asked : map (reaches 8 (graphAt 8 emptyGraph p6 1) 0) (0 ∷ 1 ∷ []) ≡ true ∷ false ∷ []
+pub p6-asked : map (reaches 8 (graphAt 8 start p6 1) 0) (0 ∷ 1 ∷ []) ≡ true ∷ false ∷ []
 unfolding p6 takes says isMalformed refusal dependency cyclic reaches
 p6-asked = refl

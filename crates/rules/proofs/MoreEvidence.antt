@@ -12,10 +12,9 @@ use lib.ListN.{length, getD}
 use borrow.Author.Tests.{ne-eqb}
 use Rattle.rules.specs.Record.{Bytes, coreOf, eventOf, isMalformed, Names}
 use Rattle.rules.specs.HeldLocks.{Core, afterEvent}
-use Rattle.rules.specs.Graph.{Graph}
 use Rattle.rules.specs.Decision.{cyclic}
 use Rattle.rules.specs.Verdict.{Refusal, malformed, number, refusal}
-use Rattle.rules.specs.Run.{State, startingFrom, situation, acceptOn, accept, Result, decided, settled, step, answers, graphAt}
+use Rattle.rules.specs.Run.{State, situation, acceptOn, accept, Result, decided, settled, step, answers, graphAt}
 use Rattle.rules.specs.TwoRuns.{NamedIn, Foreign, Interleaved, done, keep, insert, place, FaultBy, MoreEvidence}
 use Rattle.rules.proofs.Decided.{cyclic-sound}
 use Rattle.rules.proofs.Monotone.{Within, within-self, within-more, within-both, cyclic-mono}
@@ -184,16 +183,15 @@ place-order (keep e) zero (suc j) l = suc-le-suc zero-le
 place-order (keep e) (suc i) (suc j) l = suc-le-suc (place-order e i j (le-of-suc-le-suc l))
 place-order (insert f e) i j l = suc-le-suc (place-order e i j l)
 
--- Demand 3, from any starting graph.
-pub more-evidence : (K : ℕ) (g : Graph) {xs ys : List Bytes} (e : Interleaved xs xs ys)
-    → MoreEvidence K g e (answers K (startingFrom g) xs) (answers K (startingFrom g) ys)
-more-evidence K g {xs} {ys} e =
-    let s = startingFrom g in
-    let a : Along K xs s s = record { open₁ = refl; open₂ = refl; agree = λ i n. refl; within = within-self g } in
+-- Demand 3, from any open state.
+pub more-evidence : (K : ℕ) (s : State) → s .is-closed ≡ false → {xs ys : List Bytes} (e : Interleaved xs xs ys)
+    → MoreEvidence K s e (answers K s xs) (answers K s ys)
+more-evidence K s o {xs} {ys} e =
+    let a : Along K xs s s = record { open₁ = o; open₂ = o; agree = λ i n. refl; within = within-self (s .graph) } in
     let p = pairs K xs e (λ r m. m) s s a in
     record {
       same = p .same;
-      true-fault = λ j h. cyclic-sound K (graphAt K g ys j) (fault-cycle K s ys j h);
+      true-fault = λ j h. cyclic-sound K (graphAt K s ys j) (fault-cycle K s ys j h);
       old = p .old;
       shut = shut-after K s ys;
       sooner = λ i l h. fault-kept (getD (answers K s xs) i 0) (place e i) h (p .same i l);

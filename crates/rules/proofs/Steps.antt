@@ -9,11 +9,10 @@ use native.Mathlib.Nat.{le-of-suc-le-suc, not-suc-le-zero}
 use native.Mathlib.Omega.{arith}
 use lib.ListN.{length, getD, take, replicate, getD-replicate}
 use Rattle.rules.specs.Record.{Bytes}
-use Rattle.rules.specs.Graph.{Graph}
 use Rattle.rules.specs.StrongPath.{ClosedStrongPath}
 use Rattle.rules.specs.Decision.{cyclic}
 use Rattle.rules.specs.Verdict.{Refusal, closed, malformed, noClass, noTransition, stillHeld, notHeld, tooDeep, clean, fault, refused, refusalNumber, number, order, Situation, applies, firstThatApplies, refusal}
-use Rattle.rules.specs.Run.{State, startingFrom, situation, accept, close, Result, settled, step, answers, run, graphAt}
+use Rattle.rules.specs.Run.{State, situation, accept, close, Result, settled, step, answers, run, graphAt}
 use Rattle.rules.specs.TwoRuns.{FaultBy}
 use Rattle.rules.proofs.Decided.{cyclic-sound, cyclic-complete}
 
@@ -112,10 +111,9 @@ fault-closes K s (r ∷ rs) zero h =
     ap (λ (t : State). t .is-closed) (closed-run K (step K s r .state) rs c) ∙ c
 fault-closes K s (r ∷ rs) (suc i) h = fault-closes K (step K s r .state) rs i h
 
-pub closed-exactly : (K : ℕ) (g : Graph) (rs : List Bytes)
-    → run K (startingFrom g) rs .is-closed ≡ true ↔ FaultBy (answers K (startingFrom g) rs) (length rs)
-closed-exactly K g rs =
-    (run-closed-by-fault K (startingFrom g) rs refl, λ f. fault-closes K (startingFrom g) rs (f .at) (f .is-fault))
+pub closed-exactly : (K : ℕ) (s : State) (rs : List Bytes) → s .is-closed ≡ false
+    → run K s rs .is-closed ≡ true ↔ FaultBy (answers K s rs) (length rs)
+closed-exactly K s rs h = (run-closed-by-fault K s rs h, λ f. fault-closes K s rs (f .at) (f .is-fault))
 
 -- After a fault every record gets 10.
 pub shut-after : (K : ℕ) (s : State) (rs : List Bytes) (i j : ℕ) → i < j → j < length rs → getD (answers K s rs) i 0 ≡ 1
@@ -156,13 +154,13 @@ clean-acyclic K s [] j l h = absurd (not-suc-le-zero l)
 clean-acyclic K s (r ∷ rs) zero l h = clean-by (stepped K s r) h
 clean-acyclic K s (r ∷ rs) (suc j) l h = clean-acyclic K (step K s r .state) rs j (le-of-suc-le-suc l) h
 
-pub fault-exactly : (K : ℕ) (g : Graph) (rs : List Bytes) (i : ℕ) → i < length rs
-    → (getD (answers K (startingFrom g) rs) i 0 ≡ 0) ⊎ (getD (answers K (startingFrom g) rs) i 0 ≡ 1)
-    → (getD (answers K (startingFrom g) rs) i 0 ≡ 1) ↔ ClosedStrongPath K (graphAt K g rs i)
-fault-exactly K g rs i l (inl z) =
-    let none-there = clean-acyclic K (startingFrom g) rs i l z in
-    (λ h. absurd (omega arith), λ p. absurd (false≢true (sym none-there ∙ cyclic-complete K (graphAt K g rs i) p)))
-fault-exactly K g rs i l (inr z) = (λ h. cyclic-sound K (graphAt K g rs i) (fault-cycle K (startingFrom g) rs i h), λ p. z)
+pub fault-exactly : (K : ℕ) (s : State) (rs : List Bytes) (i : ℕ) → i < length rs
+    → (getD (answers K s rs) i 0 ≡ 0) ⊎ (getD (answers K s rs) i 0 ≡ 1)
+    → (getD (answers K s rs) i 0 ≡ 1) ↔ ClosedStrongPath K (graphAt K s rs i)
+fault-exactly K s rs i l (inl z) =
+    let none-there = clean-acyclic K s rs i l z in
+    (λ h. absurd (omega arith), λ p. absurd (false≢true (sym none-there ∙ cyclic-complete K (graphAt K s rs i) p)))
+fault-exactly K s rs i l (inr z) = (λ h. cyclic-sound K (graphAt K s rs i) (fault-cycle K s rs i h), λ p. z)
 
 -- ---- What an accepted record has passed.
 

@@ -5,7 +5,8 @@ use Prim.Native.Nat.{ℕ, _+_, pred}
 use lib.ListN.{replicate}
 use Rattle.rules.specs.Record.{Bytes}
 use Rattle.rules.specs.Context.{exitHard}
-use Rattle.rules.specs.HeldLocks.{HeldLock}
+use Rattle.rules.specs.HeldLocks.{E, N, HeldLock}
+use Rattle.rules.specs.Marks.{Level, hardIrq, softIrq, Usage, safe, unsafe}
 use Rattle.rules.specs.Graph.{lock}
 use Rattle.rules.specs.KindNames.{EN}
 use Rattle.rules.specs.Cycle.{Entry}
@@ -20,6 +21,16 @@ read = 1
 
 abbrev pub recursive : ℕ
 recursive = 2
+
+-- The same by a successful try.
+abbrev pub tryExclusive : ℕ
+tryExclusive = 3
+
+abbrev pub tryRead : ℕ
+tryRead = 4
+
+abbrev pub tryRecursive : ℕ
+tryRecursive = 5
 
 unfoldable pub says : ℕ → ℕ → ℕ → ℕ → Bytes
 says core kind class mode = 0x4C ∷ 0x4B ∷ core ∷ kind ∷ class ∷ mode ∷ []
@@ -103,15 +114,37 @@ table =
     -- P12, and without the soft off and on
     ∷ example (does 0 softOff ∷ takes 0 6 exclusive ∷ frees 0 6 ∷ does 0 softOn ∷ does 0 enterSoft ∷ takes 0 6 exclusive ∷ []) (allClean 6)
     ∷ example (takes 0 6 exclusive ∷ frees 0 6 ∷ does 0 enterSoft ∷ takes 0 6 exclusive ∷ []) (faultAt 4)
-    -- 0R twenty times, then 0R (and 8R: 4 before 8); exit hard with a lock held; exit hard in state 0
-    ∷ example (replicate 21 (takes 0 0 recursive) ++ (takes 0 8 recursive ∷ [])) (endsWith 21 8 ++ (4 ∷ []))
+    -- 0R twenty times, then 0R, and by a try (and 8R: 4 before 8); exit hard with a lock held; exit hard in state 0
+    ∷ example (replicate 21 (takes 0 0 recursive) ++ (takes 0 0 tryRecursive ∷ takes 0 8 recursive ∷ [])) (endsWith 21 8 ++ (8 ∷ 4 ∷ []))
     ∷ example (does 0 enterHard ∷ takes 0 1 exclusive ∷ does 0 exitHard ∷ []) (endsWith 3 7)
     ∷ example (does 0 exitHard ∷ []) (endsWith 1 6)
     -- "a hard on with a hard-safe hold standing": the mark comes with the hard on
     ∷ example (does 0 enterHard ∷ takes 0 4 exclusive ∷ frees 0 4 ∷ does 0 exitHard ∷ does 0 hardOff ∷ takes 0 4 exclusive ∷ does 0 hardOn ∷ []) (faultAt 7)
     -- refusals that meet: 10 before 3, 3 before 4, 4 before 5
     ∷ example (takes 0 0 exclusive ∷ takes 0 0 exclusive ∷ [] ∷ takes 0 9 exclusive ∷ []) (0 ∷ 1 ∷ 10 ∷ 10 ∷ [])
-    ∷ example (takes 0 8 3 ∷ takes 8 8 exclusive ∷ takes 0 8 exclusive ∷ frees 0 8 ∷ frees 0 7 ∷ []) (3 ∷ 3 ∷ 4 ∷ 4 ∷ 5 ∷ [])
+    ∷ example (takes 0 8 6 ∷ takes 8 8 exclusive ∷ takes 0 8 exclusive ∷ frees 0 8 ∷ frees 0 7 ∷ []) (3 ∷ 3 ∷ 4 ∷ 4 ∷ 5 ∷ [])
+    -- ---- Request a. No dependency to a try, even of its own class; one from it, by the mode in which it is held
+    ∷ example (takes 0 1 exclusive ∷ takes 0 1 tryExclusive ∷ []) (allClean 2)
+    ∷ example (takes 0 1 tryExclusive ∷ takes 0 1 exclusive ∷ []) (faultAt 2)
+    ∷ example (takes 0 0 tryRead ∷ takes 0 0 recursive ∷ []) (allClean 2)
+    ∷ example (takes 0 0 tryRecursive ∷ takes 0 0 read ∷ []) (faultAt 2)
+    -- P2 with the inner acquire of one order by a try, and with the outer one
+    ∷ example (takes 0 1 exclusive ∷ takes 0 2 tryExclusive ∷ takes 1 2 exclusive ∷ takes 1 1 exclusive ∷ []) (allClean 4)
+    ∷ example (takes 0 1 tryExclusive ∷ takes 0 2 exclusive ∷ takes 1 2 exclusive ∷ takes 1 1 exclusive ∷ []) (faultAt 4)
+    -- P10 by a try in the handler: clean, "then or later"; by a try in the task: fault
+    ∷ example (takes 0 3 exclusive ∷ frees 0 3 ∷ does 0 enterHard ∷ takes 0 3 tryExclusive ∷ takes 0 4 exclusive ∷ []) (allClean 5)
+    ∷ example (takes 0 3 tryExclusive ∷ frees 0 3 ∷ does 0 enterHard ∷ takes 0 3 exclusive ∷ []) (faultAt 4)
+    -- a try held over a hard on becomes hard-unsafe
+    ∷ example (does 0 enterHard ∷ takes 0 4 exclusive ∷ frees 0 4 ∷ does 0 exitHard ∷ does 0 hardOff ∷ takes 0 4 tryExclusive ∷ does 0 hardOn ∷ []) (faultAt 7)
+    -- marks are by class: another lock of it that is no try marks it safe; the try alone does not
+    ∷ example
+    (does 0 enterHard ∷ takes 0 3 tryRecursive ∷ takes 0 3 recursive ∷ frees 0 3 ∷ frees 0 3 ∷ does 0 exitHard ∷ takes 0 3 exclusive ∷ [])
+    (faultAt 7)
+    ∷ example (does 0 enterHard ∷ takes 0 3 tryRecursive ∷ frees 0 3 ∷ does 0 exitHard ∷ takes 0 3 exclusive ∷ []) (allClean 5)
+    -- a release takes the newest, here a try: 1R stays, and 1 SN 2 after 2 ER 1 is weak
+    ∷ example (takes 0 1 recursive ∷ takes 0 1 tryExclusive ∷ frees 0 1 ∷ takes 0 2 exclusive ∷ takes 1 2 exclusive ∷ takes 1 1 recursive ∷ []) (allClean 6)
+    -- a try of class K; mode 6; a release of a try with its mode, and with mode 0
+    ∷ example (takes 0 8 tryExclusive ∷ takes 0 1 6 ∷ takes 0 1 tryExclusive ∷ says 0 1 1 tryExclusive ∷ frees 0 1 ∷ []) (4 ∷ 3 ∷ 0 ∷ 3 ∷ 0 ∷ [])
     ∷ []
 
 -- ---- What is drawn, where no answer from opening shows it.
@@ -125,12 +158,35 @@ pub record DrawnCase : Type 0 where
 unfoldable pub drawnCase : List Bytes → ℕ → ℕ → Bool → DrawnCase
 drawnCase log from to drawn = record { log = log; from = from; to = to; drawn = drawn }
 
--- Whether an EN lock dependency is drawn: none across frames, one from every lock of the frame.
+-- Whether an EN lock dependency is drawn: none across frames, one from every lock of the frame, none to a try.
 unfoldable pub drawnCases : List DrawnCase
 drawnCases =
     drawnCase (takes 0 1 exclusive ∷ does 0 enterHard ∷ takes 0 2 exclusive ∷ takes 0 3 exclusive ∷ takes 0 4 exclusive ∷ []) 1 2 false
     ∷ drawnCase (takes 0 1 exclusive ∷ does 0 enterHard ∷ takes 0 2 exclusive ∷ takes 0 3 exclusive ∷ takes 0 4 exclusive ∷ []) 2 4 true
     ∷ drawnCase (takes 0 1 exclusive ∷ takes 1 2 exclusive ∷ []) 1 2 false
+    ∷ drawnCase (takes 0 1 exclusive ∷ takes 0 2 tryExclusive ∷ takes 0 3 exclusive ∷ []) 1 2 false
+    ∷ drawnCase (takes 0 1 exclusive ∷ takes 0 2 tryExclusive ∷ takes 0 3 exclusive ∷ []) 2 3 true
+    ∷ []
+
+pub record MarkCase : Type 0 where
+  pub log : List Bytes
+  pub class : ℕ
+  pub level : Level
+  pub usage : Usage
+  pub set : Bool
+
+unfoldable pub markCase : List Bytes → ℕ → Level → Usage → Bool → MarkCase
+markCase log class level usage set = record { log = log; class = class; level = level; usage = usage; set = set }
+
+-- Whether a mark is set: a try in a soft handler is hard-unsafe and not soft-safe, in a hard handler it is neither, at the acquire and after the next
+-- record.
+unfoldable pub markCases : List MarkCase
+markCases =
+    markCase (does 0 enterSoft ∷ takes 0 2 tryExclusive ∷ takes 0 3 exclusive ∷ []) 2 hardIrq (unsafe E) true
+    ∷ markCase (does 0 enterSoft ∷ takes 0 2 tryExclusive ∷ takes 0 3 exclusive ∷ []) 2 softIrq (safe N) false
+    ∷ markCase (does 0 enterSoft ∷ takes 0 2 tryExclusive ∷ takes 0 3 exclusive ∷ []) 3 softIrq (safe N) true
+    ∷ markCase (does 0 enterHard ∷ takes 0 2 tryExclusive ∷ takes 0 3 exclusive ∷ []) 2 hardIrq (safe N) false
+    ∷ markCase (does 0 enterHard ∷ takes 0 2 tryExclusive ∷ takes 0 3 exclusive ∷ []) 2 hardIrq (unsafe E) false
     ∷ []
 
 abbrev pub lockOf : ℕ → ℕ → HeldLock

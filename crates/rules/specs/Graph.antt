@@ -1,9 +1,9 @@
 -- The dependency graph ("drawing"): lock dependencies ("hold arrows") and interrupt dependencies ("interrupt arrows") between lock classes.
-use mathlib.Core.Bool.{Bool, false, _&&_, _||_}
+use mathlib.Core.Bool.{Bool, false, not, _&&_, _||_}
 use Prim.Native.Nat.{ℕ}
 use lib.Dec.{ltb, eqb}
 use Rattle.rules.specs.Record.{Event, acquire, release, interrupt}
-use Rattle.rules.specs.HeldLocks.{First, Second, E, S, R, N, sameFirst, sameSecond, firstOf, secondBy, someHeld, Core, current}
+use Rattle.rules.specs.HeldLocks.{First, Second, E, S, R, N, sameFirst, sameSecond, isTry, firstOf, secondBy, someHeld, Core, current}
 use Rattle.rules.specs.Marks.{Level, hardIrq, softIrq, safe, unsafe, Marks}
 
 -- The kind of a dependency: what its first lock blocks and how its second lock waits (001).
@@ -35,10 +35,12 @@ emptyGraph = record { locks = λ f t k. false; marks = λ c l u. false }
 abbrev pub addTo : Graph → Dependencies → Marks → Graph
 addTo g d m = record { locks = λ f t k. g .locks f t k || d f t k; marks = λ c l u. g .marks c l u || m c l u }
 
--- "A take draws one hold arrow to the new class from every hold in the core's current frame"; no other record draws one.
+-- "A take draws one hold arrow to the new class from every hold in the core's current frame"; a try "draws no arrow from the older
+-- holds", and no other record draws one.
 abbrev pub drawnBy : Event → Core → Dependencies
 drawnBy (acquire c m) core f t k =
-    eqb t c && sameSecond (k .second) (secondBy m) && someHeld f (λ h. sameFirst (k .first) (firstOf h)) (current core)
+    not (isTry m)
+    && (eqb t c && sameSecond (k .second) (secondBy m) && someHeld f (λ h. sameFirst (k .first) (firstOf h)) (current core))
 drawnBy (release c) core f t k = false
 drawnBy (interrupt e) core f t k = false
 

@@ -1,8 +1,9 @@
 -- Held locks ("holds"): what an acquire and a release do to a core.
 use mathlib.Core.Bool.{Bool, true, false, cond, _&&_, _||_}
 use mathlib.Core.List.{List, [], _∷_, _++_}
-use Prim.Native.Nat.{ℕ, zero, suc, _+_}
-use lib.Dec.{eqb}
+use Prim.Native.Nat.{ℕ, zero, suc, _%_}
+use lib.Dec.{leb, eqb}
+use Rattle.rules.specs.Limits.{heldModes}
 use Rattle.rules.specs.Record.{Event, acquire, release, interrupt}
 use Rattle.rules.specs.Context.{CoreState, taskBothOn, Frame, nextState, frameOf}
 
@@ -26,21 +27,35 @@ sameSecond R N = false
 sameSecond N R = false
 sameSecond N N = true
 
--- "Modes of a take: 0 exclusive, 1 non-recursive read, 2 recursive read."
+-- A lock with the mode of its acquire. "Modes of a take: 0 exclusive, 1 non-recursive read, 2 recursive read"; "3, 4 and 5 become a successful try
+-- for exclusive, read and recursive read".
 pub record HeldLock : Type 0 where
   pub class : ℕ
   pub mode : ℕ
 
+abbrev pub isTry : ℕ → Bool
+isTry m = leb heldModes m
+
+-- "Once held it counts as mode 0, 1 or 2"
+abbrev pub heldAs : ℕ → ℕ
+heldAs m = m % heldModes
+
 -- "E if the older hold is exclusive, S for either read."
+abbrev pub firstIn : ℕ → First
+firstIn zero = E
+firstIn (suc m) = S
+
 abbrev pub firstBy : ℕ → First
-firstBy zero = E
-firstBy (suc m) = S
+firstBy m = firstIn (heldAs m)
 
 -- "R if the take is recursive read, else N."
+abbrev pub secondIn : ℕ → Second
+secondIn zero = N
+secondIn (suc zero) = N
+secondIn (suc (suc m)) = R
+
 abbrev pub secondBy : ℕ → Second
-secondBy zero = N
-secondBy (suc zero) = N
-secondBy (suc (suc m)) = R
+secondBy m = secondIn (heldAs m)
 
 abbrev pub firstOf : HeldLock → First
 firstOf h = firstBy (h .mode)

@@ -1,5 +1,5 @@
 -- The numbers of document 01 that are limits, each once.
-use Prim.Native.Nat.{ℕ}
+use Prim.Native.Nat.{ℕ, _+_}
 
 -- "There are 8 cores."
 abbrev pub coreCount : ℕ
@@ -17,6 +17,10 @@ maxDepth = 20
 abbrev pub kindCount : ℕ
 kindCount = 10
 
--- Modes of an acquire are 0 to 2.
+-- Modes in which a lock is held: 0 exclusive, 1 non-recursive read, 2 recursive read.
+abbrev pub heldModes : ℕ
+heldModes = 3
+
+-- Modes of an acquire: those, and 3, 4, 5 the same by a successful try.
 abbrev pub modeCount : ℕ
-modeCount = 3
+modeCount = heldModes + heldModes

@@ -1,9 +1,9 @@
 -- Usage marks ("marks"): in which interrupt contexts a lock class was ever held (002).
-use mathlib.Core.Bool.{Bool, _&&_, _||_}
+use mathlib.Core.Bool.{Bool, not, _&&_, _||_}
 use Prim.Native.Nat.{ℕ}
 use lib.Dec.{eqb}
 use Rattle.rules.specs.Context.{CoreState, taskBothOn, taskSoftOff, softHardOn, softHardOff, mayHoldHard}
-use Rattle.rules.specs.HeldLocks.{First, Second, E, S, R, N, sameFirst, sameSecond, HeldLock, firstOf, secondOf, someHeld, Core, current}
+use Rattle.rules.specs.HeldLocks.{First, Second, E, S, R, N, sameFirst, sameSecond, HeldLock, isTry, firstOf, secondOf, someHeld, Core, current}
 
 -- Hard or soft interrupts.
 pub data Level : Type 0 where
@@ -21,9 +21,9 @@ setIn softIrq (safe b) s = eqb s softHardOn || eqb s softHardOff
 setIn hardIrq (unsafe a) s = eqb s taskBothOn || eqb s taskSoftOff || eqb s softHardOn
 setIn softIrq (unsafe a) s = eqb s taskBothOn
 
--- "N, R, E, S follow the hold's mode."
+-- "N, R, E, S follow the hold's mode." A try "sets no safe mark then or later, as it never waits".
 abbrev pub letterFits : Usage → HeldLock → Bool
-letterFits (safe b) h = sameSecond b (secondOf h)
+letterFits (safe b) h = not (isTry (h .mode)) && sameSecond b (secondOf h)
 letterFits (unsafe a) h = sameFirst a (firstOf h)
 
 abbrev pub Marks : Type 0

@@ -72,6 +72,7 @@ abbrev pub run : ℕ → State → List Bytes → State
 run K s [] = s
 run K s (r ∷ rs) = run K (step K s r .state) rs
 
--- The dependency graph at record i (from 0) of a list: all that its records up to and including that one draw.
-abbrev pub graphAt : ℕ → Graph → List Bytes → ℕ → Graph
-graphAt K g rs i = run K (startingFrom g) (take (suc i) rs) .graph
+-- The dependency graph at record i (from 0) of a list that starts in a state: what that has, and all that the records up to and including that one
+-- draw.
+abbrev pub graphAt : ℕ → State → List Bytes → ℕ → Graph
+graphAt K s rs i = run K s (take (suc i) rs) .graph

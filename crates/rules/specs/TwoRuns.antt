@@ -5,9 +5,8 @@ use mathlib.Core.Logic.{_⊎_}
 use Prim.Native.Nat.{ℕ, zero, suc, _≤_, _<_}
 use lib.ListN.{length, getD}
 use Rattle.rules.specs.Record.{Bytes, Names}
-use Rattle.rules.specs.Graph.{Graph}
 use Rattle.rules.specs.StrongPath.{ClosedStrongPath}
-use Rattle.rules.specs.Run.{graphAt}
+use Rattle.rules.specs.Run.{State, graphAt}
 
 -- A record of the list names the core.
 pub record NamedIn (rs : List Bytes) (core : ℕ) : Type 0 where
@@ -38,8 +37,8 @@ pub record FaultBy (given : List ℕ) (j : ℕ) : Type 0 where
   pub by : at ≤ j
   pub is-fault : getD given at 0 ≡ 1
 
--- The claim, of any two lists of answers: those that two runs from the graph `start` gave to the lists xs and ys.
-pub record MoreEvidence (K : ℕ) (start : Graph) {xs ys : List Bytes} (e : Interleaved xs xs ys) (given₁ given₂ : List ℕ) : Type 0 where
+-- The claim, of any two lists of answers: those that two runs from the state `start` gave to the lists xs and ys.
+pub record MoreEvidence (K : ℕ) (start : State) {xs ys : List Bytes} (e : Interleaved xs xs ys) (given₁ given₂ : List ℕ) : Type 0 where
   -- Each record of the first list gets its old answer unless a fault came at or before it.
   pub same : (i : ℕ) → i < length xs → (getD given₂ (place e i) 0 ≡ getD given₁ i 0) ⊎ FaultBy given₂ (place e i)
   -- A fault comes only with a closed strong path in the second list's own graph at that record.

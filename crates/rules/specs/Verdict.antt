@@ -42,7 +42,15 @@ unfit = 11
 
 -- "Order: 11, 10, 3, 4, 6, 7, 5, 8", from 10 on.
 abbrev pub order : List Refusal
-order = closed ∷ malformed ∷ noClass ∷ noTransition ∷ stillHeld ∷ notHeld ∷ tooDeep ∷ []
+order =
+    closed
+    ∷ malformed
+    ∷ noClass
+    ∷ noTransition
+    ∷ stillHeld
+    ∷ notHeld
+    ∷ tooDeep
+    ∷ []
 
 -- What the conditions read: whether the validator is closed, K, the core as it stands, and the record.
 pub record Situation : Type 0 where

@@ -2,7 +2,7 @@
 use mathlib.Core.Path.{_≡_, refl, sym, ap, _∙_}
 use mathlib.Core.Bool.{Bool, true, cond}
 use mathlib.Core.List.{List}
-use mathlib.Core.Logic.{_⊎_, inl, inr}
+use mathlib.Core.Logic.{_⊎_, inl, inr, ⊎-elim}
 use Prim.Native.Nat.{ℕ, _+_, _*_, _<_, _≤_}
 use native.Mathlib.Decide.{ℕ-discrete, decLt}
 use native.Mathlib.Omega.{arith}
@@ -14,9 +14,10 @@ use Rattle.rules.specs.Limits.{coreCount, maxDepth}
 use Rattle.rules.specs.Context.{CoreState, Frame, frameOf}
 use Rattle.rules.specs.HeldLocks.{HeldLock, Core, withCurrent, withState}
 use Rattle.rules.specs.Marks.{Marks}
-use Rattle.layout.specs.Layout.{framesPerCore, closedAt, statesAt, depthsAt, marksAt, heldAt, frameNumber, depthOf, heldOf}
-use Rattle.layout.specs.Encoding.{heldByteAt, DeskBytes}
+use Rattle.layout.specs.Layout.{framesPerCore, closedAt, statesAt, depthsAt, marksAt, heldAt, originsAt, frameNumber, depthOf, heldOf, originOf}
+use Rattle.layout.specs.Encoding.{heldByteAt, originAt, DeskBytes}
 use Rattle.update.specs.Update.{FrameBytes, KeepsElse, MarkBytes, KeepsUnmarked}
+use Rattle.update.proofs.Frames.{same-bits}
 
 -- The cores with one of them changed, as a step of the rules leaves them.
 abbrev pub changed : (ℕ → Core) → ℕ → Core → ℕ → Core
@@ -24,7 +25,7 @@ changed cores i core j = cond (eqb j i) core (cores j)
 
 module _ {K : ℕ} {is-closed : Bool} {cores : ℕ → Core} {marks : Marks} {desk : List ℕ} (b : DeskBytes K is-closed cores marks desk) where
   pub frame-bytes : (i : ℕ) (f : Frame) → i < coreCount → f < framesPerCore → FrameBytes desk (frameNumber i f) (cores i .held f)
-  frame-bytes i f li lf = record { depth = b .depths i f li lf; held = λ p l. b .held i f p li lf l }
+  frame-bytes i f li lf = record { depth = b .depths i f li lf; held = λ p l. b .held i f p li lf l; origins = λ p l. b .origins i f p li lf l }
 
   -- ---- One frame.
 
@@ -57,21 +58,30 @@ module _ {K : ℕ} {is-closed : Bool} {cores : ℕ → Core} {marks : Marks} {de
         let l = b .long in
         record {
           long = omega arith;
-          classes = keeps .else 0 (λ e. omega arith) (inl (omega arith)) ∙ b .classes;
-          closed = keeps .else 1 (λ e. omega arith) (inl (omega arith)) ∙ b .closed;
-          states = λ j lj. keeps .else (statesAt + j) (λ e. omega arith) (inl (omega arith)) ∙ b .states j lj ∙ sym (state-same j);
+          classes = keeps .else 0 (λ e. omega arith) (inl (omega arith)) (inl (omega arith)) ∙ b .classes;
+          closed = keeps .else 1 (λ e. omega arith) (inl (omega arith)) (inl (omega arith)) ∙ b .closed;
+          states = λ j lj. keeps .else (statesAt + j) (λ e. omega arith) (inl (omega arith)) (inl (omega arith)) ∙ b .states j lj ∙ sym (state-same j);
           depths = each-frame (λ n h. depthOf after n ≡ length h) (frame .depth)
-              (λ j f lj lf′ ne. keeps .else (depthsAt + frameNumber j f) (λ e. ne (omega arith)) (inl (omega arith)) ∙ b .depths j f lj lf′);
-          usage = λ c lc. keeps .else (marksAt + c) (λ e. omega arith) (inl (omega arith)) ∙ b .usage c lc;
+              (λ j f lj lf′ ne. keeps .else (depthsAt + frameNumber j f) (λ e. ne (omega arith)) (inl (omega arith)) (inl (omega arith)) ∙ b .depths j f lj lf′);
+          usage = λ c lc. keeps .else (marksAt + c) (λ e. omega arith) (inl (omega arith)) (inl (omega arith)) ∙ b .usage c lc;
           held = λ j f p lj lf′ lp.
               each-frame (λ n h. heldOf after n p ≡ heldByteAt h p) (frame .held p lp)
-              (λ j f lj lf″ ne. keeps .else (heldAt + maxDepth * frameNumber j f + p) (λ e. omega arith) (outside j f p lp ne) ∙ b .held j f p lj lf″ lp)
+              (λ j f lj lf″ ne.
+              keeps .else (heldAt + maxDepth * frameNumber j f + p) (λ e. omega arith)
+              (⊎-elim (λ l. inl (omega arith)) (λ l. inr (omega arith)) (outside j f p lp ne)) (inl (omega arith))
+              ∙ b .held j f p lj lf″ lp)
               j f lj lf′;
+          origins = λ j f p lj lf′ lp.
+              each-frame (λ n h. originOf after n p ≡ originAt h p) (frame .origins p lp)
+              (λ j f lj lf″ ne. keeps .origins (maxDepth * frameNumber j f + p) (outside j f p lp ne) ∙ b .origins j f p lj lf″ lp)
+              j f lj lf′;
+          eight = keeps .eight (b .eight);
         }
       where
+        -- A place of another frame.
         outside : (j : ℕ) (f : Frame) (p : ℕ) → p < maxDepth → (frameNumber j f ≡ frameNumber i (frameOf (cores i .state)) → ⊥)
-            → (heldAt + maxDepth * frameNumber j f + p < heldAt + maxDepth * frameNumber i (frameOf (cores i .state)))
-            ⊎ (heldAt + maxDepth * frameNumber i (frameOf (cores i .state)) + maxDepth ≤ heldAt + maxDepth * frameNumber j f + p)
+            → (maxDepth * frameNumber j f + p < maxDepth * frameNumber i (frameOf (cores i .state)))
+            ⊎ (maxDepth * frameNumber i (frameOf (cores i .state)) + maxDepth ≤ maxDepth * frameNumber j f + p)
         outside j f p lp ne =
             elim (decLt (frameNumber j f) (frameNumber i (frameOf (cores i .state)))) [ yes l ↦ inl (omega arith) | no n ↦ inr (omega arith) ]
 
@@ -81,8 +91,9 @@ module _ {K : ℕ} {is-closed : Bool} {cores : ℕ → Core} {marks : Marks} {de
       → DeskBytes K is-closed (changed cores i (withState (cores i) s)) marks (set desk (statesAt + i) s)
   state-changed i li s =
       let l = b .long in
-      let other : (j : ℕ) → (j ≡ statesAt + i → ⊥) → getD (set desk (statesAt + i) s) j 0 ≡ getD desk j 0 =
-      λ j n. getD-set-other desk (statesAt + i) j s 0 n in
+      let after = set desk (statesAt + i) s in
+      let other : (j : ℕ) → (j ≡ statesAt + i → ⊥) → getD after j 0 ≡ getD desk j 0 = λ j n. getD-set-other desk (statesAt + i) j s 0 n in
+      let far : (j : ℕ) → originsAt ≤ j → getD after j 0 ≡ getD desk j 0 = λ j l. other j (λ e. omega arith) in
       record {
         long = simp length-set l;
         classes = other 0 (λ e. omega arith) ∙ b .classes;
@@ -98,6 +109,11 @@ module _ {K : ℕ} {is-closed : Bool} {cores : ℕ → Core} {marks : Marks} {de
             other (heldAt + maxDepth * frameNumber j f + p) (λ e. omega arith)
             ∙ b .held j f p lj lf lp
             ∙ ap (λ (h : List HeldLock). heldByteAt h p) (held-same j f);
+        origins = λ j f p lj lf lp.
+            same-bits after desk far (maxDepth * frameNumber j f + p)
+            ∙ b .origins j f p lj lf lp
+            ∙ ap (λ (h : List HeldLock). originAt h p) (held-same j f);
+        eight = λ k l. rw (far (originsAt + k) (omega arith)) (b .eight k l);
       }
     where
       held-same : (j : ℕ) (f : Frame) → cores j .held f ≡ changed cores i (withState (cores i) s) j .held f
@@ -107,7 +123,7 @@ module _ {K : ℕ} {is-closed : Bool} {cores : ℕ → Core} {marks : Marks} {de
 
   pub marks-changed : {after : List ℕ} → KeepsUnmarked desk after → {marks′ : Marks} → MarkBytes after marks′
       → DeskBytes K is-closed cores marks′ after
-  marks-changed keeps m =
+  marks-changed {after} keeps m =
       let size = keeps .long in
       let l = b .long in
       record {
@@ -118,6 +134,9 @@ module _ {K : ℕ} {is-closed : Bool} {cores : ℕ → Core} {marks : Marks} {de
         depths = λ j f lj lf. keeps .else (depthsAt + frameNumber j f) (inl (omega arith)) ∙ b .depths j f lj lf;
         usage = m .usage;
         held = λ j f p lj lf lp. keeps .else (heldAt + maxDepth * frameNumber j f + p) (inr (omega arith)) ∙ b .held j f p lj lf lp;
+        origins = λ j f p lj lf lp.
+            same-bits after desk (λ j l. keeps .else j (inr (omega arith))) (maxDepth * frameNumber j f + p) ∙ b .origins j f p lj lf lp;
+        eight = λ k l. rw (keeps .else (originsAt + k) (inr (omega arith))) (b .eight k l);
       }
 
   -- ---- Open or closed.
@@ -125,7 +144,8 @@ module _ {K : ℕ} {is-closed : Bool} {cores : ℕ → Core} {marks : Marks} {de
   pub closed-changed : DeskBytes K true cores marks (set desk closedAt 1)
   closed-changed =
       let l = b .long in
-      let other : (j : ℕ) → (j ≡ closedAt → ⊥) → getD (set desk closedAt 1) j 0 ≡ getD desk j 0 = λ j n. getD-set-other desk closedAt j 1 0 n in
+      let after = set desk closedAt 1 in
+      let other : (j : ℕ) → (j ≡ closedAt → ⊥) → getD after j 0 ≡ getD desk j 0 = λ j n. getD-set-other desk closedAt j 1 0 n in
       record {
         long = simp length-set l;
         classes = other 0 (λ e. omega arith) ∙ b .classes;
@@ -134,4 +154,7 @@ module _ {K : ℕ} {is-closed : Bool} {cores : ℕ → Core} {marks : Marks} {de
         depths = λ j f lj lf. other (depthsAt + frameNumber j f) (λ e. omega arith) ∙ b .depths j f lj lf;
         usage = λ c lc. other (marksAt + c) (λ e. omega arith) ∙ b .usage c lc;
         held = λ j f p lj lf lp. other (heldAt + maxDepth * frameNumber j f + p) (λ e. omega arith) ∙ b .held j f p lj lf lp;
+        origins = λ j f p lj lf lp.
+            same-bits after desk (λ j l. other j (λ e. omega arith)) (maxDepth * frameNumber j f + p) ∙ b .origins j f p lj lf lp;
+        eight = λ k l. rw (other (originsAt + k) (λ e. omega arith)) (b .eight k l);
       }

@@ -12,17 +12,21 @@ use lib.Dec.{eqb}
 use lib.Bits.{bitOr}
 use lib.ListN.{length, getD, set, take, length-set}
 use lib.Seq.{getD-set-same, getD-set-other}
-use borrow.Author.Tests.{eq-eqb, ne-eqb}
-use Rattle.rules.specs.Limits.{maxDepth}
-use Rattle.rules.specs.HeldLocks.{HeldLock, sameFirst, sameSecond, firstOf, secondBy, someHeld}
+use borrow.Author.Tests.{le-leb, lt-leb, eq-eqb, ne-eqb}
+use Rattle.rules.specs.Limits.{maxDepth, heldModes}
+use Rattle.rules.specs.HeldLocks.{First, HeldLock, sameFirst, sameSecond, heldAs, firstIn, firstBy, firstOf, secondBy, someHeld}
 use Rattle.rules.specs.Graph.{Kind, Dependencies}
 use Rattle.layout.specs.Layout.{kindsOf, heldOf, depthOf, KeepsPast}
 use Rattle.layout.specs.Encoding.{kindByte, SheetBytes}
-use Rattle.layout.proofs.Buffers.{cell-inside}
+use Rattle.layout.proofs.Buffers.{cell-inside, keeps-self}
 use Rattle.layout.proofs.Flags.{kind-or}
 use Rattle.context.specs.Bits.{kindsBy, kindBits}
-use Rattle.update.specs.Update.{FrameBytes, SmallClasses, drawnFrom, Drawn}
+use Rattle.update.specs.Update.{FrameBytes, SmallLocks, drawnFrom, Drawn}
 use Rattle.update.proofs.Prefixes.{unheld, one-more, all-places, lock-at}
+
+-- The first letter goes by the mode in which the lock is held.
+first-held : (mode : ℕ) → firstBy (heldAs mode) ≡ firstBy mode
+first-held mode = ap firstIn (let e : mode % heldModes % heldModes ≡ mode % heldModes = omega arith in e)
 
 -- ---- Cells of the sheet.
 
@@ -82,10 +86,20 @@ module _ (K from to held acquired : ℕ) (lf : from < K) (lt : to < K) where
 -- The dependencies of the first p places are drawn.
 pub record Drawing (desk : List ℕ) (K n class mode : ℕ) (before : List ℕ) (p : ℕ) (now : List ℕ) : Type 0 where
   pub keeps : KeepsPast (K * K) before now
-  pub drawn : (hs : List HeldLock) → FrameBytes desk n hs → SmallClasses hs → (locks : Dependencies) → SheetBytes K locks before
+  pub drawn : (hs : List HeldLock) → FrameBytes desk n hs → SmallLocks hs → (locks : Dependencies) → SheetBytes K locks before
       → SheetBytes K (λ f t k. locks f t k || drawnFrom (take p hs) class mode f t k) now
 
-module _ (desk : List ℕ) (K n class mode : ℕ) (before : List ℕ) where
+-- A try draws nothing.
+pub drawn-none : (desk : List ℕ) (K n class mode : ℕ) (sheet : List ℕ) → heldModes ≤ mode → Drawn desk K n class mode sheet sheet
+drawn-none desk K n class mode sheet l =
+    record {
+      keeps = keeps-self (K * K) sheet;
+      drawn = λ hs F small locks m.
+          same-dependencies locks (λ f t k. locks f t k || drawnFrom hs class mode f t k)
+          (λ f t k. sym (rw (le-leb heldModes mode l) (or-false (locks f t k)))) m;
+    }
+
+module _ (desk : List ℕ) (K n class mode : ℕ) (before : List ℕ) (waits : mode < heldModes) where
   pub drawing-start : Drawing desk K n class mode before 0 before
   drawing-start =
       record {
@@ -93,6 +107,10 @@ module _ (desk : List ℕ) (K n class mode : ℕ) (before : List ℕ) where
         drawn = λ hs F small locks m.
             same-dependencies locks (λ f t k. locks f t k || drawnFrom [] class mode f t k) (λ f t k. sym (simp (and-false, or-false))) m;
       }
+
+  -- What an acquire that is no try draws.
+  abbrev drawnWaiting : List HeldLock → Dependencies
+  drawnWaiting hs f t k = eqb t class && sameSecond (k .second) (secondBy mode) && someHeld f (λ h. sameFirst (k .first) (firstOf h)) hs
 
   -- Or is distributed over the new place.
   regroup : (l a b x e c : Bool) → ((l || ((a && b) && x)) || (e && (a && (b && c)))) ≡ (l || ((a && b) && (x || (e && c))))
@@ -119,14 +137,17 @@ module _ (desk : List ℕ) (K n class mode : ℕ) (before : List ℕ) where
             let d = F .depth in
             let h = getD hs p unheld in
             let lock = lock-at desk n hs F small p (omega arith) m in
-            let q = add-cell K (h .class) class (h .mode) mode (rw (lock .class) at lh) lc _ now (D .drawn hs F small locks mb) in
-            rw (lock .class, lock .mode, add-one)
+            let q = add-cell K (h .class) class (heldAs (h .mode)) mode (rw (lock .class) at lh) lc _ now (D .drawn hs F small locks mb) in
+            rw (lock .class, lock .held-as, add-one)
             (same-dependencies _ (λ f t k. locks f t k || drawnFrom (take (suc p) hs) class mode f t k)
             (λ f t k.
-            regroup (locks f t k) (eqb t class) (sameSecond (k .second) (secondBy mode))
+            rw (lt-leb heldModes mode waits)
+            (ap (λ (x : First). (locks f t k || drawnWaiting (take p hs) f t k) || (eqb f (h .class) && (eqb t class && (sameSecond (k .second) (secondBy mode) && sameFirst (k .first) x))))
+            (first-held (h .mode))
+            ∙ regroup (locks f t k) (eqb t class) (sameSecond (k .second) (secondBy mode))
             (someHeld f (λ h. sameFirst (k .first) (firstOf h)) (take p hs)) (eqb f (h .class)) (sameFirst (k .first) (firstOf h))
             ∙ ap (λ (x : Bool). locks f t k || ((eqb t class && sameSecond (k .second) (secondBy mode)) && x))
-            (sym (one-more f (λ h. sameFirst (k .first) (firstOf h)) hs p (omega arith))))
+            (sym (one-more f (λ h. sameFirst (k .first) (firstOf h)) hs p (omega arith)))))
             q);
       }
 

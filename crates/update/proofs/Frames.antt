@@ -1,78 +1,151 @@
--- A frame's bytes after a lock is held or released. Assumes nothing.
+-- A frame's bytes and origin bits after a lock is held or released. Assumes nothing.
 use mathlib.Core.Path.{_≡_, refl, sym, ap, _∙_}
-use mathlib.Core.List.{List, [], _∷_, _++_}
+use mathlib.Core.List.{List, [], _∷_, _++_, map}
 use mathlib.Core.Logic.{_⊎_, inl, inr, ⊎-elim}
-use Prim.Native.Nat.{ℕ, zero, suc, _+_, _*_, _-_, _<_, _≤_}
+use Prim.Native.Nat.{ℕ, zero, suc, _+_, _*_, _-_, _/_, _%_, _^_, _<_, _≤_}
 use native.Mathlib.Nat.{le-of-suc-le-suc, not-suc-le-zero}
 use native.Mathlib.Decide.{ℕ-discrete, decLt}
 use native.Mathlib.Omega.{arith}
 use lib.ListN.{length, getD, set, length-set, length-append}
 use lib.Seq.{getD-set-same, getD-set-other}
-use Rattle.rules.specs.Limits.{maxDepth}
-use Rattle.rules.specs.HeldLocks.{HeldLock}
-use Rattle.layout.specs.Layout.{frameCount, deskSize, depthsAt, heldAt, depthOf}
-use Rattle.layout.specs.Encoding.{heldByte, heldByteAt}
-use Rattle.update.specs.Update.{FrameBytes, Pushed, removeAt, Removed}
+use borrow.Author.Tests.{le-leb, lt-leb}
+use Rattle.words.specs.Bits.{flag}
+use Rattle.rules.specs.Limits.{maxDepth, heldModes, modeCount}
+use Rattle.rules.specs.HeldLocks.{HeldLock, isTry}
+use Rattle.layout.specs.Layout.{frameCount, originsAt, originBits, originBytes, deskSize, depthsAt, heldAt, depthOf, heldOf, originBit, originOf}
+use Rattle.layout.specs.Encoding.{heldByte, heldOrigin, EightBits}
+use Rattle.origins.specs.Origins.{OriginPut}
+use Rattle.update.specs.Update.{FrameBytes, Pushed, removeAt, OriginsMoved, Removed}
 
--- The byte at place p of a list with one lock more.
-byte-inside : (hs : List HeldLock) (h : HeldLock) (p : ℕ) → (p ≡ length hs → ⊥) → heldByteAt (hs ++ (h ∷ [])) p ≡ heldByteAt hs p
-byte-inside [] h zero n = absurd (n refl)
-byte-inside [] h (suc p) n = refl
-byte-inside (x ∷ hs) h zero n = refl
-byte-inside (x ∷ hs) h (suc p) n = byte-inside hs h p (λ e. n (ap suc e))
+-- ---- What the places of a frame say, f being what a byte or a bit says of its lock: with one lock more, and with the lock at place q gone.
 
-byte-last : (hs : List HeldLock) (h : HeldLock) (p : ℕ) → p ≡ length hs → heldByteAt (hs ++ (h ∷ [])) p ≡ heldByte h
-byte-last [] h p e = rw e refl
-byte-last (x ∷ hs) h zero e = absurd (omega arith)
-byte-last (x ∷ hs) h (suc p) e = byte-last hs h p (omega arith)
+module _ (f : HeldLock → ℕ) where
+  abbrev at : List HeldLock → ℕ → ℕ
+  at hs p = getD (map f hs) p 0
+
+  at-inside : (hs : List HeldLock) (h : HeldLock) (p : ℕ) → (p ≡ length hs → ⊥) → at (hs ++ (h ∷ [])) p ≡ at hs p
+  at-inside [] h zero n = absurd (n refl)
+  at-inside [] h (suc p) n = refl
+  at-inside (x ∷ hs) h zero n = refl
+  at-inside (x ∷ hs) h (suc p) n = at-inside hs h p (λ e. n (ap suc e))
+
+  at-last : (hs : List HeldLock) (h : HeldLock) → at (hs ++ (h ∷ [])) (length hs) ≡ f h
+  at-last [] h = refl
+  at-last (x ∷ hs) h = at-last hs h
+
+  at-below : (q : ℕ) (hs : List HeldLock) (p : ℕ) → p < q → at (removeAt q hs) p ≡ at hs p
+  at-below q [] p l = refl
+  at-below zero (h ∷ hs) p l = absurd (not-suc-le-zero l)
+  at-below (suc q) (h ∷ hs) zero l = refl
+  at-below (suc q) (h ∷ hs) (suc p) l = at-below q hs p (le-of-suc-le-suc l)
+
+  at-above : (q : ℕ) (hs : List HeldLock) (p : ℕ) → q ≤ p → at (removeAt q hs) p ≡ at hs (suc p)
+  at-above q [] p l = refl
+  at-above zero (h ∷ hs) p l = refl
+  at-above (suc q) (h ∷ hs) zero l = absurd (not-suc-le-zero l)
+  at-above (suc q) (h ∷ hs) (suc p) l = at-above q hs p (le-of-suc-le-suc l)
+
+  at-past : (hs : List HeldLock) (p : ℕ) → length hs ≤ p → at hs p ≡ 0
+  at-past [] p l = refl
+  at-past (h ∷ hs) zero l = absurd (not-suc-le-zero l)
+  at-past (h ∷ hs) (suc p) l = at-past hs p (le-of-suc-le-suc l)
+
+  module _ (hs : List HeldLock) (before after : ℕ → ℕ) (is : (p : ℕ) → p < maxDepth → before p ≡ at hs p) where
+    with-more : (h : HeldLock) → after (length hs) ≡ f h → ((p : ℕ) → p < maxDepth → (p ≡ length hs → ⊥) → after p ≡ before p)
+        → (p : ℕ) → p < maxDepth → after p ≡ at (hs ++ (h ∷ [])) p
+    with-more h there else p l =
+        elim (ℕ-discrete p (length hs)) [
+          | yes e ↦ rw e (there ∙ sym (at-last hs h))
+          | no n ↦ else p l n ∙ is p l ∙ sym (at-inside hs h p n)
+        ]
+
+    with-less : (q last : ℕ) → suc last ≡ length hs → length hs ≤ maxDepth → ((p : ℕ) → q ≤ p → p < last → after p ≡ before (suc p)) → after last ≡ 0
+        → ((p : ℕ) → p < maxDepth → (p < q) ⊎ (last < p) → after p ≡ before p) → (p : ℕ) → p < maxDepth → after p ≡ at (removeAt q hs) p
+    with-less q last e few moved freed kept p l =
+        elim (decLt p q) [
+          | yes h ↦ kept p l (inl h) ∙ is p l ∙ sym (at-below q hs p h)
+          | no h ↦ behind (omega arith) (decLt p last) (ℕ-discrete p last) ∙ sym (at-above q hs p (omega arith))
+        ]
+      where
+        -- Places from q on say what the place behind them did, and past the last lock that is nothing.
+        behind : q ≤ p → Dec (p < last) → Dec (p ≡ last) → after p ≡ at hs (suc p)
+        behind lo (yes h) z = moved p lo h ∙ is (suc p) (omega arith)
+        behind lo (no h) (yes z) = rw z (freed ∙ sym (at-past hs (suc last) (omega arith)))
+        behind lo (no h) (no z) = kept p l (inr (omega arith)) ∙ is p l ∙ at-past hs p (omega arith) ∙ sym (at-past hs (suc p) (omega arith))
+
+-- Bits of equal bytes are equal.
+pub same-bits : (x y : List ℕ) → ((j : ℕ) → originsAt ≤ j → getD x j 0 ≡ getD y j 0) → (k : ℕ) → originBit x k ≡ originBit y k
+same-bits x y e k = ap (λ (b : ℕ). b / 2 ^ (k % 8) % 2) (e (originsAt + k / 8) (omega arith))
+
+-- ---- A lock is held.
+
+-- The origin bit of a mode.
+try-digit : (mode : ℕ) → mode < modeCount → mode / heldModes ≡ flag (isTry mode)
+try-digit mode l =
+    elim (decLt mode heldModes) [
+      | yes h ↦ rw (lt-leb heldModes mode h) (omega arith)
+      | no h ↦ rw (le-leb heldModes mode (omega arith)) (omega arith)
+    ]
 
 module _ (desk : List ℕ) (n : ℕ) (long : deskSize ≤ length desk) (inside : n < frameCount) (room : depthOf desk n < maxDepth) where
-  pub push-law : (class mode : ℕ)
+  pub push-law : (put : List ℕ) (class mode : ℕ) → mode < modeCount → OriginPut desk (maxDepth * n + depthOf desk n) (mode / heldModes) put
       → Pushed desk n class mode
-      (set (set desk (heldAt + maxDepth * n + depthOf desk n) (class + 64 * mode)) (depthsAt + n) (depthOf desk n + 1))
-  push-law class mode =
+      (set (set put (heldAt + maxDepth * n + depthOf desk n) (class + 64 * (mode % heldModes))) (depthsAt + n) (depthOf desk n + 1))
+  push-law put class mode lm P =
       record {
-        keeps = record { long = simp length-set; else = λ j nd out. other j nd (⊎-elim (λ l e. omega arith) (λ l e. omega arith) out) };
-        frame = λ hs F. record { depth = depth hs F; held = held hs F };
+        keeps = record {
+          long = simp length-set (P .long);
+          else = λ j nd out in-bytes.
+              other j nd (⊎-elim (λ l e. omega arith) (λ l e. omega arith) out)
+              ∙ P .else j (⊎-elim (λ l e. omega arith) (λ l e. omega arith) in-bytes);
+          origins = λ k out. bits k ∙ P .others k (⊎-elim (λ l e. omega arith) (λ l e. omega arith) out);
+          eight = λ E b l.
+              let far = other (originsAt + b) (omega arith) (omega arith) in
+              elim (ℕ-discrete b (i / 8)) [
+                | yes e ↦ rw (far, e) (P .eight)
+                | no ne ↦ rw (far, P .else (originsAt + b) (λ e. ne (omega arith))) (E b l)
+              ];
+        };
+        frame = λ hs F.
+            let d = F .depth in
+            record {
+              depth =
+                  let a = length-set put (heldAt + maxDepth * n + depthOf desk n) v in
+                  let k = length-append hs (h ∷ []) in
+                  getD-set-same once (depthsAt + n) (depthOf desk n + 1) 0 (omega (arith, P .long)) ∙ omega arith;
+              held = with-more heldByte hs (heldOf desk n) (λ p. heldOf after n p) (F .held) h
+                  (rw (← d)
+                  (getD-set-other once (depthsAt + n) (heldAt + maxDepth * n + depthOf desk n) (depthOf desk n + 1) 0 (omega arith)
+                  ∙ getD-set-same put (heldAt + maxDepth * n + depthOf desk n) v 0 (omega (arith, P .long))))
+                  (λ p l ne. other (heldAt + maxDepth * n + p) (omega arith) (λ e. ne (omega arith)) ∙ P .else (heldAt + maxDepth * n + p) (omega arith));
+              origins = with-more heldOrigin hs (originOf desk n) (λ p. originOf after n p) (F .origins) h
+                  (rw (← d) (bits i ∙ P .there ∙ try-digit mode lm))
+                  (λ p l ne. bits (maxDepth * n + p) ∙ P .others (maxDepth * n + p) (λ e. ne (omega arith)));
+            };
       }
     where
-      d : ℕ
-      d = depthOf desk n
+      i : ℕ
+      i = maxDepth * n + depthOf desk n
 
       h : HeldLock
       h = record { class = class; mode = mode }
 
-      once : List ℕ
-      once = set desk (heldAt + maxDepth * n + depthOf desk n) (class + 64 * mode)
+      v : ℕ
+      v = class + 64 * (mode % heldModes)
 
-      other : (j : ℕ) → (j ≡ depthsAt + n → ⊥) → (j ≡ heldAt + maxDepth * n + depthOf desk n → ⊥)
-          → getD (set once (depthsAt + n) (depthOf desk n + 1)) j 0 ≡ getD desk j 0
+      once : List ℕ
+      once = set put (heldAt + maxDepth * n + depthOf desk n) v
+
+      after : List ℕ
+      after = set once (depthsAt + n) (depthOf desk n + 1)
+
+      other : (j : ℕ) → (j ≡ depthsAt + n → ⊥) → (j ≡ heldAt + maxDepth * n + depthOf desk n → ⊥) → getD after j 0 ≡ getD put j 0
       other j nd nh =
           getD-set-other once (depthsAt + n) j (depthOf desk n + 1) 0 nd
-          ∙ getD-set-other desk (heldAt + maxDepth * n + depthOf desk n) j (class + 64 * mode) 0 nh
+          ∙ getD-set-other put (heldAt + maxDepth * n + depthOf desk n) j v 0 nh
 
-      depth : (hs : List HeldLock) → FrameBytes desk n hs
-          → getD (set once (depthsAt + n) (depthOf desk n + 1)) (depthsAt + n) 0 ≡ length (hs ++ (h ∷ []))
-      depth hs F =
-          let l = length-set desk (heldAt + maxDepth * n + depthOf desk n) (class + 64 * mode) in
-          let k = length-append hs (h ∷ []) in
-          let e = F .depth in
-          getD-set-same once (depthsAt + n) (depthOf desk n + 1) 0 (omega arith) ∙ omega arith
-
-      held : (hs : List HeldLock) → FrameBytes desk n hs → (p : ℕ) → p < maxDepth
-          → getD (set once (depthsAt + n) (depthOf desk n + 1)) (heldAt + maxDepth * n + p) 0 ≡ heldByteAt (hs ++ (h ∷ [])) p
-      held hs F p l =
-          elim (ℕ-discrete p (depthOf desk n)) [
-            | yes e ↦
-                rw e
-                (getD-set-other once (depthsAt + n) (heldAt + maxDepth * n + depthOf desk n) (depthOf desk n + 1) 0 (omega arith)
-                ∙ getD-set-same desk (heldAt + maxDepth * n + depthOf desk n) (class + 64 * mode) 0 (omega arith)
-                ∙ sym (byte-last hs h (depthOf desk n) (F .depth)))
-            | no ne ↦
-                other (heldAt + maxDepth * n + p) (λ e. omega arith) (λ e. ne (omega arith))
-                ∙ F .held p l
-                ∙ sym (byte-inside hs h p (λ e. ne (e ∙ sym (F .depth))))
-          ]
+      bits : (k : ℕ) → originBit after k ≡ originBit put k
+      bits = same-bits after put (λ j l. other j (λ e. omega arith) (λ e. omega arith))
 
 -- ---- A release: the locks behind place q move down one.
 
@@ -81,22 +154,60 @@ remove-length q [] l = absurd (not-suc-le-zero l)
 remove-length zero (h ∷ hs) l = refl
 remove-length (suc q) (h ∷ hs) l = ap suc (remove-length q hs (le-of-suc-le-suc l))
 
-byte-below : (q : ℕ) (hs : List HeldLock) (p : ℕ) → p < q → heldByteAt (removeAt q hs) p ≡ heldByteAt hs p
-byte-below q [] p l = refl
-byte-below zero (h ∷ hs) p l = absurd (not-suc-le-zero l)
-byte-below (suc q) (h ∷ hs) zero l = refl
-byte-below (suc q) (h ∷ hs) (suc p) l = byte-below q hs p (le-of-suc-le-suc l)
+-- The origin bits from place q up to place p of frame n have moved down.
+pub record OriginsMoving (before : List ℕ) (n q p : ℕ) (now : List ℕ) : Type 0 where
+  pub long : length now ≡ length before
+  pub from : q ≤ p
+  pub else : (j : ℕ) → (j < originsAt) ⊎ (deskSize ≤ j) → getD now j 0 ≡ getD before j 0
+  pub moved : (r : ℕ) → q ≤ r → r < p → originOf now n r ≡ originOf before n (suc r)
+  pub kept : (k : ℕ) → (k < maxDepth * n + q) ⊎ (maxDepth * n + p ≤ k) → originBit now k ≡ originBit before k
+  pub eight : EightBits before → EightBits now
 
-byte-above : (q : ℕ) (hs : List HeldLock) (p : ℕ) → q ≤ p → heldByteAt (removeAt q hs) p ≡ heldByteAt hs (suc p)
-byte-above q [] p l = refl
-byte-above zero (h ∷ hs) p l = refl
-byte-above (suc q) (h ∷ hs) zero l = absurd (not-suc-le-zero l)
-byte-above (suc q) (h ∷ hs) (suc p) l = byte-above q hs p (le-of-suc-le-suc l)
+pub origins-start : (before : List ℕ) (n q : ℕ) → OriginsMoving before n q q before
+origins-start before n q =
+    record { long = refl; from = omega arith; else = λ j o. refl; moved = λ r lo hi. absurd (omega arith); kept = λ k o. refl; eight = λ E. E }
 
-byte-past : (hs : List HeldLock) (p : ℕ) → length hs ≤ p → heldByteAt hs p ≡ 0
-byte-past [] p l = refl
-byte-past (h ∷ hs) zero l = absurd (not-suc-le-zero l)
-byte-past (h ∷ hs) (suc p) l = byte-past hs p (le-of-suc-le-suc l)
+module _ {before now after : List ℕ} {n q p : ℕ} (M : OriginsMoving before n q p now) (inside : n < frameCount) (room : p < maxDepth) where
+  -- One bit is put at place p.
+  put-else : {d : ℕ} → OriginPut now (maxDepth * n + p) d after → (j : ℕ) → (j < originsAt) ⊎ (deskSize ≤ j) → getD after j 0 ≡ getD before j 0
+  put-else P j o = P .else j (⊎-elim (λ l e. omega arith) (λ l e. omega arith) o) ∙ M .else j o
+
+  put-eight : {d : ℕ} → OriginPut now (maxDepth * n + p) d after → EightBits before → EightBits after
+  put-eight P E b l =
+      elim (ℕ-discrete b ((maxDepth * n + p) / 8)) [
+        | yes e ↦ rw e (P .eight)
+        | no ne ↦ rw (P .else (originsAt + b) (λ e. ne (omega arith))) (M .eight E b l)
+      ]
+
+  pub origins-step : OriginPut now (maxDepth * n + p) (originBit now (maxDepth * n + p + 1)) after → OriginsMoving before n q (p + 1) after
+  origins-step P =
+      let f = M .from in
+      record {
+        long = P .long ∙ M .long;
+        from = omega arith;
+        else = put-else P;
+        moved = λ r lo hi.
+            elim (ℕ-discrete r p) [
+              | yes e ↦
+                  let z : maxDepth * n + p + 1 ≡ maxDepth * n + suc p = omega arith in
+                  rw e (P .there ∙ M .kept (maxDepth * n + p + 1) (inr (omega arith)) ∙ ap (originBit before) z)
+              | no ne ↦ P .others (maxDepth * n + r) (λ e. ne (omega arith)) ∙ M .moved r lo (omega arith)
+            ];
+        kept = λ k o. P .others k (⊎-elim (λ l e. omega arith) (λ l e. omega arith) o) ∙ M .kept k (⊎-elim inl (λ l. inr (omega arith)) o);
+        eight = put-eight P;
+      }
+
+  pub origins-done : OriginPut now (maxDepth * n + p) 0 after → OriginsMoved before n q p after
+  origins-done P =
+      let f = M .from in
+      record {
+        long = P .long ∙ M .long;
+        else = put-else P;
+        moved = λ r lo hi. P .others (maxDepth * n + r) (λ e. omega arith) ∙ M .moved r lo hi;
+        freed = P .there;
+        kept = λ k o. P .others k (⊎-elim (λ l e. omega arith) (λ l e. omega arith) o) ∙ M .kept k (⊎-elim inl (λ l. inr (omega arith)) o);
+        eight = put-eight P;
+      }
 
 -- The bytes from place q up to place p of frame n have moved down.
 pub record Moving (before : List ℕ) (n q p : ℕ) (now : List ℕ) : Type 0 where
@@ -127,66 +238,63 @@ moving-step before now n q p m l =
     }
 
 module _ (before : List ℕ) (n q : ℕ) (long : deskSize ≤ length before) (inside : n < frameCount) (few : depthOf before n ≤ maxDepth) (there : q < depthOf before n) where
-  pub remove-law : (now : List ℕ) (last : ℕ) → suc last ≡ depthOf before n → Moving before n q last now
-      → Removed before n q (set (set now (heldAt + maxDepth * n + last) 0) (depthsAt + n) last)
-  remove-law now last is m =
+  pub remove-law : (now : List ℕ) (last : ℕ) → suc last ≡ depthOf before n → Moving before n q last now → (after : List ℕ)
+      → OriginsMoved (set (set now (heldAt + maxDepth * n + last) 0) (depthsAt + n) last) n q last after → Removed before n q after
+  remove-law now last is m after O =
       record {
         keeps = record {
-          long = simp length-set (m .long);
-          else = λ j nd o.
-              other j nd (⊎-elim (λ l e. omega arith) (λ l e. omega arith) o)
+          long = O .long ∙ simp length-set (m .long);
+          else = λ j nd o in-bytes.
+              O .else j in-bytes
+              ∙ other j nd (⊎-elim (λ l e. omega arith) (λ l e. omega arith) o)
               ∙ m .else j (⊎-elim (λ l. inl (omega arith)) (λ l. inr (omega arith)) o);
+          origins = λ k o. O .kept k (⊎-elim (λ l. inl (omega arith)) (λ l. inr (omega arith)) o) ∙ bits k;
+          eight = λ E. O .eight (λ b l. rw (far (originsAt + b) (omega arith)) (E b l));
         };
-        frame = λ hs F. record { depth = depth hs F; held = held hs F };
+        frame = λ hs F.
+            let d = F .depth in
+            record {
+              depth =
+                  let l = length-set now (heldAt + maxDepth * n + last) 0 in
+                  let r = remove-length q hs (omega arith) in
+                  byte (depthsAt + n) (omega arith) ∙ getD-set-same once (depthsAt + n) last 0 (omega (arith, size)) ∙ omega arith;
+              held = with-less heldByte hs (heldOf before n) (λ p. heldOf after n p) (F .held) q last (omega arith) (omega arith)
+                  (λ p lo hi.
+                  let z : heldAt + maxDepth * n + p + 1 ≡ heldAt + maxDepth * n + suc p = omega arith in
+                  byte (heldAt + maxDepth * n + p) (omega arith)
+                  ∙ other (heldAt + maxDepth * n + p) (λ e. omega arith) (λ e. omega arith)
+                  ∙ m .moved (heldAt + maxDepth * n + p) (omega arith) (omega arith)
+                  ∙ ap (λ (j : ℕ). getD before j 0) z)
+                  (byte (heldAt + maxDepth * n + last) (omega arith)
+                  ∙ getD-set-other once (depthsAt + n) (heldAt + maxDepth * n + last) last 0 (omega arith)
+                  ∙ getD-set-same now (heldAt + maxDepth * n + last) 0 0 (omega (arith, size)))
+                  (λ p l o.
+                  byte (heldAt + maxDepth * n + p) (omega arith)
+                  ∙ other (heldAt + maxDepth * n + p) (λ e. omega arith) (⊎-elim (λ l e. omega arith) (λ l e. omega arith) o)
+                  ∙ m .else (heldAt + maxDepth * n + p) (⊎-elim (λ l. inl (omega arith)) (λ l. inr (omega arith)) o));
+              origins = with-less heldOrigin hs (originOf before n) (λ p. originOf after n p) (F .origins) q last (omega arith) (omega arith)
+                  (λ p lo hi. O .moved p lo hi ∙ bits (maxDepth * n + suc p)) (O .freed)
+                  (λ p l o. O .kept (maxDepth * n + p) (⊎-elim (λ l. inl (omega arith)) (λ l. inr (omega arith)) o) ∙ bits (maxDepth * n + p));
+            };
       }
     where
       once : List ℕ
       once = set now (heldAt + maxDepth * n + last) 0
 
+      left : List ℕ
+      left = set once (depthsAt + n) last
+
       size : length now ≡ length before
       size = m .long
 
-      other : (j : ℕ) → (j ≡ depthsAt + n → ⊥) → (j ≡ heldAt + maxDepth * n + last → ⊥) → getD (set once (depthsAt + n) last) j 0 ≡ getD now j 0
+      other : (j : ℕ) → (j ≡ depthsAt + n → ⊥) → (j ≡ heldAt + maxDepth * n + last → ⊥) → getD left j 0 ≡ getD now j 0
       other j nd nh = getD-set-other once (depthsAt + n) j last 0 nd ∙ getD-set-other now (heldAt + maxDepth * n + last) j 0 0 nh
 
-      depth : (hs : List HeldLock) → FrameBytes before n hs → getD (set once (depthsAt + n) last) (depthsAt + n) 0 ≡ length (removeAt q hs)
-      depth hs F =
-          let l = length-set now (heldAt + maxDepth * n + last) 0 in
-          let e = F .depth in
-          let r = remove-length q hs (omega arith) in
-          getD-set-same once (depthsAt + n) last 0 (omega (arith, size)) ∙ omega arith
+      byte : (j : ℕ) → j < originsAt → getD after j 0 ≡ getD left j 0
+      byte j l = O .else j (inl l)
 
-      -- Places from q on have the byte behind them, which past the last lock is 0.
-      behind : (hs : List HeldLock) → FrameBytes before n hs → (p : ℕ) → q ≤ p → p < maxDepth → Dec (p < last) → Dec (p ≡ last)
-          → getD (set once (depthsAt + n) last) (heldAt + maxDepth * n + p) 0 ≡ heldByteAt hs (suc p)
-      behind hs F p lo l (yes h) e =
-          let z : heldAt + maxDepth * n + p + 1 ≡ heldAt + maxDepth * n + suc p = omega arith in
-          other (heldAt + maxDepth * n + p) (λ e. omega arith) (λ e. omega arith)
-          ∙ m .moved (heldAt + maxDepth * n + p) (omega arith) (omega arith)
-          ∙ ap (λ (j : ℕ). getD before j 0) z
-          ∙ F .held (suc p) (omega arith)
-      behind hs F p lo l (no h) (yes e) =
-          let k = F .depth in
-          rw e
-          (getD-set-other once (depthsAt + n) (heldAt + maxDepth * n + last) last 0 (omega arith)
-          ∙ getD-set-same now (heldAt + maxDepth * n + last) 0 0 (omega (arith, size))
-          ∙ sym (byte-past hs (suc last) (omega arith)))
-      behind hs F p lo l (no h) (no e) =
-          let k = F .depth in
-          other (heldAt + maxDepth * n + p) (λ e. omega arith) (λ z. e (omega arith))
-          ∙ m .else (heldAt + maxDepth * n + p) (inr (omega arith))
-          ∙ F .held p l
-          ∙ byte-past hs p (omega arith)
-          ∙ sym (byte-past hs (suc p) (omega arith))
+      far : (j : ℕ) → originsAt ≤ j → getD left j 0 ≡ getD before j 0
+      far j l = other j (λ e. omega arith) (λ e. omega arith) ∙ m .else j (inr (omega arith))
 
-      held : (hs : List HeldLock) → FrameBytes before n hs → (p : ℕ) → p < maxDepth
-          → getD (set once (depthsAt + n) last) (heldAt + maxDepth * n + p) 0 ≡ heldByteAt (removeAt q hs) p
-      held hs F p l =
-          elim (decLt p q) [
-            | yes h ↦
-                other (heldAt + maxDepth * n + p) (λ e. omega arith) (λ e. omega arith)
-                ∙ m .else (heldAt + maxDepth * n + p) (inl (omega arith))
-                ∙ F .held p l
-                ∙ sym (byte-below q hs p h)
-            | no h ↦ behind hs F p (omega arith) l (decLt p last) (ℕ-discrete p last) ∙ sym (byte-above q hs p (omega arith))
-          ]
+      bits : (k : ℕ) → originBit left k ≡ originBit before k
+      bits = same-bits left before far

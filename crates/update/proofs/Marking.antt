@@ -1,5 +1,5 @@
 -- Usage marks set place by place. Assumes nothing.
-use mathlib.Core.Path.{_≡_, refl, sym, ap, _∙_, fun-ext, subst}
+use mathlib.Core.Path.{_≡_, refl, sym, ap, ap₂, _∙_, fun-ext, subst}
 use mathlib.Core.Bool.{Bool, true, false, _&&_, _||_, or-false, and-false}
 use mathlib.Core.List.{List, []}
 use mathlib.Core.Logic.{_⊎_, inr, ⊎-elim}
@@ -12,14 +12,15 @@ use lib.Bits.{bitOr}
 use lib.ListN.{length, getD, set, take, length-set}
 use lib.Seq.{getD-set-same, getD-set-other}
 use borrow.Author.Tests.{eq-eqb, ne-eqb}
-use Rattle.rules.specs.Limits.{maxClasses, maxDepth}
+use Rattle.rules.specs.Limits.{maxClasses, maxDepth, heldModes, modeCount}
 use Rattle.rules.specs.HeldLocks.{HeldLock, someHeld}
 use Rattle.rules.specs.Marks.{Level, Usage, safe, unsafe, Marks, setIn, letterFits}
-use Rattle.layout.specs.Layout.{deskSize, marksAt, heldAt, markOf, heldOf, depthOf}
+use Rattle.layout.specs.Layout.{deskSize, marksAt, heldAt, markOf, heldOf, originOf, depthOf}
 use Rattle.layout.specs.Encoding.{markByte}
 use Rattle.layout.proofs.Flags.{mark-or}
 use Rattle.context.specs.Bits.{marksBy, markBits}
-use Rattle.update.specs.Update.{FrameBytes, SmallClasses, MarkBytes, KeepsUnmarked, Marked}
+use Rattle.update.specs.Update.{FrameBytes, SmallLocks, MarkBytes, KeepsUnmarked, Marked}
+use Rattle.update.proofs.Frames.{same-bits}
 use Rattle.update.proofs.Prefixes.{unheld, one-more, all-places, lock-at}
 
 same-marks : {desk : List ℕ} (m m′ : Marks) → ((c : ℕ) (l : Level) (u : Usage) → m c l u ≡ m′ c l u) → MarkBytes desk m → MarkBytes desk m′
@@ -61,7 +62,7 @@ module _ (class context mode : ℕ) (small : class < maxClasses) where
 -- The locks at the first p places are marked.
 pub record Marking (before : List ℕ) (n context p : ℕ) (now : List ℕ) : Type 0 where
   pub keeps : KeepsUnmarked before now
-  pub marked : (hs : List HeldLock) → FrameBytes before n hs → SmallClasses hs → (marks : Marks) → MarkBytes before marks
+  pub marked : (hs : List HeldLock) → FrameBytes before n hs → SmallLocks hs → (marks : Marks) → MarkBytes before marks
       → MarkBytes now (λ c l u. marks c l u || (setIn l u context && someHeld c (letterFits u) (take p hs)))
 
 module _ (before : List ℕ) (n context : ℕ) where
@@ -80,14 +81,21 @@ module _ (before : List ℕ) (n context : ℕ) where
   regroup false false x true f = refl
   regroup false false x false f = refl
 
-  -- The held bytes are as they were.
-  pub same-held : {p : ℕ} {now : List ℕ} → Marking before n context p now → (q : ℕ) → heldOf now n q ≡ heldOf before n q
+  -- The held bytes and their origins are as they were.
+  same-held : {p : ℕ} {now : List ℕ} → Marking before n context p now → (q : ℕ) → heldOf now n q ≡ heldOf before n q
   same-held M q = M .keeps .else (heldAt + maxDepth * n + q) (inr (omega arith))
+
+  same-origin : {p : ℕ} {now : List ℕ} → Marking before n context p now → (q : ℕ) → originOf now n q ≡ originOf before n q
+  same-origin {now = now} M q = same-bits now before (λ j l. M .keeps .else j (inr (omega arith))) (maxDepth * n + q)
+
+  pub mode-small : {p : ℕ} {now : List ℕ} → Marking before n context p now → (q : ℕ) → heldOf before n q / 64 < heldModes
+      → heldOf now n q / 64 + heldModes * originOf now n q < modeCount
+  mode-small M q l = rw (same-held M q) (omega arith)
 
   pub marking-step : (p : ℕ) (now : List ℕ) → Marking before n context p now → p < depthOf before n → p < maxDepth → deskSize ≤ length before
       → heldOf now n p % 64 < maxClasses
       → Marking before n context (p + 1)
-      (set now (marksAt + heldOf now n p % 64) (bitOr (getD now (marksAt + heldOf now n p % 64) 0) (markBits context (heldOf now n p / 64))))
+      (set now (marksAt + heldOf now n p % 64) (bitOr (getD now (marksAt + heldOf now n p % 64) 0) (markBits context (heldOf now n p / 64 + heldModes * originOf now n p))))
   marking-step p now M l m long lh =
       record {
         keeps = record {
@@ -101,7 +109,8 @@ module _ (before : List ℕ) (n context : ℕ) where
             let inside : p < length hs = omega arith in
             let same = same-held M p in
             let c : heldOf now n p % 64 ≡ h .class = ap (λ (x : ℕ). x % 64) same ∙ lock .class in
-            let k : heldOf now n p / 64 ≡ h .mode = ap (λ (x : ℕ). x / 64) same ∙ lock .mode in
+            let k : heldOf now n p / 64 + heldModes * originOf now n p ≡ h .mode =
+            ap₂ (λ (x y : ℕ). x / 64 + heldModes * y) same (same-origin M p) ∙ lock .mode in
             let size = M .keeps .long in
             let q = add-mark (h .class) context (h .mode) (rw c at lh) _ now (omega arith) (M .marked hs F small marks b) in
             rw (c, k, add-one)

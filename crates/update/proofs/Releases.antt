@@ -13,7 +13,7 @@ use borrow.Author.Tests.{eq-eqb, ne-eqb}
 use Rattle.rules.specs.Limits.{maxDepth}
 use Rattle.rules.specs.HeldLocks.{HeldLock, isHeld, releaseNewest}
 use Rattle.layout.specs.Layout.{heldOf, depthOf}
-use Rattle.update.specs.Update.{FrameBytes, SmallClasses, lastBelow, newestOf, removeAt}
+use Rattle.update.specs.Update.{FrameBytes, SmallLocks, lastBelow, newestOf, removeAt}
 use Rattle.update.proofs.Prefixes.{unheld, lock-at}
 
 -- What `lastBelow` finds.
@@ -63,7 +63,7 @@ pub data NewestCases (c : ℕ) (hs : List HeldLock) : ℕ → Type 0 where
   missing : isHeld c hs ≡ false → NewestCases c hs 0
   present : {q : ℕ} → Newest c hs q → NewestCases c hs (suc q)
 
-pub newest-is : (desk : List ℕ) (n : ℕ) (hs : List HeldLock) → FrameBytes desk n hs → SmallClasses hs → length hs ≤ maxDepth → (c : ℕ)
+pub newest-is : (desk : List ℕ) (n : ℕ) (hs : List HeldLock) → FrameBytes desk n hs → SmallLocks hs → length hs ≤ maxDepth → (c : ℕ)
     → NewestCases c hs (newestOf desk n c)
 unfolding newestOf
 newest-is desk n hs F small few c = by (last-below (λ p. eqb (heldOf desk n p % 64) c) (depthOf desk n))

@@ -1,32 +1,39 @@
 -- What an accepted record does to the bytes, frame by frame.
 use mathlib.Core.Path.{_≡_}
-use mathlib.Core.Bool.{Bool, cond, _&&_, _||_}
+use mathlib.Core.Bool.{Bool, cond, not, _&&_, _||_}
 use mathlib.Core.List.{List, [], _∷_, _++_}
 use mathlib.Core.Logic.{_⊎_}
 use Prim.Native.Nat.{ℕ, zero, suc, _+_, _*_, _%_, _/_, _<_, _≤_}
 use lib.Dec.{eqb}
 use lib.ListN.{length, getD}
-use Rattle.rules.specs.Limits.{maxClasses, maxDepth}
-use Rattle.rules.specs.HeldLocks.{HeldLock, sameFirst, sameSecond, firstOf, secondBy, someHeld}
+use Rattle.rules.specs.Limits.{maxClasses, maxDepth, heldModes, modeCount}
+use Rattle.rules.specs.HeldLocks.{HeldLock, isTry, sameFirst, sameSecond, firstOf, secondBy, someHeld}
 use Rattle.rules.specs.Marks.{Marks, setIn, letterFits}
 use Rattle.rules.specs.Graph.{Dependencies}
-use Rattle.layout.specs.Layout.{frameCount, deskSize, depthsAt, marksAt, heldAt, depthOf, markOf, heldOf, KeepsPast}
-use Rattle.layout.specs.Encoding.{markByte, heldByteAt, SheetBytes}
+use Rattle.layout.specs.Layout.{frameCount, depthsAt, marksAt, heldAt, originsAt, deskSize, depthOf, markOf, heldOf, originBit, originOf, KeepsPast}
+use Rattle.layout.specs.Encoding.{markByte, heldByteAt, originAt, EightBits, SheetBytes}
 
--- The bytes of frame n are the held locks hs.
+-- The bytes and the origin bits of frame n are the held locks hs.
 pub record FrameBytes (desk : List ℕ) (n : ℕ) (hs : List HeldLock) : Type 0 where
   pub depth : depthOf desk n ≡ length hs
   pub held : (p : ℕ) → p < maxDepth → heldOf desk n p ≡ heldByteAt hs p
+  pub origins : (p : ℕ) → p < maxDepth → originOf desk n p ≡ originAt hs p
 
--- Each class fits a held byte.
-abbrev pub SmallClasses : List HeldLock → Type 0
-SmallClasses hs = (p : ℕ) (d : HeldLock) → p < length hs → getD hs p d .class < 64
+-- Each lock fits a held byte and an origin bit.
+pub record SmallLock (h : HeldLock) : Type 0 where
+  pub class : h .class < 64
+  pub mode : h .mode < modeCount
 
--- Only the bytes of frame n may differ.
+abbrev pub SmallLocks : List HeldLock → Type 0
+SmallLocks hs = (p : ℕ) (d : HeldLock) → p < length hs → SmallLock (getD hs p d)
+
+-- Only the bytes of frame n, and its bits among the origins, may differ.
 pub record KeepsElse (n : ℕ) (before after : List ℕ) : Type 0 where
   pub long : length after ≡ length before
   pub else : (j : ℕ) → (j ≡ depthsAt + n → ⊥) → (j < heldAt + maxDepth * n) ⊎ (heldAt + maxDepth * n + maxDepth ≤ j)
-      → getD after j 0 ≡ getD before j 0
+      → (j < originsAt) ⊎ (deskSize ≤ j) → getD after j 0 ≡ getD before j 0
+  pub origins : (k : ℕ) → (k < maxDepth * n) ⊎ (maxDepth * n + maxDepth ≤ k) → originBit after k ≡ originBit before k
+  pub eight : EightBits before → EightBits after
 
 pub record Pushed (before : List ℕ) (n class mode : ℕ) (after : List ℕ) : Type 0 where
   pub keeps : KeepsElse n before after
@@ -46,6 +53,15 @@ removeAt q [] = []
 removeAt zero (h ∷ hs) = hs
 removeAt (suc q) (h ∷ hs) = h ∷ removeAt q hs
 
+-- From place q of frame n on the origin bits move down one, the bit of the last place is 0, and nothing else changes.
+pub record OriginsMoved (before : List ℕ) (n q last : ℕ) (after : List ℕ) : Type 0 where
+  pub long : length after ≡ length before
+  pub else : (j : ℕ) → (j < originsAt) ⊎ (deskSize ≤ j) → getD after j 0 ≡ getD before j 0
+  pub moved : (p : ℕ) → q ≤ p → p < last → originOf after n p ≡ originOf before n (suc p)
+  pub freed : originOf after n last ≡ 0
+  pub kept : (k : ℕ) → (k < maxDepth * n + q) ⊎ (maxDepth * n + last < k) → originBit after k ≡ originBit before k
+  pub eight : EightBits before → EightBits after
+
 pub record Removed (before : List ℕ) (n place : ℕ) (after : List ℕ) : Type 0 where
   pub keeps : KeepsElse n before after
   pub frame : (hs : List HeldLock) → FrameBytes before n hs → FrameBytes after n (removeAt place hs)
@@ -56,16 +72,17 @@ pub record HeldIn (desk : List ℕ) (n K : ℕ) : Type 0 where
   pub frame : n < frameCount
   pub depth : depthOf desk n ≤ maxDepth
   pub class : (p : ℕ) → p < depthOf desk n → heldOf desk n p % 64 < K
-  pub mode : (p : ℕ) → p < depthOf desk n → heldOf desk n p / 64 < 3
+  pub mode : (p : ℕ) → p < depthOf desk n → heldOf desk n p / 64 < heldModes
 
 -- The dependencies that an acquire draws from the held locks hs, as `drawnBy` of the rules has them.
 abbrev pub drawnFrom : List HeldLock → ℕ → ℕ → Dependencies
 drawnFrom hs class mode f t k =
-    eqb t class && sameSecond (k .second) (secondBy mode) && someHeld f (λ h. sameFirst (k .first) (firstOf h)) hs
+    not (isTry mode)
+    && (eqb t class && sameSecond (k .second) (secondBy mode) && someHeld f (λ h. sameFirst (k .first) (firstOf h)) hs)
 
 pub record Drawn (desk : List ℕ) (K n class mode : ℕ) (before after : List ℕ) : Type 0 where
   pub keeps : KeepsPast (K * K) before after
-  pub drawn : (hs : List HeldLock) → FrameBytes desk n hs → SmallClasses hs → (locks : Dependencies) → SheetBytes K locks before
+  pub drawn : (hs : List HeldLock) → FrameBytes desk n hs → SmallLocks hs → (locks : Dependencies) → SheetBytes K locks before
       → SheetBytes K (λ f t k. locks f t k || drawnFrom hs class mode f t k) after
 
 pub record MarkBytes (desk : List ℕ) (marks : Marks) : Type 0 where
@@ -78,5 +95,5 @@ pub record KeepsUnmarked (before after : List ℕ) : Type 0 where
 
 pub record Marked (before : List ℕ) (n state : ℕ) (after : List ℕ) : Type 0 where
   pub keeps : KeepsUnmarked before after
-  pub marked : (hs : List HeldLock) → FrameBytes before n hs → SmallClasses hs → (marks : Marks) → MarkBytes before marks
+  pub marked : (hs : List HeldLock) → FrameBytes before n hs → SmallLocks hs → (marks : Marks) → MarkBytes before marks
       → MarkBytes after (λ c l u. marks c l u || (setIn l u state && someHeld c (letterFits u) hs))

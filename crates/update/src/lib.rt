@@ -3,22 +3,29 @@ use context::kind_bit;
 use context::mark_bits;
 use layout::DEPTHS_AT;
 use layout::HELD_AT;
+use layout::HELD_MODES;
 use layout::MARKS_AT;
 use layout::MAX_DEPTH;
+use origins::origin;
+use origins::put_origin;
 ghost use mathlib.Core.Path.{_≡_};
 ghost use Prim.Native.Nat.{_+_, _*_, _%_, _/_, _<_, _≤_};
 ghost use lib.ListN.{length};
-ghost use Rattle.rules.specs.Limits.{maxDepth};
+ghost use Rattle.rules.specs.Limits.{maxDepth, modeCount};
 ghost use Rattle.layout.specs.Layout.{frameCount, deskSize, depthOf};
-ghost use Rattle.update.specs.Update.{Pushed, newestOf, Removed, HeldIn, Drawn, Marked};
+ghost use Rattle.update.specs.Update.{Pushed, newestOf, OriginsMoved, Removed, HeldIn, Drawn, Marked};
+
+// The modes from here on are tries: what a try adds to the mode in which its lock is held.
+const TRY: usize = HELD_MODES as usize;
 
 // A lock is held in a frame that has room: it is the newest.
 pub fn push(desk: &mut [u8], frame: usize, class: u8, mode: u8)
-    requires { ⌜ (deskSize ≤ length (now desk)) × (frame < frameCount) × (depthOf (now desk) frame < maxDepth) × (class < 64) × (mode < 3) ⌝ }
+    requires { ⌜ (deskSize ≤ length (now desk)) × (frame < frameCount) × (depthOf (now desk) frame < maxDepth) × (class < 64) × (mode < modeCount) ⌝ }
     ensures { λ _. ⌜ Pushed (now (desk .entry)) frame class mode (now (desk .exit)) ⌝ }
 {
     let d = desk[DEPTHS_AT + frame];
-    desk[HELD_AT + MAX_DEPTH * frame + d as usize] = class + 64 * mode;
+    put_origin(desk, MAX_DEPTH * frame + d as usize, mode / HELD_MODES);
+    desk[HELD_AT + MAX_DEPTH * frame + d as usize] = class + 64 * (mode % HELD_MODES);
     desk[DEPTHS_AT + frame] = d + 1;
 }
 
@@ -38,6 +45,20 @@ pub fn newest(desk: &[u8], frame: usize, class: u8) -> usize
     0
 }
 
+// The origin bits of a frame behind a place move down one, and that of the last place is 0.
+fn move_origins(desk: &mut [u8], frame: usize, at: usize, last: usize)
+    requires { ⌜ (deskSize ≤ length (now desk)) × (frame < frameCount) × (at ≤ last) × (last < maxDepth) ⌝ }
+    ensures { λ _. ⌜ OriginsMoved (now (desk .entry)) frame at last (now (desk .exit)) ⌝ }
+{
+    let mut p = at;
+    while p < last {
+        let next = origin(desk, MAX_DEPTH * frame + p + 1);
+        put_origin(desk, MAX_DEPTH * frame + p, next);
+        p += 1;
+    }
+    put_origin(desk, MAX_DEPTH * frame + last, 0);
+}
+
 // The lock at a place is released: later ones move down one.
 pub fn remove(desk: &mut [u8], frame: usize, at: usize)
     requires { ⌜ (deskSize ≤ length (now desk)) × (frame < frameCount) × (depthOf (now desk) frame ≤ maxDepth) × (at < depthOf (now desk) frame) ⌝ }
@@ -51,13 +72,17 @@ pub fn remove(desk: &mut [u8], frame: usize, at: usize)
     }
     desk[HELD_AT + MAX_DEPTH * frame + p] = 0;
     desk[DEPTHS_AT + frame] = last;
+    move_origins(desk, frame, at, last as usize);
 }
 
-// A lock dependency to the acquired class from every lock held in the frame.
+// A lock dependency to the acquired class from every lock held in the frame; none to a try.
 pub fn draw(desk: &[u8], sheet: &mut [u8], k: usize, frame: usize, class: usize, mode: usize)
-    requires { ⌜ HeldIn (now desk) frame k × (k * k ≤ length (now sheet)) × (k ≤ 64) × (class < k) × (mode < 3) ⌝ }
+    requires { ⌜ HeldIn (now desk) frame k × (k * k ≤ length (now sheet)) × (k ≤ 64) × (class < k) × (mode < modeCount) ⌝ }
     ensures { λ _. ⌜ Drawn (now (desk .entry)) k frame class mode (now (sheet .entry)) (now (sheet .exit)) ⌝ }
 {
+    if TRY <= mode {
+        return;
+    }
     let d = desk[DEPTHS_AT + frame] as usize;
     let mut p: usize = 0;
     while p < d {
@@ -77,8 +102,9 @@ pub fn mark(desk: &mut [u8], frame: usize, k: usize, context: usize)
     let mut p: usize = 0;
     while p < d {
         let held = desk[HELD_AT + MAX_DEPTH * frame + p] as usize;
+        let tried = origin(desk, MAX_DEPTH * frame + p) as usize;
         let at = MARKS_AT + held % 64;
-        desk[at] = desk[at] | mark_bits(context, held / 64);
+        desk[at] = desk[at] | mark_bits(context, held / 64 + TRY * tried);
         p += 1;
     }
 }

@@ -18,7 +18,7 @@ use Rattle.layout.specs.Encoding.{DeskBytes, SheetBytes}
 use Rattle.context.proofs.Frames.{frame-less}
 use Rattle.update.specs.Update.{FrameBytes, MarkBytes, Marked}
 use Rattle.update.proofs.Cores.{frame-bytes, marks-changed, closed-changed}
-use Rattle.action.proofs.Bytes.{small-classes}
+use Rattle.action.proofs.Bytes.{small-locks}
 use Rattle.search.specs.Rows.{Rows}
 use Rattle.search.specs.Reports.{Searched}
 use Rattle.search.specs.declared.Found.{Found}
@@ -58,7 +58,7 @@ module _ (desk sheet slip : List ℕ) (core : ℕ) (few : classesOf desk ≤ max
     marked-bytes =
         marks-changed SB (M .keeps)
         (subst (λ (x : ℕ). MarkBytes marked (λ c l u. marks c l u || (setIn l u x && someHeld c (letterFits u) (current (cores core))))) now-is
-        (M .marked (current (cores core)) current-frame (small-classes few (cores core) (valid core) (frameOf (cores core .state))) marks
+        (M .marked (current (cores core)) current-frame (small-locks few (cores core) (valid core) (frameOf (cores core .state))) marks
         (record { usage = SB .usage })))
 
     graph-rows : Rows K graph rows

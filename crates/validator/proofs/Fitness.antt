@@ -3,15 +3,14 @@ use mathlib.Core.Path.{_≡_}
 use mathlib.Core.Bool.{true}
 use mathlib.Core.List.{List}
 use Prim.Native.Nat.{ℕ, _<_}
-use Rattle.rules.specs.Limits.{maxClasses}
-use Rattle.layout.specs.Layout.{markOf}
+use Rattle.layout.specs.Layout.{deskSize, AreBytes}
 use Rattle.layout.specs.Fit.{fits}
 use Rattle.layout.specs.Decoding.{view}
 use Rattle.fit.proofs.Facts.{facts}
 use Rattle.fit.proofs.Fitting.{fit-encodes, fit-valid}
 use Rattle.action.specs.Action.{Cored}
 
-pub fit-cored : (desk sheet : List ℕ) → fits desk sheet ≡ true → ((c : ℕ) → c < maxClasses → markOf desk c < 256) → Cored desk
+pub fit-cored : (desk sheet : List ℕ) → fits desk sheet ≡ true → AreBytes deskSize desk → Cored desk
 fit-cored desk sheet f bytes =
     let s = view desk sheet in
     record {

@@ -8,7 +8,6 @@ use native.Mathlib.Omega.{arith}
 use lib.ListN.{length}
 use borrow.Author.Tests.{eq-eqb, le-leb, lt-leb}
 use Rattle.words.specs.Bits.{flag}
-use Rattle.rules.specs.Limits.{maxClasses}
 use Rattle.rules.specs.Record.{isMalformed, coreOf, eventOf}
 use Rattle.rules.specs.HeldLocks.{Core, afterEvent}
 use Rattle.rules.specs.Marks.{Marks}
@@ -19,7 +18,7 @@ use Rattle.rules.specs.Run.{State, situation, accept, close, Result, step}
 use Rattle.rules.proofs.Steps.{closed-step, refused-number}
 use Rattle.validity.specs.Valid.{ValidCore, Valid}
 use Rattle.validity.proofs.Kept.{valid-accept, valid-close}
-use Rattle.layout.specs.Layout.{deskSize, sheetSize, slipSize, classesOf, closedOf, KeepsPast, markOf}
+use Rattle.layout.specs.Layout.{deskSize, sheetSize, slipSize, classesOf, closedOf, AreBytes, KeepsPast}
 use Rattle.layout.specs.Encoding.{DeskBytes, SheetBytes, Encodes}
 use Rattle.layout.specs.Decoding.{view, StandFor}
 use Rattle.layout.specs.Fit.{fits, fitsAll}
@@ -49,7 +48,7 @@ module _ (desk sheet slip bytes : List ℕ) where
   abbrev K : ℕ
   K = classesOf desk
 
-  module _ (small : (c : ℕ) → c < maxClasses → markOf desk c < 256) (f : fits desk sheet ≡ true) (room : slipSize K ≤ length slip) where
+  module _ (small : AreBytes deskSize desk) (f : fits desk sheet ≡ true) (room : slipSize K ≤ length slip) where
     fit-law : {answer : ℕ} {desk′ sheet′ slip′ : List ℕ}
         → ((s : State) → Valid K s → Encodes K s desk sheet → Validated K s bytes desk sheet slip answer desk′ sheet′ slip′)
         → Stepped desk sheet slip bytes answer desk′ sheet′ slip′

@@ -1,6 +1,6 @@
 -- Opening gives a valid state, and each record leaves a valid state valid. Assumes nothing.
 use mathlib.Core.Path.{_≡_, refl, sym}
-use mathlib.Core.Bool.{Bool, true, false, cond, _&&_, false≢true}
+use mathlib.Core.Bool.{Bool, true, false, cond, not, _&&_, false≢true}
 use mathlib.Core.List.{List, [], _∷_, _++_, List·Memᴰ, List·Memᴰ·head, List·Memᴰ·tail}
 use mathlib.Core.Logic.{⊎-elim}
 use mathlib.Core.Option.{none}
@@ -14,7 +14,7 @@ use Rattle.rules.specs.Limits.{maxDepth, kindCount, modeCount}
 use Rattle.rules.specs.Record.{Bytes, Event, acquire, release, interrupt, eventBy, coreOf, kindOf, classOf, modeOf, eventOf}
 use Rattle.rules.specs.WellFormed.{WellFormed}
 use Rattle.rules.specs.Context.{CoreState, leavesHandler, Frame, soft, hard, frameOf, hardOverSoft, mayHoldSoft, mayHoldHard, taskSoftOff, softHardOn}
-use Rattle.rules.specs.HeldLocks.{First, HeldLock, someHeld, isHeld, releaseNewest, Core, current, withCurrent, afterEvent}
+use Rattle.rules.specs.HeldLocks.{First, HeldLock, isTry, someHeld, isHeld, releaseNewest, Core, current, withCurrent, afterEvent}
 use Rattle.rules.specs.Marks.{Level, hardIrq, softIrq, Usage, unsafe, setIn, letterFits, marksOf}
 use Rattle.rules.specs.Graph.{Kind, Graph, emptyGraph, addTo, drawnBy}
 use Rattle.rules.specs.Verdict.{Refusal, applies, malformed, noClass, noTransition, stillHeld, tooDeep, classMissing, transitionMissing, someLock, leavesLocked, frameFull, refusal}
@@ -168,7 +168,7 @@ module _ (K : ℕ) (c : Core) (v : ValidCore K c) where
 
   drawn-in-range : (ev : Event) → classMissing K ev ≡ false → (f t : ℕ) (k : Kind) → drawnBy ev c f t k ≡ true → (f < K) × (t < K)
   drawn-in-range (acquire a m) n f t k h =
-      let p = and-cases _ _ h in (
+      let p = and-cases _ _ (and-cases (not (isTry m)) _ h .1) in (
         held-in-range K f _ (current c) (v .locks (frameOf (c .state))) (p .1),
         rw (eqb-true t a (and-cases _ _ (p .0) .0)) (leb-false K a n),
       )

@@ -9,8 +9,8 @@ use lib.ListN.{length}
 use borrow.Author.Needs.{needs}
 use borrow.Author.Tests.{le-leb, lt-leb, not-true, not-false}
 use Rattle.rules.specs.Limits.{coreCount, maxClasses}
-use Rattle.layout.specs.Layout.{frameCount, deskSize, sheetSize, classesAt, classesOf, closedOf}
-use Rattle.layout.specs.Fit.{allBelow, coreFits, frameFits, markFits, kindsFit, fits}
+use Rattle.layout.specs.Layout.{frameCount, originBits, deskSize, sheetSize, classesAt, classesOf, closedOf}
+use Rattle.layout.specs.Fit.{allBelow, coreFits, frameFits, originFits, markFits, kindsFit, fits}
 use Rattle.fit.proofs.fits.Statement.{statement}
 use Rattle.fit.proofs.fits.Tie as tie
 
@@ -50,16 +50,22 @@ module _ (desk sheet : List ℕ) where
               bad-frame h = rw (le-leb _ _ long, le-leb _ _ some, le-leb _ _ few, le-leb _ _ square, le-leb _ _ flag, cores, h)
 
               module _ (frames : allBelow frameCount (frameFits (classesOf desk) desk) ≡ true) where
-                bad-mark : allBelow maxClasses (markFits (classesOf desk) desk) ≡ false → false ≡ fits desk sheet
+                bad-origin : allBelow originBits (originFits desk) ≡ false → false ≡ fits desk sheet
                 unfolding fits
-                bad-mark h =
+                bad-origin h =
                     rw (le-leb _ _ long, le-leb _ _ some, le-leb _ _ few, le-leb _ _ square, le-leb _ _ flag, cores, frames, h)
 
-                all-but : allBelow maxClasses (markFits (classesOf desk) desk) ≡ true
-                    → allBelow (sheetSize (classesOf desk)) (kindsFit sheet) ≡ fits desk sheet
-                unfolding fits
-                all-but h =
-                    rw (le-leb _ _ long, le-leb _ _ some, le-leb _ _ few, le-leb _ _ square, le-leb _ _ flag, cores, frames, h)
+                module _ (origins : allBelow originBits (originFits desk) ≡ true) where
+                  bad-mark : allBelow maxClasses (markFits (classesOf desk) desk) ≡ false → false ≡ fits desk sheet
+                  unfolding fits
+                  bad-mark h =
+                      rw (le-leb _ _ long, le-leb _ _ some, le-leb _ _ few, le-leb _ _ square, le-leb _ _ flag, cores, frames, origins, h)
+
+                  all-but : allBelow maxClasses (markFits (classesOf desk) desk) ≡ true
+                      → allBelow (sheetSize (classesOf desk)) (kindsFit sheet) ≡ fits desk sheet
+                  unfolding fits
+                  all-but h =
+                      rw (le-leb _ _ long, le-leb _ _ some, le-leb _ _ few, le-leb _ _ square, le-leb _ _ flag, cores, frames, origins, h)
 
 returns : tie.Need-returns
 returns c = short-desk _ _ (c .if1 .taken)
@@ -112,33 +118,48 @@ returns-7 c =
     (d .before .before .before .before .if4 .left) (d .before .before .if5 .left)
     (sym (d .before .cores-fit .ensures) ∙ not-false _ (d .if6 .left)) (sym (c .before .frames-fit .ensures) ∙ not-true _ (c .if7 .taken))
 
-marks-fit-requires : tie.Need-marks-fit-requires
-marks-fit-requires c κs = search needs
+origins-fit-requires : tie.Need-origins-fit-requires
+origins-fit-requires c κs = search needs
 
 returns-8 : tie.Need-returns-8
 returns-8 c =
     let e = c .before .before in
     let d = e .before .before in
+    bad-origin _ _ (d .before .before .before .before .before .before .before .before .if1 .left)
+    (d .before .before .before .before .before .before .if2 .left) (d .before .before .before .before .before .if3 .left)
+    (d .before .before .before .before .if4 .left) (d .before .before .if5 .left)
+    (sym (d .before .cores-fit .ensures) ∙ not-false _ (d .if6 .left)) (sym (e .before .frames-fit .ensures) ∙ not-false _ (e .if7 .left))
+    (sym (c .before .origins-fit .ensures) ∙ not-true _ (c .if8 .taken))
+
+marks-fit-requires : tie.Need-marks-fit-requires
+marks-fit-requires c κs = search needs
+
+returns-9 : tie.Need-returns-9
+returns-9 c =
+    let o = c .before .before in
+    let e = o .before .before in
+    let d = e .before .before in
     bad-mark _ _ (d .before .before .before .before .before .before .before .before .if1 .left)
     (d .before .before .before .before .before .before .if2 .left) (d .before .before .before .before .before .if3 .left)
     (d .before .before .before .before .if4 .left) (d .before .before .if5 .left)
     (sym (d .before .cores-fit .ensures) ∙ not-false _ (d .if6 .left)) (sym (e .before .frames-fit .ensures) ∙ not-false _ (e .if7 .left))
-    (sym (c .before .marks-fit .ensures) ∙ not-true _ (c .if8 .taken))
+    (sym (o .before .origins-fit .ensures) ∙ not-false _ (o .if8 .left)) (sym (c .before .marks-fit .ensures) ∙ not-true _ (c .if9 .taken))
 
 kinds-fit-requires : tie.Need-kinds-fit-requires
 kinds-fit-requires c κs = search needs
 
-returns-9 : tie.Need-returns-9
-returns-9 c =
+returns-10 : tie.Need-returns-10
+returns-10 c =
     let f = c .before in
-    let e = f .before .before in
+    let o = f .before .before in
+    let e = o .before .before in
     let d = e .before .before in
     c .kinds-fit .ensures
     ∙ all-but _ _ (d .before .before .before .before .before .before .before .before .if1 .left)
     (d .before .before .before .before .before .before .if2 .left) (d .before .before .before .before .before .if3 .left)
     (d .before .before .before .before .if4 .left) (d .before .before .if5 .left)
     (sym (d .before .cores-fit .ensures) ∙ not-false _ (d .if6 .left)) (sym (e .before .frames-fit .ensures) ∙ not-false _ (e .if7 .left))
-    (sym (f .before .marks-fit .ensures) ∙ not-false _ (f .if8 .left))
+    (sym (o .before .origins-fit .ensures) ∙ not-false _ (o .if8 .left)) (sym (f .before .marks-fit .ensures) ∙ not-false _ (f .if9 .left))
 
 pub fits-spec : {M : Type 1} → statement M
 fits-spec =
@@ -157,7 +178,9 @@ fits-spec =
     returns-6
     frames-fit-requires
     returns-7
-    marks-fit-requires
+    origins-fit-requires
     returns-8
+    marks-fit-requires
+    returns-9
     kinds-fit-requires
-    returns-9)
+    returns-10)

@@ -4,7 +4,6 @@ use borrow.Author.Tests.{not-true, not-false}
 use Rattle.fit.proofs.Facts.{facts}
 use Rattle.question.proofs.Asks.{asked-unfit, asked-no-class, asked-answered}
 use Prim.Native.Nat.{_+_}
-use Rattle.layout.specs.Layout.{marksAt}
 use borrow.Author.Needs.{needs}
 use Rattle.question.proofs.ask.Statement.{statement}
 use Rattle.question.proofs.ask.Tie as tie
@@ -49,7 +48,7 @@ count-requires : tie.Need-count-requires
 count-requires c κs = search needs
 
 returns-3 : tie.Need-returns-3
-returns-3 c = asked-answered _ _ _ _ _ _ (λ k l. omega (arith, c .before .before .before .before .before .before .before .before .before .shared-slice-known .given (marksAt + k))) (sym (c .before .before .before .before .before .before .before .fits2 .ensures) ∙ not-false _ (c .before .before .before .before .before .before .if1 .left)) (c .before .before .before .before .if2 .left) (c .before .before .before .successors .ensures) (c .before .reach .ensures) (c .count .ensures .0)
+returns-3 c = asked-answered _ _ _ _ _ _ (λ k l. omega (arith, c .before .before .before .before .before .before .before .before .before .shared-slice-known .given k)) (sym (c .before .before .before .before .before .before .before .fits2 .ensures) ∙ not-false _ (c .before .before .before .before .before .before .if1 .left)) (c .before .before .before .before .if2 .left) (c .before .before .before .successors .ensures) (c .before .reach .ensures) (c .count .ensures .0)
 
 pub ask-spec : {M : Type 1} → statement M
 ask-spec =

@@ -4,7 +4,7 @@ use Rattle.layout.specs.Layout.{heldAt, heldOf}
 use Prim.Native.Nat.{_≤_, _-_}
 use native.Mathlib.Omega.{arith}
 use Rattle.layout.proofs.Buffers.{cell-inside}
-use Rattle.update.proofs.Drawing.{Drawing, drawing-start, drawing-step, drawing-done}
+use Rattle.update.proofs.Drawing.{Drawing, drawn-none, drawing-start, drawing-step, drawing-done}
 use Rattle.update.proofs.draw.Statement.{statement}
 use Rattle.update.proofs.draw.Tie as tie
 use Rattle.update.proofs.draw.Reads as reads
@@ -17,6 +17,9 @@ Inv-loop desk sheet₀ k frame class mode d p₀ sheet p = (p ≤ d) × Drawing 
 abbrev μ-loop : tie.MeasureT-loop
 μ-loop desk sheet₀ k frame class mode d p₀ sheet p = d - p
 
+returns : tie.Need-returns Inv-loop μ-loop
+returns c = drawn-none _ _ _ _ _ _ (c .if1 .taken)
+
 add-d : tie.Need-add-d Inv-loop μ-loop
 add-d c = omega arith
 
@@ -27,7 +30,7 @@ cast-d : tie.Need-cast-d Inv-loop μ-loop
 cast-d c = omega arith
 
 loop-holds : tie.Need-loop-holds Inv-loop μ-loop
-loop-holds c = (omega arith, drawing-start _ _ _ _ _ _)
+loop-holds c = (omega arith, drawing-start _ _ _ _ _ _ (c .before .if1 .left))
 
 mul-held : tie.Need-mul-held Inv-loop μ-loop
 mul-held c = omega arith
@@ -42,44 +45,44 @@ shared-slice-read-held : tie.Need-shared-slice-read-held Inv-loop μ-loop
 shared-slice-read-held c = omega arith
 
 cast-held : tie.Need-cast-held Inv-loop μ-loop
-cast-held c = omega (arith, c .shared-slice-known3 .given (heldAt + maxDepth * c .before .before .before .before .before .before .args .frame + c .before .before .loop .p))
+cast-held c = omega (arith, c .shared-slice-known3 .given (heldAt + maxDepth * c .before .before .before .before .before .before .before .args .frame + c .before .before .loop .p))
 
 mul-at : tie.Need-mul-at Inv-loop μ-loop
 mul-at c =
-    let p = c .before .before .before .before .before .before .pre in
+    let p = c .before .before .before .before .before .before .before .pre in
     let l = c .before .before .loop in
-    let a = c .before .before .before .before .before .before .args in
+    let a = c .before .before .before .before .before .before .before .args in
     let h = cell-inside (a .k) (heldOf (a .desk .now) (a .frame) (l .p) % 64) (a .class) (p .0 .class (l .p) (omega arith)) (p .3) in
     omega arith
 
 add-at : tie.Need-add-at Inv-loop μ-loop
 add-at c =
-    let p = c .before .before .before .before .before .before .pre in
+    let p = c .before .before .before .before .before .before .before .pre in
     let l = c .before .before .loop in
-    let a = c .before .before .before .before .before .before .args in
+    let a = c .before .before .before .before .before .before .before .args in
     let h = cell-inside (a .k) (heldOf (a .desk .now) (a .frame) (l .p) % 64) (a .class) (p .0 .class (l .p) (omega arith)) (p .3) in
     omega arith
 
 slice-read-sheet : tie.Need-slice-read-sheet Inv-loop μ-loop
 slice-read-sheet c =
-    let p = c .before .before .before .before .before .before .before .pre in
+    let p = c .before .before .before .before .before .before .before .before .pre in
     let l = c .before .before .before .loop in
-    let a = c .before .before .before .before .before .before .before .args in
+    let a = c .before .before .before .before .before .before .before .before .args in
     let h = cell-inside (a .k) (heldOf (a .desk .now) (a .frame) (l .p) % 64) (a .class) (p .0 .class (l .p) (omega arith)) (p .3) in
     omega (arith, l .inv .1 .keeps .long, p .1)
 
 kind-bit-requires : tie.Need-kind-bit-requires Inv-loop μ-loop
 kind-bit-requires c κs =
-    let p = c .before .before .before .before .before .before .before .pre in
+    let p = c .before .before .before .before .before .before .before .before .pre in
     let l = c .before .before .before .loop in
-    let a = c .before .before .before .before .before .before .before .args in
-    (p .0 .mode (l .p) (omega arith), p .4)
+    let a = c .before .before .before .before .before .before .before .before .args in
+    (p .0 .mode (l .p) (omega arith), c .before .before .before .before .before .if1 .left)
 
 slice-write-sheet : tie.Need-slice-write-sheet Inv-loop μ-loop
 slice-write-sheet c =
-    let p = c .before .before .before .before .before .before .before .before .pre in
+    let p = c .before .before .before .before .before .before .before .before .before .pre in
     let l = c .before .before .before .before .loop in
-    let a = c .before .before .before .before .before .before .before .before .args in
+    let a = c .before .before .before .before .before .before .before .before .before .args in
     let h = cell-inside (a .k) (heldOf (a .desk .now) (a .frame) (l .p) % 64) (a .class) (p .0 .class (l .p) (omega arith)) (p .3) in
     omega (arith, l .inv .1 .keeps .long, p .1)
 
@@ -91,18 +94,18 @@ loop-less c = omega arith
 
 loop-again : tie.Need-loop-again Inv-loop μ-loop
 loop-again c =
-    let p = c .before .before .before .before .before .before .before .before .pre in
+    let p = c .before .before .before .before .before .before .before .before .before .pre in
     let l = c .before .before .before .before .loop in (
       omega arith,
       rw (c .kind-bit .ensures)
-          (drawing-step _ _ _ _ _ _ (l .p) _ (l .inv .1) (omega arith) (omega (arith, p .0 .depth)) (p .3) (p .0 .class (l .p) (omega arith)) (p .1)),
+          (drawing-step _ _ _ _ _ _ (c .before .before .before .before .before .before .if1 .left) (l .p) _ (l .inv .1) (omega arith) (omega (arith, p .0 .depth)) (p .3) (p .0 .class (l .p) (omega arith)) (p .1)),
     )
 
 same-length : tie.Need-same-length Inv-loop μ-loop
 same-length c = c .before .loop .inv .1 .keeps .long
 
-returns : tie.Need-returns Inv-loop μ-loop
-returns c = drawing-done _ _ _ _ _ _ _ _ (c .before .loop .inv .1) (omega arith)
+returns-2 : tie.Need-returns-2 Inv-loop μ-loop
+returns-2 c = drawing-done _ _ _ _ _ _ (c .before .before .before .if1 .left) _ _ (c .before .loop .inv .1) (omega arith)
 
 pub draw-spec : {M : Type 1} → statement M
 draw-spec =
@@ -110,6 +113,7 @@ draw-spec =
     (tie.spec
     Inv-loop
     μ-loop
+    returns
     add-d
     shared-slice-read-d
     cast-d
@@ -128,4 +132,4 @@ draw-spec =
     loop-less
     loop-again
     same-length
-    returns)
+    returns-2)

@@ -2,12 +2,13 @@ use Prim.Native.Nat.{_≤_, _-_, _+_, _*_}
 use native.Mathlib.Omega.{arith}
 use Rattle.rules.specs.Limits.{maxDepth}
 use Rattle.layout.specs.Layout.{heldAt}
-use Rattle.update.proofs.Marking.{Marking, same-held, marking-start, marking-step, marking-done}
+use Rattle.update.proofs.Marking.{Marking, mode-small, marking-start, marking-step, marking-done}
 use Rattle.update.proofs.mark.Statement.{statement}
 use Rattle.update.proofs.mark.Tie as tie
 use Rattle.update.proofs.mark.Reads as reads
 use Rattle.update.proofs.mark.Lts as lts
 use Rattle.context.proofs.mark_bits.Reads as mark-bits-reads
+use Rattle.origins.proofs.origin.Reads as origin-reads
 
 abbrev Inv-loop : tie.InvT-loop
 Inv-loop desk₀ frame k context d p₀ desk p = (p ≤ d) × Marking desk₀ frame context p desk
@@ -42,18 +43,42 @@ slice-read-held c = omega arith
 cast-held : tie.Need-cast-held Inv-loop μ-loop
 cast-held c = omega (arith, c .slice-known3 .given (heldAt + maxDepth * c .before .before .before .before .before .args .frame + c .before .before .loop .p))
 
+mul-origin : tie.Need-mul-origin Inv-loop μ-loop
+mul-origin c = omega arith
+
+add-origin : tie.Need-add-origin Inv-loop μ-loop
+add-origin c = omega arith
+
+origin-requires : tie.Need-origin-requires Inv-loop μ-loop
+origin-requires c κs =
+    let l = c .before .before .before .loop in
+    let p = c .before .before .before .before .before .before .pre in
+    (omega (arith, l .inv .1 .keeps .long, p .0 .long), omega (arith, p .0 .frame, p .0 .depth))
+
+cast-tried : tie.Need-cast-tried Inv-loop μ-loop
+cast-tried c = rw (c .origin .ensures) (omega arith)
+
 add-at : tie.Need-add-at Inv-loop μ-loop
 add-at c = omega arith
 
 slice-read-desk : tie.Need-slice-read-desk Inv-loop μ-loop
 slice-read-desk c = omega arith
 
+mul-mark-bits : tie.Need-mul-mark-bits Inv-loop μ-loop
+mul-mark-bits c = rw (c .before .origin .ensures) (omega arith)
+
+add-mark-bits : tie.Need-add-mark-bits Inv-loop μ-loop
+add-mark-bits c =
+    let l = c .before .before .before .before .before .loop in
+    let p = c .before .before .before .before .before .before .before .before .pre in
+    let h = mode-small _ _ _ (l .inv .1) (l .p) (p .0 .mode (l .p) (omega arith)) in
+    rw (c .before .origin .ensures) (omega arith)
+
 mark-bits-requires : tie.Need-mark-bits-requires Inv-loop μ-loop
 mark-bits-requires c κs =
-    let p = c .before .before .before .before .before .before .pre in
-    let l = c .before .before .before .loop in
-    let same = same-held _ _ _ (l .inv .1) (l .p) in
-    (p .2, rw same (p .0 .mode (l .p) (omega arith)))
+    let l = c .before .before .before .before .before .loop in
+    let p = c .before .before .before .before .before .before .before .before .pre in
+    (p .2, rw (c .before .origin .ensures) (mode-small _ _ _ (l .inv .1) (l .p) (p .0 .mode (l .p) (omega arith))))
 
 slice-write-desk : tie.Need-slice-write-desk Inv-loop μ-loop
 slice-write-desk c = omega arith
@@ -66,10 +91,10 @@ loop-less c = omega arith
 
 loop-again : tie.Need-loop-again Inv-loop μ-loop
 loop-again c =
-    let p = c .before .before .before .before .before .before .before .pre in
-    let l = c .before .before .before .before .loop in (
+    let p = c .before .before .before .before .before .before .before .before .before .pre in
+    let l = c .before .before .before .before .before .before .loop in (
       omega arith,
-      rw (c .mark-bits .ensures)
+      rw (c .mark-bits .ensures, c .before .before .origin .ensures)
           (marking-step _ _ _ (l .p) _ (l .inv .1) (omega arith) (omega (arith, p .0 .depth)) (p .0 .long) (omega arith)),
     )
 
@@ -94,8 +119,14 @@ mark-spec =
     add-held-2
     slice-read-held
     cast-held
+    mul-origin
+    add-origin
+    origin-requires
+    cast-tried
     add-at
     slice-read-desk
+    mul-mark-bits
+    add-mark-bits
     mark-bits-requires
     slice-write-desk
     add-p

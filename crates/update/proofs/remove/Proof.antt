@@ -1,7 +1,7 @@
 use Prim.Native.Nat.{_≤_, _<_, _-_}
 use native.Mathlib.Omega.{arith}
 use lib.ListN.{length-set}
-use mathlib.Core.Path.{_≡_}
+use mathlib.Core.Path.{_≡_, _∙_}
 use Rattle.rules.specs.Limits.{maxDepth}
 use Rattle.layout.specs.Layout.{depthOf}
 use Rattle.update.proofs.Frames.{Moving, moving-start, moving-step, remove-law}
@@ -9,6 +9,7 @@ use Rattle.update.proofs.remove.Statement.{statement}
 use Rattle.update.proofs.remove.Tie as tie
 use Rattle.update.proofs.remove.Reads as reads
 use Rattle.update.proofs.remove.Lts as lts
+use Rattle.update.proofs.move_origins.Reads as move-origins-reads
 
 abbrev Inv-loop : tie.InvT-loop
 Inv-loop desk₀ frame at last p₀ desk p = Moving desk₀ frame at p desk × (p ≤ last) × (last < maxDepth)
@@ -88,15 +89,25 @@ add-desk-8 c = omega arith
 slice-write-desk-3 : tie.Need-slice-write-desk-3 Inv-loop μ-loop
 slice-write-desk-3 c = simp length-set (omega (arith, c .before .loop .inv .0 .long))
 
+cast-move-origins : tie.Need-cast-move-origins Inv-loop μ-loop
+cast-move-origins c = omega arith
+
+move-origins-requires : tie.Need-move-origins-requires Inv-loop μ-loop
+move-origins-requires c κs =
+    let l = c .before .before .loop in
+    let p = c .before .before .before .before .before .pre in
+    (simp length-set (omega (arith, l .inv .0 .long, p .0)), p .1, omega (arith, l .inv .0 .from), l .inv .2)
+
 same-length : tie.Need-same-length Inv-loop μ-loop
-same-length c = simp length-set (c .before .loop .inv .0 .long)
+same-length c = c .before .before .move-origins .ensures .long ∙ simp length-set (c .before .before .before .before .before .loop .inv .0 .long)
 
 returns : tie.Need-returns Inv-loop μ-loop
 returns c =
-    let l = c .before .loop in
-    let p = c .before .before .before .pre in
-    let e : depthOf (c .before .before .before .args .desk .now) (c .before .before .before .args .frame) - 1 ≡ l .p = omega arith in
-    rw e (remove-law _ _ _ (p .0) (p .1) (p .2) (p .3) _ (l .p) (omega arith) (l .inv .0))
+    let l = c .before .before .before .before .before .loop in
+    let p = c .before .before .before .before .before .before .before .before .pre in
+    let a = c .before .before .before .before .before .before .before .before .args in
+    let e : depthOf (a .desk .now) (a .frame) - 1 ≡ l .p = omega arith in
+    remove-law _ _ _ (p .0) (p .1) (p .2) (p .3) _ (l .p) (omega arith) (l .inv .0) _ (rw e at (c .before .before .move-origins .ensures))
 
 pub remove-spec : {M : Type 1} → statement M
 remove-spec =
@@ -127,5 +138,7 @@ remove-spec =
     slice-write-desk-2
     add-desk-8
     slice-write-desk-3
+    cast-move-origins
+    move-origins-requires
     same-length
     returns)

@@ -6,7 +6,6 @@ use Rattle.rules.proofs.Formed.{well-formed}
 use Rattle.validator.proofs.Fitness.{fit-cored}
 use Rattle.validator.proofs.Outcomes.{unfit-buffers, unfit-slip, is-closed, is-malformed, is-refused, conclude-ready, is-validated}
 use Prim.Native.Nat.{_+_}
-use Rattle.layout.specs.Layout.{marksAt}
 use borrow.Author.Needs.{needs}
 use Rattle.validator.proofs.step.Statement.{statement}
 use Rattle.validator.proofs.step.Tie as tie
@@ -75,7 +74,7 @@ same-length-6 : tie.Need-same-length-6
 same-length-6 c = search needs
 
 returns-3 : tie.Need-returns-3
-returns-3 c = is-closed _ _ _ _ (λ k l. omega (arith, c .before .before .before .before .before .before .before .before .before .before .before .slice-known .given (marksAt + k))) (sym (c .before .before .before .before .before .fits2 .ensures) ∙ not-false _ (c .before .before .before .before .if1 .left)) (c .before .before .if2 .left) (c .if3 .taken)
+returns-3 c = is-closed _ _ _ _ (λ k l. omega (arith, c .before .before .before .before .before .before .before .before .before .before .before .slice-known .given k)) (sym (c .before .before .before .before .before .fits2 .ensures) ∙ not-false _ (c .before .before .before .before .if1 .left)) (c .before .before .if2 .left) (c .if3 .taken)
 
 is-malformed-requires : tie.Need-is-malformed-requires
 is-malformed-requires c κs = search needs
@@ -87,13 +86,13 @@ same-length-8 : tie.Need-same-length-8
 same-length-8 c = search needs
 
 returns-4 : tie.Need-returns-4
-returns-4 c = is-malformed _ _ _ _ (λ k l. omega (arith, c .before .before .before .before .before .before .before .before .before .before .before .before .before .slice-known .given (marksAt + k))) (sym (c .before .before .before .before .before .before .before .fits2 .ensures) ∙ not-false _ (c .before .before .before .before .before .before .if1 .left)) (c .before .before .before .before .if2 .left) (c .before .before .if3 .left) (sym (c .before .is-malformed .ensures) ∙ c .if4 .taken)
+returns-4 c = is-malformed _ _ _ _ (λ k l. omega (arith, c .before .before .before .before .before .before .before .before .before .before .before .before .before .slice-known .given k)) (sym (c .before .before .before .before .before .before .before .fits2 .ensures) ∙ not-false _ (c .before .before .before .before .before .before .if1 .left)) (c .before .before .before .before .if2 .left) (c .before .before .if3 .left) (sym (c .before .is-malformed .ensures) ∙ c .if4 .taken)
 
 act-requires : tie.Need-act-requires
 act-requires c κs =
     let a = c .before .before .before .before .before .before .before .before .before .before .before .before .before .before .before .before .args in
     let f = facts (a .desk .now) (a .sheet .now) (sym (c .before .before .before .before .before .before .before .before .before .fits2 .ensures) ∙ not-false _ (c .before .before .before .before .before .before .before .before .if1 .left)) in
-    (fit-cored (a .desk .now) (a .sheet .now) (sym (c .before .before .before .before .before .before .before .before .before .fits2 .ensures) ∙ not-false _ (c .before .before .before .before .before .before .before .before .if1 .left)) (λ k l. omega (arith, c .before .before .before .before .before .before .before .before .before .before .before .before .before .before .before .slice-known .given (marksAt + k))), f .square, (well-formed (a .bytes .now) (sym (c .before .before .before .is-malformed .ensures) ∙ c .before .before .if4 .left)))
+    (fit-cored (a .desk .now) (a .sheet .now) (sym (c .before .before .before .before .before .before .before .before .before .fits2 .ensures) ∙ not-false _ (c .before .before .before .before .before .before .before .before .if1 .left)) (λ k l. omega (arith, c .before .before .before .before .before .before .before .before .before .before .before .before .before .before .before .slice-known .given k)), f .square, (well-formed (a .bytes .now) (sym (c .before .before .before .is-malformed .ensures) ∙ c .before .before .if4 .left)))
 
 same-length-9 : tie.Need-same-length-9
 same-length-9 c = search needs
@@ -102,7 +101,7 @@ same-length-10 : tie.Need-same-length-10
 same-length-10 c = search needs
 
 returns-5 : tie.Need-returns-5
-returns-5 c = is-refused _ _ _ _ (λ k l. omega (arith, c .before .before .before .before .before .before .before .before .before .before .before .before .before .before .before .before .before .before .before .before .before .slice-known .given (marksAt + k))) (sym (c .before .before .before .before .before .before .before .before .before .before .before .before .before .before .before .fits2 .ensures) ∙ not-false _ (c .before .before .before .before .before .before .before .before .before .before .before .before .before .before .if1 .left)) (c .before .before .before .before .before .before .before .before .before .before .before .before .if2 .left) (c .before .before .before .before .before .before .before .before .before .before .if3 .left) (c .before .before .before .before .before .act .ensures) (c .if5 .taken)
+returns-5 c = is-refused _ _ _ _ (λ k l. omega (arith, c .before .before .before .before .before .before .before .before .before .before .before .before .before .before .before .before .before .before .before .before .before .slice-known .given k)) (sym (c .before .before .before .before .before .before .before .before .before .before .before .before .before .before .before .fits2 .ensures) ∙ not-false _ (c .before .before .before .before .before .before .before .before .before .before .before .before .before .before .if1 .left)) (c .before .before .before .before .before .before .before .before .before .before .before .before .if2 .left) (c .before .before .before .before .before .before .before .before .before .before .if3 .left) (c .before .before .before .before .before .act .ensures) (c .if5 .taken)
 
 shared-slice-read-conclude : tie.Need-shared-slice-read-conclude
 shared-slice-read-conclude c =
@@ -120,7 +119,7 @@ conclude-requires c κs =
     let f = facts (a .desk .now) (a .sheet .now) (sym (c .before .before .before .before .before .before .before .before .before .before .before .before .before .before .before .before .before .before .before .fits2 .ensures) ∙ not-false _ (c .before .before .before .before .before .before .before .before .before .before .before .before .before .before .before .before .before .before .if1 .left)) in
     let fit = (sym (c .before .before .before .before .before .before .before .before .before .before .before .before .before .before .before .before .before .before .before .fits2 .ensures) ∙ not-false _ (c .before .before .before .before .before .before .before .before .before .before .before .before .before .before .before .before .before .before .if1 .left)) in
     let ready =
-    conclude-ready (a .desk .now) (a .sheet .now) (a .slip .now) (a .bytes .now) (λ k l. omega (arith, c .before .before .before .before .before .before .before .before .before .before .before .before .before .before .before .before .before .before .before .before .before .before .before .before .before .slice-known .given (marksAt + k))) fit (c .before .before .before .before .before .before .before .before .before .before .before .before .before .before .before .before .if2 .left) (c .before .before .before .before .before .before .before .before .before .before .before .before .before .before .if3 .left)
+    conclude-ready (a .desk .now) (a .sheet .now) (a .slip .now) (a .bytes .now) (λ k l. omega (arith, c .before .before .before .before .before .before .before .before .before .before .before .before .before .before .before .before .before .before .before .before .before .before .before .before .before .slice-known .given k)) fit (c .before .before .before .before .before .before .before .before .before .before .before .before .before .before .before .before .if2 .left) (c .before .before .before .before .before .before .before .before .before .before .before .before .before .before .if3 .left)
     (c .before .before .before .before .before .before .before .before .before .act .ensures) (c .before .before .before .before .if5 .left) in
     (ready .0, (well-formed (a .bytes .now) (sym (c .before .before .before .before .before .before .before .before .before .before .before .before .before .is-malformed .ensures) ∙ c .before .before .before .before .before .before .before .before .before .before .before .before .if4 .left)) .core, ready .1, ready .2)
 
@@ -134,7 +133,7 @@ same-length-13 : tie.Need-same-length-13
 same-length-13 c = search needs
 
 returns-6 : tie.Need-returns-6
-returns-6 c = is-validated _ _ _ _ (λ k l. omega (arith, c .before .before .before .before .before .before .before .before .before .before .before .before .before .before .before .before .before .before .before .before .before .before .before .before .before .before .before .before .before .before .slice-known .given (marksAt + k))) (sym (c .before .before .before .before .before .before .before .before .before .before .before .before .before .before .before .before .before .before .before .before .before .before .before .before .fits2 .ensures) ∙ not-false _ (c .before .before .before .before .before .before .before .before .before .before .before .before .before .before .before .before .before .before .before .before .before .before .before .if1 .left)) (c .before .before .before .before .before .before .before .before .before .before .before .before .before .before .before .before .before .before .before .before .before .if2 .left) (c .before .before .before .before .before .before .before .before .before .before .before .before .before .before .before .before .before .before .before .if3 .left) (c .before .before .before .before .before .before .before .before .before .before .before .before .before .before .act .ensures) (c .before .before .before .before .before .before .before .before .before .if5 .left) (c .before .before .before .before .conclude .ensures)
+returns-6 c = is-validated _ _ _ _ (λ k l. omega (arith, c .before .before .before .before .before .before .before .before .before .before .before .before .before .before .before .before .before .before .before .before .before .before .before .before .before .before .before .before .before .before .slice-known .given k)) (sym (c .before .before .before .before .before .before .before .before .before .before .before .before .before .before .before .before .before .before .before .before .before .before .before .before .fits2 .ensures) ∙ not-false _ (c .before .before .before .before .before .before .before .before .before .before .before .before .before .before .before .before .before .before .before .before .before .before .before .if1 .left)) (c .before .before .before .before .before .before .before .before .before .before .before .before .before .before .before .before .before .before .before .before .before .if2 .left) (c .before .before .before .before .before .before .before .before .before .before .before .before .before .before .before .before .before .before .before .if3 .left) (c .before .before .before .before .before .before .before .before .before .before .before .before .before .before .act .ensures) (c .before .before .before .before .before .before .before .before .before .if5 .left) (c .before .before .before .before .conclude .ensures)
 
 pub step-spec : {M : Type 1} → statement M
 step-spec =
