@@ -24,7 +24,7 @@ LAST = FEW - 1
 BAD_RECORDS = {  # refused with 3
     "first byte": b"\x4D\x4B\x00\x00\x00\x00", "second byte": b"\x4C\x48\x00\x00\x00\x00", "core": record(8, ACQUIRE), "kind": record(0, 10),
     "mode": record(0, ACQUIRE, 0, MODES), "mode and class": record(0, ACQUIRE, 255, MODES), "mode of a release": record(0, RELEASE, 0, 1),
-    "mode of a try of a release": record(0, RELEASE, 0, TRY), "class of an event": record(0, HARD_ON, 1), "mode of an event": record(0, SOFT_OFF, 0, 1),
+    "mode of a try in a release": record(0, RELEASE, 0, TRY), "class of an event": record(0, HARD_ON, 1), "mode of an event": record(0, SOFT_OFF, 0, 1),
     "header again": header(1) + header(1)[:2],
 }
 
@@ -79,7 +79,7 @@ def clean_log(number, loose=0):
 
 
 def long_log(number):
-    """A log with a fault at the last of very many records, a multiple of four: an acquire over a try, where all were tries over an acquire."""
+    """A log with a fault at the last of very many records, a multiple of four: an acquire over a try, behind tries over an acquire."""
     acquire, by_try, release = record(0, ACQUIRE), record(0, ACQUIRE, 0, TRY), record(0, RELEASE)
     return header(1) + (acquire + by_try + release * 2) * (number // 4 - 1) + acquire + release + by_try + acquire
 
@@ -96,7 +96,7 @@ def decided_logs(numbers, names):
 # ---- records, byte by byte
 
 def byte_logs(kind, at):
-    """A clean record and then one of a kind, its byte at an offset of every value."""
+    """A clean record and then one of a kind, with every value of its byte at an offset."""
     good = record(0, kind, 0 if kind > RELEASE else 1)
     for byte in range(256):
         yield header(FEW) + record(0, ACQUIRE, 1, RECURSIVE_READ) + good[:at] + bytes([byte]) + good[at + 1:]
@@ -127,7 +127,7 @@ class Walk:
     """A log made record by record. While orderly, it stays clean: the classes are ranked, first those for tasks, then those for soft handlers,
     then those for hard handlers, and every dependency goes up."""
 
-    # By state: between which of the four limits of rank a lock may be held, and where a try may have got it, which has no safe mark.
+    # By state: between which of the four limits of rank a lock may be held, and one that a try got, which has no safe mark.
     HELD_BETWEEN = [(0, 1), (0, 2), (0, 3), (0, 3), (1, 2), (1, 3), (2, 3), (2, 3), (2, 3)]
     TRIED_BETWEEN = [(0, 1), (0, 2), (0, 3), (0, 3), (0, 2), (0, 3), (0, 3), (0, 3), (0, 3)]
 
