@@ -23,31 +23,42 @@ def record_at(offset):
 LAST = FEW - 1
 BAD_RECORDS = {  # refused with 3
     "first byte": b"\x4D\x4B\x00\x00\x00\x00", "second byte": b"\x4C\x48\x00\x00\x00\x00", "core": record(8, ACQUIRE), "kind": record(0, 10),
-    "mode": record(0, ACQUIRE, 0, 3), "mode of a release": record(0, RELEASE, 0, 1), "class of an event": record(0, HARD_ON, 1),
-    "mode of an event": record(0, SOFT_OFF, 0, 1), "header again": header(1) + header(1)[:2],
+    "mode": record(0, ACQUIRE, 0, MODES), "mode and class": record(0, ACQUIRE, 255, MODES), "mode of a release": record(0, RELEASE, 0, 1),
+    "mode of a try in a release": record(0, RELEASE, 0, TRY), "class of an event": record(0, HARD_ON, 1), "mode of an event": record(0, SOFT_OFF, 0, 1),
+    "header again": header(1) + header(1)[:2],
 }
 
 # By name: the records at the start, and those that end with the one that decides.
 DECIDING = {
     "fault": ([record(0, ACQUIRE, 1), record(0, ACQUIRE, 2), record(0, RELEASE, 2), record(0, RELEASE, 1)],
               [record(1, ACQUIRE, 2), record(1, ACQUIRE, 1)]),
+    "fault behind tries": ([record(0, ACQUIRE, 1, TRY), record(0, ACQUIRE, 2), record(0, RELEASE, 2), record(0, RELEASE, 1)],
+                           [record(1, ACQUIRE, 2, TRY), record(1, ACQUIRE, 1, TRY), record(1, RELEASE, 1), record(1, ACQUIRE, 1)]),
     "fault in a handler": ([record(0, ACQUIRE, LAST), record(0, RELEASE, LAST)], [record(1, ENTER_HARD), record(1, ACQUIRE, LAST)]),
+    "fault over a held try": ([record(0, ACQUIRE, LAST), record(0, RELEASE, LAST), record(1, ENTER_HARD), record(1, ACQUIRE, LAST, TRY + RECURSIVE_READ)],
+                              [record(1, ACQUIRE, LAST, TRY), record(1, RELEASE, LAST), record(1, ACQUIRE, LAST, RECURSIVE_READ)]),
     "refused 4": ([], [record(0, ACQUIRE, FEW)]),
+    "refused 4, try": ([], [record(0, ACQUIRE, FEW, TRY)]),
     "refused 4, release": ([], [record(0, RELEASE, FEW)]),
     "refused 5": ([record(1, ACQUIRE, LAST)], [record(0, RELEASE, LAST)]),
     "refused 6": ([], [record(0, EXIT_HARD)]),
     "refused 7": ([record(0, ENTER_HARD)], [record(0, ACQUIRE, LAST), record(0, EXIT_HARD)]),
     "refused 8": ([], [record(0, ACQUIRE, LAST, RECURSIVE_READ)] * (DEPTH + 1)),
+    "refused 8, try": ([], [record(0, ACQUIRE, LAST, TRY)] * (DEPTH + 1)),
 } | {f"refused 3, {name}": ([], [bad]) for name, bad in BAD_RECORDS.items()}
 
 
 def clean_records(count, rng):
-    """Records that are accepted and draw no dependency: one lock at a time on a busy core, and events that leave the state as it is."""
+    """Records that are accepted and draw no dependency: on a busy core one lock at a time, or two, the second by a try, and events that leave the
+    state as it is."""
     made = []
     while len(made) < count:
-        core, lock_class = rng.choice(BUSY_CORES), rng.randrange(LAST)
-        if len(made) + 1 < count and rng.random() < 0.7:
-            made += [record(core, ACQUIRE, lock_class, rng.randrange(3)), record(core, RELEASE, lock_class)]
+        core, lock_class, tried = rng.choice(BUSY_CORES), rng.randrange(LAST), rng.randrange(LAST)
+        if len(made) + 3 < count and rng.random() < 0.3:
+            made += [record(core, ACQUIRE, lock_class, rng.randrange(MODES)), record(core, ACQUIRE, tried, rng.randrange(TRY, MODES))]
+            made += [record(core, RELEASE, c) for c in rng.sample((lock_class, tried), 2)]
+        elif len(made) + 1 < count and rng.random() < 0.7:
+            made += [record(core, ACQUIRE, lock_class, rng.randrange(MODES)), record(core, RELEASE, lock_class)]
         else:
             made.append(record(core, rng.choice((HARD_ON, SOFT_ON))))
     return made
@@ -68,8 +79,9 @@ def clean_log(number, loose=0):
 
 
 def long_log(number):
-    """A log with a fault at the last of very many records."""
-    return header(1) + (record(0, ACQUIRE) + record(0, RELEASE)) * (number // 2 - 1) + record(0, ACQUIRE) * 2
+    """A log with a fault at the last of very many records, a multiple of four: an acquire over a try, behind tries over an acquire."""
+    acquire, by_try, release = record(0, ACQUIRE), record(0, ACQUIRE, 0, TRY), record(0, RELEASE)
+    return header(1) + (acquire + by_try + release * 2) * (number // 4 - 1) + acquire + release + by_try + acquire
 
 
 def decided_logs(numbers, names):
@@ -79,6 +91,15 @@ def decided_logs(numbers, names):
             yield f"{name} at record {number}", deciding_log(name, number), end_of(number)
         for loose in range(RECORD):
             yield f"{loose} bytes behind record {number}", clean_log(number, loose), None
+
+
+# ---- records, byte by byte
+
+def byte_logs(kind, at):
+    """A clean record and then one of a kind, with every value of its byte at an offset."""
+    good = record(0, kind, 0 if kind > RELEASE else 1)
+    for byte in range(256):
+        yield header(FEW) + record(0, ACQUIRE, 1, RECURSIVE_READ) + good[:at] + bytes([byte]) + good[at + 1:]
 
 
 # ---- headers
@@ -106,8 +127,9 @@ class Walk:
     """A log made record by record. While orderly, it stays clean: the classes are ranked, first those for tasks, then those for soft handlers,
     then those for hard handlers, and every dependency goes up."""
 
-    # By state: between which of the four limits of rank a lock may be held.
+    # By state: between which of the four limits of rank a lock may be held, and one that a try got, which has no safe mark.
     HELD_BETWEEN = [(0, 1), (0, 2), (0, 3), (0, 3), (1, 2), (1, 3), (2, 3), (2, 3), (2, 3)]
+    TRIED_BETWEEN = [(0, 1), (0, 2), (0, 3), (0, 3), (0, 2), (0, 3), (0, 3), (0, 3), (0, 3)]
 
     def __init__(self, classes, rng):
         self.rng = rng
@@ -128,32 +150,39 @@ class Walk:
         self.machine.accept(rec)
         return True
 
-    def ranks(self, state):
-        low, high = self.HELD_BETWEEN[state]
+    def ranks(self, state, is_try=False):
+        low, high = (self.TRIED_BETWEEN if is_try else self.HELD_BETWEEN)[state]
         return range(self.limits[low], self.limits[high])
 
     def orderly_acquire(self, core):
-        held = self.machine.held_now(core)
-        over = max((self.rank[c] for c, _ in held), default=-1)
-        if held and self.rng.random() < 0.2 and all(m == RECURSIVE_READ for c, m in held if self.rank[c] == over):
+        held, ranks = self.machine.held_now(core), self.ranks(self.machine.states[core])
+        over = max((self.rank[c] for c, _, _ in held), default=-1)
+        if over in ranks and self.rng.random() < 0.2 and all(m == RECURSIVE_READ for c, m, _ in held if self.rank[c] == over):
             return record(core, ACQUIRE, self.by_rank[over], RECURSIVE_READ)
-        free = [r for r in self.ranks(self.machine.states[core]) if r > over]
-        return free and record(core, ACQUIRE, self.by_rank[self.rng.choice(free[:5])], self.rng.randrange(3))
+        free = [r for r in ranks if r > over]
+        return free and record(core, ACQUIRE, self.by_rank[self.rng.choice(free[:5])], self.rng.randrange(TRY))
+
+    def orderly_try(self, core):
+        """Of any class that may be held, half of the time of a held one or one below it."""
+        over = max((self.rank[c] for c, _, _ in self.machine.held_now(core)), default=-1)
+        ranks = self.ranks(self.machine.states[core], True)
+        low = [r for r in ranks if r <= over]
+        ranks = low if low and self.rng.random() < 0.5 else ranks
+        return ranks and record(core, ACQUIRE, self.by_rank[self.rng.choice(ranks)], self.rng.randrange(TRY, MODES))
 
     def orderly_event(self, core):
         kind = self.rng.randrange(HARD_ON, EXIT_HARD + 1)
         state = NEXT[self.machine.states[core]][kind - HARD_ON]
         if state == "x":
             return None
-        ranks = self.ranks(int(state))
         held = self.machine.held[core][FRAME[int(state)]]
-        return all(self.rank[c] in ranks for c, _ in held) and record(core, kind)
+        return all(self.rank[c] in self.ranks(int(state), is_try) for c, _, is_try in held) and record(core, kind)
 
     def any_record(self, core):
         kind = self.rng.choice((ACQUIRE, ACQUIRE, ACQUIRE, self.rng.randrange(HARD_ON, EXIT_HARD + 1)))
         if kind > ACQUIRE:
             return record(core, kind)
-        return record(core, ACQUIRE, self.rng.randrange(self.machine.classes), self.rng.randrange(3))
+        return record(core, ACQUIRE, self.rng.randrange(self.machine.classes), self.rng.randrange(MODES))
 
     def go(self, count, disorder=0.0):
         """Adds accepted records, each orderly or, with the probability given, any."""
@@ -162,8 +191,10 @@ class Walk:
             held = self.machine.held_now(core)
             if self.rng.random() < disorder:
                 rec = self.any_record(core)
-            elif which < 0.45:
+            elif which < 0.3:
                 rec = self.orderly_acquire(core)
+            elif which < 0.45:
+                rec = self.orderly_try(core)
             elif which < 0.75:
                 rec = held and record(core, RELEASE, self.rng.choice(held)[0])
             else:
@@ -173,32 +204,38 @@ class Walk:
                 count -= 1
 
     def end_with_fault(self):
-        """On a free core, the reverse of a dependency that is there, or a lock over itself."""
-        ends = self.rng.choice(sorted((b, a) for a, _, b in self.machine.hold_dependencies) or [(0, 0)])
-        for lock_class in ends:
-            self.put(record(self.free_core, ACQUIRE, lock_class))
+        """On a free core, the reverse of a dependency that is there, or a lock over itself. The first may be got by a try; of the second stands
+        one before the acquire at times."""
+        first, second = self.rng.choice(sorted((b, a) for a, _, b in self.machine.hold_dependencies) or [(0, 0)])
+        self.put(record(self.free_core, ACQUIRE, first, self.rng.choice((EXCLUSIVE, TRY + EXCLUSIVE))))
+        if self.rng.random() < 0.5:
+            self.put(record(self.free_core, ACQUIRE, second, self.rng.randrange(TRY, MODES)))
+            self.put(record(self.free_core, RELEASE, second))
+        self.put(record(self.free_core, ACQUIRE, second))
 
     def end_with_refusal(self, number):
         """A record that is refused with this number, where it can be brought about, and others behind it."""
         rng, core = self.rng, self.rng.choice(self.cores)
         state, held, classes = self.machine.states[core], self.machine.held_now(core), self.machine.classes
         if number == 3:
-            self.put(rng.choice([*BAD_RECORDS.values(), record(0, ACQUIRE)[:rng.randrange(1, RECORD)]]))
+            bad_mode = record(core, rng.choice((ACQUIRE, RELEASE)), rng.randrange(256), rng.randrange(MODES, 256))
+            self.put(rng.choice([*BAD_RECORDS.values(), bad_mode, record(0, ACQUIRE)[:rng.randrange(1, RECORD)]]))
         elif number == 4:
-            self.put(record(core, rng.choice((ACQUIRE, RELEASE)), rng.randrange(classes, 256)))
+            kind = rng.choice((ACQUIRE, RELEASE))
+            self.put(record(core, kind, rng.randrange(classes, 256), rng.randrange(MODES) if kind == ACQUIRE else 0))
         elif number == 5:
-            others = [c for c in range(classes) if all(c != h for h, _ in held)]
+            others = [c for c in range(classes) if all(c != h for h, _, _ in held)]
             self.put(record(core, RELEASE, rng.choice(others or [0])))
         elif number == 6:
             self.put(record(core, rng.choice([HARD_ON + i for i, after in enumerate(NEXT[state]) if after == "x"])))
         elif number == 7:
             enter = rng.choice((ENTER_HARD, ENTER_SOFT))
             self.put(record(self.free_core, enter))
-            self.put(record(self.free_core, ACQUIRE, self.by_rank[-1], RECURSIVE_READ))
+            self.put(record(self.free_core, ACQUIRE, self.by_rank[-1], rng.choice((RECURSIVE_READ, TRY + RECURSIVE_READ))))
             self.put(record(self.free_core, enter + 1))
         elif number == 8:
             lock_class = self.by_rank[rng.choice(self.ranks(0) or range(classes))]
-            while self.put(record(self.free_core, ACQUIRE, lock_class, RECURSIVE_READ)):
+            while self.put(record(self.free_core, ACQUIRE, lock_class, rng.choice((RECURSIVE_READ, TRY + READ, TRY + RECURSIVE_READ)))):
                 pass
         if len(self.records[-1]) == RECORD:
             self.records += [record(0, EXIT_HARD), record(9, ACQUIRE)][:rng.randrange(3)]
@@ -208,12 +245,14 @@ class Walk:
 
 
 def random_log(intent, i):
-    """The i-th log of an intent: clean, fault, ring, handler, refused. The classes go from 1 to 64 again and again."""
+    """The i-th log of an intent: clean, fault, ring, handler, churn, refused. The classes go from 1 to 64 again and again."""
     rng = random.Random(f"{intent} {i}")
     classes = 1 + i % MAX_CLASSES
     count = rng.randrange(*rng.choices((SHORT, MIDDLE, LONG), (50, 38, 12))[0])
-    if intent in ("ring", "handler"):
-        return ring_log(classes, rng) if intent == "ring" else handler_log(max(classes, 2), rng)
+    if intent == "ring":
+        return ring_log(classes, rng)
+    if intent in ("handler", "churn"):
+        return (handler_log if intent == "handler" else churn_log)(max(classes, 2), rng)
     walk = Walk(classes, rng)
     walk.go(count, rng.choice((0, 0, 0.02, 0.2)) if intent == "fault" else 0)
     if intent == "fault":
@@ -224,8 +263,13 @@ def random_log(intent, i):
     return walk.log()
 
 
+def or_try(mode, rng):
+    return mode + rng.choice((0, 0, TRY))
+
+
 def ring_log(classes, rng):
-    """Dependencies that make one cycle, whose last one is drawn last."""
+    """Dependencies that make one cycle, whose last one is drawn last. The first lock of each may be got by a try; of the second may stand one before
+    its acquire."""
     ring = rng.sample(range(classes), rng.randrange(1, classes + 1))
     joints = [rng.choice(("NE", "NS", "RE")) for _ in ring]
     made = []
@@ -234,35 +278,92 @@ def ring_log(classes, rng):
         held = EXCLUSIVE if joints[i][1] == "E" else rng.choice((READ, RECURSIVE_READ))
         taken = RECURSIVE_READ if joints[after][0] == "R" else rng.choice((EXCLUSIVE, READ))
         both = [ring[i], ring[after]]
-        made += [record(core, ACQUIRE, both[0], held), record(core, ACQUIRE, both[1], taken)]
+        made.append(record(core, ACQUIRE, both[0], or_try(held, rng)))
+        if rng.random() < 0.3:
+            made += [record(core, ACQUIRE, both[1], TRY + taken), record(core, RELEASE, both[1])]
+        made.append(record(core, ACQUIRE, both[1], taken))
         made += [record(core, RELEASE, c) for c in rng.sample(both, 2)]
     return header(classes) + b"".join(made)
 
 
 def handler_log(classes, rng):
-    """One cycle of an interrupt dependency of any kind and level and of one between held locks, which are drawn in any order."""
+    """One cycle of an interrupt dependency of any kind and level and of one between held locks, which are drawn in any order. The unsafe mark is set
+    in any state that does, at the acquire or later. What is held at the beginnings of the two may be got by a try; what they lead to, by one before
+    its acquire."""
     outer, inner = rng.sample(range(classes), 2)
     one, two, three = rng.sample(range(CORES), 3)
     enter = rng.choice((ENTER_HARD, ENTER_SOFT))
     off = [record(three, HARD_OFF), record(three, SOFT_OFF)]
-    parts = [[record(one, ACQUIRE, outer, rng.randrange(3)), record(one, RELEASE, outer)],
-             [record(two, enter), record(two, ACQUIRE, inner, rng.randrange(3)), record(two, RELEASE, inner), record(two, enter + 1)],
-             off + [record(three, ACQUIRE, inner), record(three, ACQUIRE, outer), record(three, RELEASE, outer), record(three, RELEASE, inner)]]
+    before = [record(one, kind) for kind in rng.choice(((), (SOFT_OFF,), (ENTER_SOFT,)))] if enter == ENTER_HARD else []
+    turned_off = HARD_OFF if enter == ENTER_HARD else SOFT_OFF
+    late = rng.randrange(2)
+
+    def acquired(core, lock_class, mode):
+        tried = [record(core, ACQUIRE, lock_class, TRY + rng.randrange(TRY)), record(core, RELEASE, lock_class)]
+        return tried * rng.randrange(2) + [record(core, ACQUIRE, lock_class, mode)]
+
+    parts = [[*before, *[record(one, turned_off)] * late, record(one, ACQUIRE, outer, or_try(rng.randrange(TRY), rng)),
+              *[record(one, turned_off - 1)] * late, record(one, RELEASE, outer)],
+             [record(two, enter), *acquired(two, inner, rng.randrange(TRY)), record(two, RELEASE, inner), record(two, enter + 1)],
+             [*off, record(three, ACQUIRE, inner, or_try(EXCLUSIVE, rng)), *acquired(three, outer, EXCLUSIVE), record(three, RELEASE, outer),
+              record(three, RELEASE, inner)]]
     return header(classes) + b"".join(rec for part in rng.sample(parts, 3) for rec in part)
 
 
+def churn_log(classes, rng):
+    """Frames of all sorts and depths that change much, with tries at every place. The tried classes were acquired in a task, so a safe mark from
+    any of their tries is a fault; the others are held for reading alone, got by recursive reads, which close no strong cycle. Every other
+    log ends with the acquire of a tried class, a fault in a handler."""
+    machine, made = Machine(classes), []
+    tried = rng.sample(range(classes), rng.randrange(1, min(classes, 6)))
+    others = [c for c in range(classes) if c not in tried]
+    cores = rng.sample(range(CORES), rng.randrange(1, 4))
+
+    def put(*rec):
+        if not machine.refusal(record(*rec)):
+            made.append(record(*rec))
+            machine.accept(made[-1])
+
+    for c in tried:
+        put(cores[0], ACQUIRE, c, or_try(EXCLUSIVE, rng))
+        put(cores[0], RELEASE, c)
+    for core in cores:
+        for kind in rng.choice(((), (ENTER_SOFT,), (ENTER_SOFT, HARD_OFF), (ENTER_HARD,), (SOFT_OFF, ENTER_HARD), (ENTER_SOFT, ENTER_HARD))):
+            put(core, kind)
+    for _ in range(rng.randrange(*rng.choice((SHORT, MIDDLE, MIDDLE, LONG))) // 25 + 1):
+        more = rng.choice((0.9, 0.6, 0.4, 0.1))
+        for _ in range(25):
+            core = rng.choice(cores)
+            held = machine.held_now(core)
+            if rng.random() < 0.05:
+                put(core, rng.randrange(HARD_ON, EXIT_HARD + 1))
+            elif held and rng.random() > more:
+                put(core, RELEASE, rng.choice(held)[0])
+            elif rng.random() < 0.5:
+                put(core, ACQUIRE, rng.choice(tried), rng.randrange(TRY, MODES))
+            else:
+                put(core, ACQUIRE, rng.choice(others), rng.choice((RECURSIVE_READ, RECURSIVE_READ, TRY + READ, TRY + RECURSIVE_READ)))
+    if rng.random() < 0.5:
+        core = rng.choice(cores)
+        put(core, ENTER_HARD)
+        put(core, ACQUIRE, rng.choice(tried))
+    return header(classes) + b"".join(made)
+
+
 def stray_log(seeds, i):
-    """The i-th of files that are random bytes, or examples with bytes changed, cut off or put in."""
+    """The i-th of files that are random bytes, or examples with bytes or modes changed, cut off or put in."""
     rng = random.Random(f"stray {i}")
     if i % 4 == 0:
         return rng.randbytes(rng.randrange(60))
     data = bytearray(rng.choice(seeds))
     for _ in range(rng.randrange(1, 4)):
         cut = rng.randrange(len(data) + 1)
-        how = rng.randrange(3)
+        how = rng.randrange(4)
         if how == 0 and data:
             data[cut % len(data)] = rng.randrange(256)
-        elif how == 1:
+        elif how == 1 and len(data) >= HEADER + RECORD:
+            data[HEADER - 1 + RECORD * rng.randrange(1, (len(data) - HEADER) // RECORD + 1)] = rng.randrange(MODES + 1)
+        elif how == 2:
             del data[cut:]
         else:
             data[cut:cut] = rng.choice(seeds)[HEADER:]

@@ -4,6 +4,8 @@ import re
 
 ACQUIRE, RELEASE, HARD_ON, HARD_OFF, SOFT_ON, SOFT_OFF, ENTER_SOFT, EXIT_SOFT, ENTER_HARD, EXIT_HARD = range(10)
 EXCLUSIVE, READ, RECURSIVE_READ = range(3)
+TRY = 3  # added to one of these: a successful try
+MODES = 2 * TRY  # of an acquire
 HEADER, RECORD = 4, 6  # sizes
 MAX_CLASSES, CORES, DEPTH = 64, 8, 20
 
@@ -39,7 +41,7 @@ class Machine:
     def __init__(self, classes):
         self.classes = classes
         self.states = [0] * CORES
-        self.held = [[[], [], []] for _ in range(CORES)]  # by core and frame: (class, mode), oldest first
+        self.held = [[[], [], []] for _ in range(CORES)]  # by core and frame: (class, mode below TRY, by a try), oldest first
         self.hold_dependencies = set()  # (class, kind, class) of the dependencies between held locks
         self.safe = set()  # usage marks: (level, class, letter)
         self.unsafe = set()
@@ -47,12 +49,16 @@ class Machine:
     def held_now(self, core):
         return self.held[core][FRAME[self.states[core]]]
 
+    def newest(self, core, lock_class):
+        """The place of the newest held lock of the class in the current frame, or None."""
+        return max((place for place, (c, _, _) in enumerate(self.held_now(core)) if c == lock_class), default=None)
+
     def refusal(self, rec):
         """The number that refuses a record, or 0."""
         if len(rec) != RECORD or rec[0] != 0x4C or rec[1] != 0x4B:
             return 3
         _, _, core, kind, lock_class, mode = rec
-        if core >= CORES or kind > EXIT_HARD or mode > RECURSIVE_READ:
+        if core >= CORES or kind > EXIT_HARD or mode >= MODES:
             return 3
         if kind != ACQUIRE and mode or kind > RELEASE and lock_class:
             return 3
@@ -63,7 +69,7 @@ class Machine:
             return 6
         if kind in (EXIT_SOFT, EXIT_HARD) and held:
             return 7
-        if kind == RELEASE and all(c != lock_class for c, _ in held):
+        if kind == RELEASE and self.newest(core, lock_class) is None:
             return 5
         if kind == ACQUIRE and len(held) == DEPTH:
             return 8
@@ -73,18 +79,19 @@ class Machine:
         _, _, core, kind, lock_class, mode = rec
         held = self.held_now(core)
         if kind == ACQUIRE:
-            for older, older_mode in held:
+            is_try, mode = mode >= TRY, mode % TRY
+            for older, older_mode, _ in held if not is_try else []:
                 self.hold_dependencies.add((older, first_letter(older_mode) + second_letter(mode), lock_class))
-            held.append((lock_class, mode))
+            held.append((lock_class, mode, is_try))
         elif kind == RELEASE:
-            del held[max(i for i, (c, _) in enumerate(held) if c == lock_class)]
+            del held[self.newest(core, lock_class)]
         else:
             self.states[core] = int(NEXT[self.states[core]][kind - HARD_ON])
         state = self.states[core]
-        for c, m in self.held_now(core):
-            if state in (6, 7, 8):
+        for c, m, is_try in self.held_now(core):
+            if state in (6, 7, 8) and not is_try:
                 self.safe.add(("hard", c, second_letter(m)))
-            if state in (4, 5):
+            if state in (4, 5) and not is_try:
                 self.safe.add(("soft", c, second_letter(m)))
             if state in (0, 1, 4):
                 self.unsafe.add(("hard", c, first_letter(m)))
@@ -144,9 +151,9 @@ FAULT = re.compile(rb"fault at record " + NUMBER)
 ENTRY = re.compile(NUMBER + rb" (ER|EN|SR|SN) " + NUMBER + rb" (hold|hard|soft)")
 
 
-def read_output(data, out):
+def read_output(data, out, see=lambda machine, rec: None):
     """What an output says of a log: (word, number, cycle), the word clean, refused or fault, the number the refusal's. ValueError where it is not
-    an output, or is untrue of the log by the rules (but for a fault that is not seen)."""
+    an output, or is untrue of the log by the rules (but for a fault that is not seen). Each record that is accepted is shown to `see` before."""
     lines = out.split(b"\n")
     if lines.pop() != b"":
         raise ValueError("no line end at the end")
@@ -160,6 +167,7 @@ def read_output(data, out):
         for i, rec in enumerate(records[:number], 1):
             if machine.refusal(rec):
                 raise ValueError(f"record {i} is to be refused with {machine.refusal(rec)}")
+            see(machine, rec)
             machine.accept(rec)
 
     if match := FAULT.fullmatch(first):
