@@ -1,5 +1,6 @@
 pub mod Frames
 pub mod Last
+pub mod Notes
 pub mod Prefixes
 pub mod Drawing
 pub mod Marking

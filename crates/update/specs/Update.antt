@@ -1,6 +1,6 @@
 -- What an accepted record does to the bytes, frame by frame.
 use mathlib.Core.Path.{_≡_}
-use mathlib.Core.Bool.{Bool, cond, not, _&&_, _||_}
+use mathlib.Core.Bool.{Bool, true, false, cond, not, _&&_, _||_}
 use mathlib.Core.List.{List, [], _∷_, _++_}
 use mathlib.Core.Logic.{_⊎_}
 use Prim.Native.Nat.{ℕ, zero, suc, _+_, _*_, _%_, _/_, _<_, _≤_}
@@ -79,6 +79,11 @@ abbrev pub drawnFrom : List HeldLock → ℕ → ℕ → Dependencies
 drawnFrom hs class mode f t k =
     not (isTry mode)
     && (eqb t class && sameSecond (k .second) (secondBy mode) && someHeld f (λ h. sameFirst (k .first) (firstOf h)) hs)
+
+-- Whether a buffer changed.
+pub record Noted (before after : List ℕ) (changed : Bool) : Type 0 where
+  pub same : changed ≡ false → after ≡ before
+  pub other : changed ≡ true → after ≡ before → ⊥
 
 pub record Drawn (desk : List ℕ) (K n class mode : ℕ) (before after : List ℕ) : Type 0 where
   pub keeps : KeepsPast (K * K) before after

@@ -13,7 +13,7 @@ ghost use Prim.Native.Nat.{_+_, _*_, _%_, _/_, _<_, _≤_};
 ghost use lib.ListN.{length};
 ghost use Rattle.rules.specs.Limits.{maxDepth, modeCount};
 ghost use Rattle.layout.specs.Layout.{frameCount, deskSize, depthOf};
-ghost use Rattle.update.specs.Update.{Pushed, newestOf, OriginsMoved, Removed, HeldIn, Drawn, Marked};
+ghost use Rattle.update.specs.Update.{Pushed, newestOf, OriginsMoved, Removed, HeldIn, Noted, Drawn, Marked};
 
 // The modes from here on are tries: what a try adds to the mode in which its lock is held.
 const TRY: usize = HELD_MODES as usize;
@@ -75,36 +75,57 @@ pub fn remove(desk: &mut [u8], frame: usize, at: usize)
     move_origins(desk, frame, at, last as usize);
 }
 
-// A lock dependency to the acquired class from every lock held in the frame; none to a try.
-pub fn draw(desk: &[u8], sheet: &mut [u8], k: usize, frame: usize, class: usize, mode: usize)
+// A lock dependency to the acquired class from every lock held in the frame; none to a try. Says whether one is new.
+pub fn draw(
+    desk: &[u8],
+    sheet: &mut [u8],
+    k: usize,
+    frame: usize,
+    class: usize,
+    mode: usize,
+) -> bool
     requires { ⌜ HeldIn (now desk) frame k × (k * k ≤ length (now sheet)) × (k ≤ 64) × (class < k) × (mode < modeCount) ⌝ }
-    ensures { λ _. ⌜ Drawn (now (desk .entry)) k frame class mode (now (sheet .entry)) (now (sheet .exit)) ⌝ }
+    ensures { λ r. ⌜ Drawn (now (desk .entry)) k frame class mode (now (sheet .entry)) (now (sheet .exit)) × Noted (now (sheet .entry)) (now (sheet .exit)) r ⌝ }
 {
     if TRY <= mode {
-        return;
+        return false;
     }
+    let mut changed = false;
     let d = desk[DEPTHS_AT + frame] as usize;
     let mut p: usize = 0;
     while p < d {
         let held = desk[HELD_AT + MAX_DEPTH * frame + p] as usize;
         let at = (held % 64) * k + class;
-        sheet[at] = sheet[at] | kind_bit(held / 64, mode);
+        let seen = sheet[at];
+        let kinds = seen | kind_bit(held / 64, mode);
+        if kinds != seen {
+            changed = true;
+        }
+        sheet[at] = kinds;
         p += 1;
     }
+    changed
 }
 
-// Every lock held in the frame is marked by the core's state.
-pub fn mark(desk: &mut [u8], frame: usize, k: usize, context: usize)
+// Every lock held in the frame is marked by the core's state. Says whether a mark is new.
+pub fn mark(desk: &mut [u8], frame: usize, k: usize, context: usize) -> bool
     requires { ⌜ HeldIn (now desk) frame k × (k ≤ 64) × (context < 9) ⌝ }
-    ensures { λ _. ⌜ Marked (now (desk .entry)) frame context (now (desk .exit)) ⌝ }
+    ensures { λ r. ⌜ Marked (now (desk .entry)) frame context (now (desk .exit)) × Noted (now (desk .entry)) (now (desk .exit)) r ⌝ }
 {
+    let mut changed = false;
     let d = desk[DEPTHS_AT + frame] as usize;
     let mut p: usize = 0;
     while p < d {
         let held = desk[HELD_AT + MAX_DEPTH * frame + p] as usize;
         let tried = origin(desk, MAX_DEPTH * frame + p) as usize;
         let at = MARKS_AT + held % 64;
-        desk[at] = desk[at] | mark_bits(context, held / 64 + TRY * tried);
+        let seen = desk[at];
+        let marks = seen | mark_bits(context, held / 64 + TRY * tried);
+        if marks != seen {
+            changed = true;
+        }
+        desk[at] = marks;
         p += 1;
     }
+    changed
 }

@@ -110,7 +110,7 @@ returns-3 c =
     let st = c .before .before .before .before .before .before .before .before .before .before .before .before .before .before .before .before .before .before .before .before .before .args .desk .now in
     let by = c .before .before .before .before .before .before .before .before .before .before .before .before .before .before .before .before .before .before .before .before .before .args .bytes .now in
     let e = c .before .before .before .before .before .before .before .before .before .before .before .before .frame-of .ensures in
-    acquire-accepts _ _ _ (p .2) (p .0 .few) (p .3) (c .before .before .before .before .before .before .before .before .before .before .before .before .before .before .before .if1 .left) (rw e at (c .before .before .before .before .before .before .before .before .before .before .if2 .left)) (rw e at (c .before .before .before .before .before .before .draw .ensures)) (rw e at (c .before .before .push .ensures))
+    acquire-accepts _ _ _ (p .2) (p .0 .few) (p .3) (c .before .before .before .before .before .before .before .before .before .before .before .before .before .before .before .if1 .left) (rw e at (c .before .before .before .before .before .before .before .before .before .before .if2 .left)) (rw e at (c .before .before .before .before .before .before .draw .ensures .0)) (rw e at (c .before .before .push .ensures))
 
 pub acquire-spec : {M : Type 1} → statement M
 acquire-spec =

@@ -1,3 +1,4 @@
+use mathlib.Core.Logic.{inl, inr, ⊎-elim}
 use Prim.Native.Nat.{_+_, _*_, _%_}
 use Rattle.rules.specs.Limits.{maxDepth}
 use Rattle.layout.specs.Layout.{heldAt, heldOf}
@@ -5,6 +6,7 @@ use Prim.Native.Nat.{_≤_, _-_}
 use native.Mathlib.Omega.{arith}
 use Rattle.layout.proofs.Buffers.{cell-inside}
 use Rattle.update.proofs.Drawing.{Drawing, drawn-none, drawing-start, drawing-step, drawing-done}
+use Rattle.update.proofs.Notes.{Noting, noting-start, noting-step, noting-done, noted-none}
 use Rattle.update.proofs.draw.Statement.{statement}
 use Rattle.update.proofs.draw.Tie as tie
 use Rattle.update.proofs.draw.Reads as reads
@@ -12,13 +14,14 @@ use Rattle.update.proofs.draw.Lts as lts
 use Rattle.context.proofs.kind_bit.Reads as kind-bit-reads
 
 abbrev Inv-loop : tie.InvT-loop
-Inv-loop desk sheet₀ k frame class mode d p₀ sheet p = (p ≤ d) × Drawing desk k frame class mode sheet₀ p sheet
+Inv-loop desk sheet₀ k frame class mode changed₀ d p₀ sheet changed p =
+    (p ≤ d) × Drawing desk k frame class mode sheet₀ p sheet × Noting sheet₀ sheet changed
 
 abbrev μ-loop : tie.MeasureT-loop
-μ-loop desk sheet₀ k frame class mode d p₀ sheet p = d - p
+μ-loop desk sheet₀ k frame class mode changed₀ d p₀ sheet changed p = d - p
 
 returns : tie.Need-returns Inv-loop μ-loop
-returns c = drawn-none _ _ _ _ _ _ (c .if1 .taken)
+returns c = (drawn-none _ _ _ _ _ _ (c .if1 .taken), noted-none _)
 
 add-d : tie.Need-add-d Inv-loop μ-loop
 add-d c = omega arith
@@ -30,7 +33,7 @@ cast-d : tie.Need-cast-d Inv-loop μ-loop
 cast-d c = omega arith
 
 loop-holds : tie.Need-loop-holds Inv-loop μ-loop
-loop-holds c = (omega arith, drawing-start _ _ _ _ _ _ (c .before .if1 .left))
+loop-holds c = (omega arith, drawing-start _ _ _ _ _ _ (c .before .if1 .left), noting-start _)
 
 mul-held : tie.Need-mul-held Inv-loop μ-loop
 mul-held c = omega arith
@@ -63,8 +66,8 @@ add-at c =
     let h = cell-inside (a .k) (heldOf (a .desk .now) (a .frame) (l .p) % 64) (a .class) (p .0 .class (l .p) (omega arith)) (p .3) in
     omega arith
 
-slice-read-sheet : tie.Need-slice-read-sheet Inv-loop μ-loop
-slice-read-sheet c =
+slice-read-seen : tie.Need-slice-read-seen Inv-loop μ-loop
+slice-read-seen c =
     let p = c .before .before .before .before .before .before .before .before .pre in
     let l = c .before .before .before .loop in
     let a = c .before .before .before .before .before .before .before .before .args in
@@ -80,9 +83,9 @@ kind-bit-requires c κs =
 
 slice-write-sheet : tie.Need-slice-write-sheet Inv-loop μ-loop
 slice-write-sheet c =
-    let p = c .before .before .before .before .before .before .before .before .before .pre in
-    let l = c .before .before .before .before .loop in
-    let a = c .before .before .before .before .before .before .before .before .before .args in
+    let p = c .before .before .before .before .before .before .before .before .before .before .pre in
+    let l = c .before .before .before .before .before .loop in
+    let a = c .before .before .before .before .before .before .before .before .before .before .args in
     let h = cell-inside (a .k) (heldOf (a .desk .now) (a .frame) (l .p) % 64) (a .class) (p .0 .class (l .p) (omega arith)) (p .3) in
     omega (arith, l .inv .1 .keeps .long, p .1)
 
@@ -94,18 +97,23 @@ loop-less c = omega arith
 
 loop-again : tie.Need-loop-again Inv-loop μ-loop
 loop-again c =
-    let p = c .before .before .before .before .before .before .before .before .before .pre in
-    let l = c .before .before .before .before .loop in (
+    let p = c .before .before .before .before .before .before .before .before .before .before .pre in
+    let l = c .before .before .before .before .before .loop in
+    let a = c .before .before .before .before .before .before .before .before .before .before .args in
+    let waits = c .before .before .before .before .before .before .before .if1 .left in
+    let h = cell-inside (a .k) (heldOf (a .desk .now) (a .frame) (l .p) % 64) (a .class) (p .0 .class (l .p) (omega arith)) (p .3) in (
       omega arith,
-      rw (c .kind-bit .ensures)
-          (drawing-step _ _ _ _ _ _ (c .before .before .before .before .before .before .if1 .left) (l .p) _ (l .inv .1) (omega arith) (omega (arith, p .0 .depth)) (p .3) (p .0 .class (l .p) (omega arith)) (p .1)),
+      rw (c .before .kind-bit .ensures)
+          (drawing-step _ _ _ _ _ _ waits (l .p) _ (l .inv .1) (omega arith) (omega (arith, p .0 .depth)) (p .3) (p .0 .class (l .p) (omega arith)) (p .1)),
+      noting-step (l .inv .2) _ _ (omega (arith, l .inv .1 .keeps .long, p .1)) _
+          (⊎-elim (λ w. inl (w .0 .taken, w .1)) (λ w. inr (w .0 .left, w .1)) (c .if2 .came)),
     )
 
 same-length : tie.Need-same-length Inv-loop μ-loop
 same-length c = c .before .loop .inv .1 .keeps .long
 
 returns-2 : tie.Need-returns-2 Inv-loop μ-loop
-returns-2 c = drawing-done _ _ _ _ _ _ (c .before .before .before .if1 .left) _ _ (c .before .loop .inv .1) (omega arith)
+returns-2 c = (drawing-done _ _ _ _ _ _ (c .before .before .before .if1 .left) _ _ (c .before .loop .inv .1) (omega arith), noting-done (c .before .loop .inv .2))
 
 pub draw-spec : {M : Type 1} → statement M
 draw-spec =
@@ -125,7 +133,7 @@ draw-spec =
     cast-held
     mul-at
     add-at
-    slice-read-sheet
+    slice-read-seen
     kind-bit-requires
     slice-write-sheet
     add-p

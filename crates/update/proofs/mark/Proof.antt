@@ -1,8 +1,10 @@
+use mathlib.Core.Logic.{inl, inr, ⊎-elim}
 use Prim.Native.Nat.{_≤_, _-_, _+_, _*_}
 use native.Mathlib.Omega.{arith}
 use Rattle.rules.specs.Limits.{maxDepth}
 use Rattle.layout.specs.Layout.{heldAt}
 use Rattle.update.proofs.Marking.{Marking, mode-small, marking-start, marking-step, marking-done}
+use Rattle.update.proofs.Notes.{Noting, noting-start, noting-step, noting-done}
 use Rattle.update.proofs.mark.Statement.{statement}
 use Rattle.update.proofs.mark.Tie as tie
 use Rattle.update.proofs.mark.Reads as reads
@@ -11,10 +13,10 @@ use Rattle.context.proofs.mark_bits.Reads as mark-bits-reads
 use Rattle.origins.proofs.origin.Reads as origin-reads
 
 abbrev Inv-loop : tie.InvT-loop
-Inv-loop desk₀ frame k context d p₀ desk p = (p ≤ d) × Marking desk₀ frame context p desk
+Inv-loop desk₀ frame k context changed₀ d p₀ desk changed p = (p ≤ d) × Marking desk₀ frame context p desk × Noting desk₀ desk changed
 
 abbrev μ-loop : tie.MeasureT-loop
-μ-loop desk₀ frame k context d p₀ desk p = d - p
+μ-loop desk₀ frame k context changed₀ d p₀ desk changed p = d - p
 
 add-d : tie.Need-add-d Inv-loop μ-loop
 add-d c = omega arith
@@ -26,7 +28,7 @@ cast-d : tie.Need-cast-d Inv-loop μ-loop
 cast-d c = omega arith
 
 loop-holds : tie.Need-loop-holds Inv-loop μ-loop
-loop-holds c = (omega arith, marking-start _ _ _)
+loop-holds c = (omega arith, marking-start _ _ _, noting-start _)
 
 mul-held : tie.Need-mul-held Inv-loop μ-loop
 mul-held c = omega arith
@@ -61,8 +63,8 @@ cast-tried c = rw (c .origin .ensures) (omega arith)
 add-at : tie.Need-add-at Inv-loop μ-loop
 add-at c = omega arith
 
-slice-read-desk : tie.Need-slice-read-desk Inv-loop μ-loop
-slice-read-desk c = omega arith
+slice-read-seen : tie.Need-slice-read-seen Inv-loop μ-loop
+slice-read-seen c = omega arith
 
 mul-mark-bits : tie.Need-mul-mark-bits Inv-loop μ-loop
 mul-mark-bits c = rw (c .before .origin .ensures) (omega arith)
@@ -91,18 +93,20 @@ loop-less c = omega arith
 
 loop-again : tie.Need-loop-again Inv-loop μ-loop
 loop-again c =
-    let p = c .before .before .before .before .before .before .before .before .before .pre in
-    let l = c .before .before .before .before .before .before .loop in (
+    let p = c .before .before .before .before .before .before .before .before .before .before .pre in
+    let l = c .before .before .before .before .before .before .before .loop in (
       omega arith,
-      rw (c .mark-bits .ensures, c .before .before .origin .ensures)
+      rw (c .before .mark-bits .ensures, c .before .before .before .origin .ensures)
           (marking-step _ _ _ (l .p) _ (l .inv .1) (omega arith) (omega (arith, p .0 .depth)) (p .0 .long) (omega arith)),
+      noting-step (l .inv .2) _ _ (omega (arith, l .inv .1 .keeps .long, p .0 .long)) _
+          (⊎-elim (λ w. inl (w .0 .taken, w .1)) (λ w. inr (w .0 .left, w .1)) (c .if1 .came)),
     )
 
 same-length : tie.Need-same-length Inv-loop μ-loop
 same-length c = c .before .loop .inv .1 .keeps .long
 
 returns : tie.Need-returns Inv-loop μ-loop
-returns c = marking-done _ _ _ _ _ (c .before .loop .inv .1) (omega arith)
+returns c = (marking-done _ _ _ _ _ (c .before .loop .inv .1) (omega arith), noting-done (c .before .loop .inv .2))
 
 pub mark-spec : {M : Type 1} → statement M
 mark-spec =
@@ -124,7 +128,7 @@ mark-spec =
     origin-requires
     cast-tried
     add-at
-    slice-read-desk
+    slice-read-seen
     mul-mark-bits
     add-mark-bits
     mark-bits-requires

@@ -61,14 +61,14 @@ returns : tie.Need-returns
 returns c =
     let p = c .before .before .before .before .before .before .before .before .before .before .before .before .before .before .before .before .before .pre in
     let a = c .before .before .before .before .before .before .before .before .before .before .before .before .before .before .before .before .before .args in
-    conclude-clean _ _ _ _ (p .0 .few) (p .1) _ _ _ (rw (c .before .before .before .before .before .before .before .before .before .before .before .frame-of .ensures) at (c .before .before .before .before .before .before .before .before .mark .ensures)) (c .before .before .before .before .successors .ensures) (c .before .before .find-cycle .ensures) (c .if1 .taken)
+    conclude-clean _ _ _ _ (p .0 .few) (p .1) _ _ _ (rw (c .before .before .before .before .before .before .before .before .before .before .before .frame-of .ensures) at (c .before .before .before .before .before .before .before .before .mark .ensures .0)) (c .before .before .before .before .successors .ensures) (c .before .before .find-cycle .ensures) (c .if1 .taken)
 
 show-requires : tie.Need-show-requires
 show-requires c κs =
     let p = c .before .before .before .before .before .before .before .before .before .before .before .before .before .before .before .before .before .before .before .pre in
     let a = c .before .before .before .before .before .before .before .before .before .before .before .before .before .before .before .before .before .before .before .args in
     let n = c .before .before .if1 .left in
-    let e = c .before .before .before .before .before .before .before .before .before .before .mark .ensures .keeps .long in
+    let e = c .before .before .before .before .before .before .before .before .before .before .mark .ensures .0 .keeps .long in
     let l = p .0 .encodes .long in
     (omega arith, p .0 .few, p .2, p .3, writable (c .before .before .before .before .find-cycle .ensures) (omega arith))
 
@@ -76,7 +76,7 @@ slice-write-desk : tie.Need-slice-write-desk
 slice-write-desk c =
     let p = c .before .before .before .before .before .before .before .before .before .before .before .before .before .before .before .before .before .before .before .before .before .before .pre in
     let a = c .before .before .before .before .before .before .before .before .before .before .before .before .before .before .before .before .before .before .before .before .before .before .args in
-    let e = c .before .before .before .before .before .before .before .before .before .before .before .before .before .mark .ensures .keeps .long in let l = p .0 .encodes .long in omega arith
+    let e = c .before .before .before .before .before .before .before .before .before .before .before .before .before .mark .ensures .0 .keeps .long in let l = p .0 .encodes .long in omega arith
 
 same-length-2 : tie.Need-same-length-2
 same-length-2 c = search needs
@@ -88,7 +88,7 @@ returns-2 : tie.Need-returns-2
 returns-2 c =
     let p = c .before .before .before .before .before .before .before .before .before .before .before .before .before .before .before .before .before .before .before .before .before .before .pre in
     let a = c .before .before .before .before .before .before .before .before .before .before .before .before .before .before .before .before .before .before .before .before .before .before .args in
-    conclude-fault _ _ _ _ (p .0 .few) (p .1) _ _ _ (rw (c .before .before .before .before .before .before .before .before .before .before .before .before .before .before .before .before .frame-of .ensures) at (c .before .before .before .before .before .before .before .before .before .before .before .before .before .mark .ensures)) (c .before .before .before .before .before .before .before .before .before .successors .ensures) (c .before .before .before .before .before .before .before .find-cycle .ensures) _ (c .before .before .before .before .before .if1 .left) (c .before .before .show .ensures)
+    conclude-fault _ _ _ _ (p .0 .few) (p .1) _ _ _ (rw (c .before .before .before .before .before .before .before .before .before .before .before .before .before .before .before .before .frame-of .ensures) at (c .before .before .before .before .before .before .before .before .before .before .before .before .before .mark .ensures .0)) (c .before .before .before .before .before .before .before .before .before .successors .ensures) (c .before .before .before .before .before .before .before .find-cycle .ensures) _ (c .before .before .before .before .before .if1 .left) (c .before .before .show .ensures)
 
 pub conclude-spec : {M : Type 1} → statement M
 conclude-spec =
