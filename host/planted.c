@@ -58,6 +58,7 @@
     X(step_desk_without_origins, unfit_lengths, wrong) \
     X(step_desk_short_by_one, unfit_lengths, wrong) \
     X(refused_7_writes, refusal_7, wrong) \
+    X(exit_with_tries_held, refusal_7, wrong) \
     X(refused_8_writes, refusal_8, wrong) \
     X(refused_10_before_11, closed, wrong) \
     X(refused_3_before_10, closed, wrong) \
@@ -408,8 +409,8 @@ static void spoil_bits(struct call *c)
     }
 }
 
-/* Whether a lock of the frame counts as a try, where it may make its class safe,
- * by a wrong rule. */
+/* Whether a lock of the frame counts as a try, where it may make its class
+ * safe, by a wrong rule. */
 static int is_try_by(const struct call *c, unsigned frame, unsigned place)
 {
     const uint8_t *held = c->desk + HELD_AT + DEPTH * frame;
@@ -484,7 +485,8 @@ static void spoil_accepted(struct call *c)
         spoil_sheet(c);
     }
     if (c->kind == PLUNGEROWL_RELEASE) {
-        if (plant() >= release_takes_oldest && plant() <= release_takes_try_first)
+        if (plant() >= release_takes_oldest
+            && plant() <= release_takes_try_first)
             spoil_choice(c);
         spoil_bits(c);
     }
@@ -575,6 +577,10 @@ static uint8_t wrong_answer(uint8_t answer, const uint8_t *desk,
         return answer == PLUNGEROWL_BAD_CLASS && is_try
                && desk[DEPTHS_AT + current_frame(desk, record[2])] == DEPTH
                ? PLUNGEROWL_FRAME_FULL : answer;
+    case exit_with_tries_held:
+        return answer == PLUNGEROWL_STILL_HELD
+               && bit_at(desk, DEPTH * current_frame(desk, record[2]))
+               ? PLUNGEROWL_OK : answer;
     case try_at_full_depth_as_3:
         return answer == PLUNGEROWL_FRAME_FULL && is_try
                ? PLUNGEROWL_BAD_RECORD : answer;

@@ -4,9 +4,9 @@
  * Usage: selftest [--first] [TEST]
  *
  * A right check prints nothing, a wrong one prints a line; with --first the
- * first wrong one is the last. TEST is the one test to be run (test_TEST below),
- * else all are. The last line gives the counts. Exit status: 0 all right, 1
- * something wrong, 2 out of memory or wrong usage.
+ * first wrong one is the last. TEST is the one test to be run (test_TEST
+ * below), else all are. The last line gives the counts. Exit status: 0 all
+ * right, 1 something wrong, 2 out of memory or wrong usage.
  *
  * Beside the lent buffers stand copies of what should be in them. After every
  * call all bytes are compared with the copies: sizes, tails of longer buffers,
@@ -968,15 +968,18 @@ static void test_refusal_7(void)
 {
     static const unsigned states[] = { 4, 6, 7, 8 };
     struct buffers b;
-    unsigned i;
+    unsigned i, mode;
 
     open_buffers(&b, 8, 0);
     for (i = 0; i < 4; i++) {
-        put_desk(&b, STATES_AT + 1, states[i]);
-        expect_step(&b, 1, ACQUIRE, 1, R, 0, "acquire in a handler");
-        expect_step(&b, 1, i == 0 ? EXIT_SOFT : EXIT_HARD, 0, 0, 7,
-                    "exit with a held lock");
-        expect_step(&b, 1, RELEASE, 1, 0, 0, "release in a handler");
+        for (mode = R; mode < MODES; mode++) {
+            put_desk(&b, STATES_AT + 1, states[i]);
+            put_desk(&b, MARKS_AT + 1, 0);
+            expect_step(&b, 1, ACQUIRE, 1, mode, 0, "acquire in a handler");
+            expect_step(&b, 1, i == 0 ? EXIT_SOFT : EXIT_HARD, 0, 0, 7,
+                        "exit with a held lock");
+            expect_step(&b, 1, RELEASE, 1, 0, 0, "release in a handler");
+        }
     }
     free_buffers(&b);
 }
@@ -1122,7 +1125,8 @@ static void test_try_example(void)
     desk[118] = 0x02;
     desk[580] = 0;
     check_desk(&b, 0, desk, sizeof desk, "try example, fault");
-    check(memcmp(b.sheet.bytes, sheet, sizeof sheet) == 0, "try example: sheet");
+    check(memcmp(b.sheet.bytes, sheet, sizeof sheet) == 0,
+          "try example: sheet");
     check(memcmp(b.slip.bytes, cycle, sizeof cycle) == 0, "try example: slip");
     free_buffers(&b);
 }
