@@ -1,9 +1,12 @@
 /*
  * selftest.c - check the calls of libplungerowl.a against docs/FORMATS.md.
  *
- * A right check prints nothing, a wrong one prints a line; with the argument
- * --first the first wrong one is the last. The last line gives the counts. Exit
- * status: 0 all right, 1 something wrong, 2 out of memory.
+ * Usage: selftest [--first] [TEST]
+ *
+ * A right check prints nothing, a wrong one prints a line; with --first the
+ * first wrong one is the last. TEST is the one test to be run (test_TEST
+ * below), else all are. The last line gives the counts. Exit status: 0 all
+ * right, 1 something wrong, 2 out of memory or wrong usage.
  *
  * Beside the lent buffers stand copies of what should be in them. After every
  * call all bytes are compared with the copies: sizes, tails of longer buffers,
@@ -24,13 +27,16 @@
 #include "guarded.h"
 #include "plungerowl.h"
 
-/* Places on the desk. */
-#define CLOSED_AT 1
-#define STATES_AT 2
-#define DEPTHS_AT 10
-#define MARKS_AT 34
-#define HELD_AT 98
-#define FRAMES 24
+/* Short names for the desk. */
+#define CLOSED_AT PLUNGEROWL_CLOSED_AT
+#define STATES_AT PLUNGEROWL_STATES_AT
+#define DEPTHS_AT PLUNGEROWL_DEPTHS_AT
+#define MARKS_AT PLUNGEROWL_MARKS_AT
+#define HELD_AT PLUNGEROWL_HELD_AT
+#define ORIGINS_AT PLUNGEROWL_ORIGINS_AT
+#define CORES PLUNGEROWL_CORES
+#define FRAMES PLUNGEROWL_FRAMES
+#define DEPTH PLUNGEROWL_MAX_DEPTH
 
 #define FILL 0x5A /* what is in the buffers before the first call */
 #define GUARD_WORD UINT64_C(0x123456789ABCDEF0)
@@ -40,7 +46,8 @@
 enum { ACQUIRE = 0, RELEASE = 1, HARD_ON = 2, HARD_OFF = 3, SOFT_ON = 4,
        SOFT_OFF = 5, ENTER_SOFT = 6, EXIT_SOFT = 7, ENTER_HARD = 8,
        EXIT_HARD = 9 };
-enum { E = 0, r = 1, R = 2 };
+/* Modes; TRY + E and so on are those of a successful try. */
+enum { E = 0, r = 1, R = 2, TRY = 3, MODES = 6 };
 
 static unsigned long checks;
 static unsigned long failures;
@@ -158,10 +165,42 @@ static void free_buffers(struct buffers *b)
     guarded_free(&b->want_slip);
 }
 
-/* Write one byte in a buffer and in its copy. */
+/* The origin bit of a place: of all places in a row, eight to a byte, the first
+ * in the lowest bit. */
+static size_t origin_at(unsigned frame, unsigned place)
+{
+    return ORIGINS_AT + (DEPTH * frame + place) / 8;
+}
+
+static unsigned origin_bit(unsigned frame, unsigned place)
+{
+    return 1u << (DEPTH * frame + place) % 8;
+}
+
+static int origin_of(const uint8_t *desk, unsigned frame, unsigned place)
+{
+    return (desk[origin_at(frame, place)] & origin_bit(frame, place)) != 0;
+}
+
+static void set_origin(uint8_t *desk, unsigned frame, unsigned place, int tried)
+{
+    if (tried)
+        desk[origin_at(frame, place)] |= (uint8_t)origin_bit(frame, place);
+    else
+        desk[origin_at(frame, place)] &= (uint8_t)~origin_bit(frame, place);
+}
+
+/* Write one byte, or one origin bit, in a buffer and in its copy. */
 static void put_desk(struct buffers *b, size_t at, unsigned value)
 {
     b->desk.bytes[at] = b->want_desk.bytes[at] = (uint8_t)value;
+}
+
+static void put_origin(struct buffers *b, unsigned frame, unsigned place,
+                       int tried)
+{
+    set_origin(b->desk.bytes, frame, place, tried);
+    set_origin(b->want_desk.bytes, frame, place, tried);
 }
 
 static void put_sheet(struct buffers *b, unsigned from, unsigned to,
@@ -232,36 +271,41 @@ static unsigned kind_of(unsigned held_mode, unsigned acquire_mode)
 }
 
 static void want_acquire(struct buffers *b, unsigned frame, unsigned class_,
-                      unsigned mode)
+                         unsigned mode)
 {
     uint8_t *depth = b->want_desk.bytes + DEPTHS_AT + frame;
-    uint8_t *held = b->want_desk.bytes + HELD_AT + 20 * frame;
+    uint8_t *held = b->want_desk.bytes + HELD_AT + DEPTH * frame;
     unsigned i;
 
-    for (i = 0; i < *depth; i++)
+    for (i = 0; i < *depth && mode < TRY; i++)
         b->want_sheet.bytes[held[i] % 64 * b->k + class_]
             |= (uint8_t)kind_of(held[i] / 64, mode);
-    held[*depth] = (uint8_t)(class_ + 64 * mode);
+    held[*depth] = (uint8_t)(class_ + 64 * (mode % TRY));
+    set_origin(b->want_desk.bytes, frame, *depth, mode >= TRY);
     *depth += 1;
 }
 
 static void want_release(struct buffers *b, unsigned frame, unsigned class_)
 {
-    uint8_t *depth = b->want_desk.bytes + DEPTHS_AT + frame;
-    uint8_t *held = b->want_desk.bytes + HELD_AT + 20 * frame;
+    uint8_t *desk = b->want_desk.bytes;
+    uint8_t *depth = desk + DEPTHS_AT + frame;
+    uint8_t *held = desk + HELD_AT + DEPTH * frame;
     unsigned i = *depth - 1u;
 
     while (held[i] % 64 != class_)
         i--;
-    for (; i + 1 < *depth; i++)
+    for (; i + 1 < *depth; i++) {
         held[i] = held[i + 1];
+        set_origin(desk, frame, i, origin_of(desk, frame, i + 1));
+    }
     held[i] = 0;
+    set_origin(desk, frame, i, 0);
     *depth -= 1;
 }
 
-static unsigned mark_of(unsigned state, unsigned mode)
+static unsigned mark_of(unsigned state, unsigned mode, int tried)
 {
-    unsigned safe = mode == R ? 2 : 1;
+    unsigned safe = tried ? 0 : mode == R ? 2 : 1;
     unsigned unsafe = mode == E ? 4 : 8;
     unsigned mark = 0;
 
@@ -283,10 +327,11 @@ static void want_marks(struct buffers *b, unsigned core)
     unsigned i;
 
     for (i = 0; i < desk[DEPTHS_AT + frame]; i++) {
-        unsigned held = desk[HELD_AT + 20 * frame + i];
+        unsigned held = desk[HELD_AT + DEPTH * frame + i];
 
         desk[MARKS_AT + held % 64]
-            |= (uint8_t)mark_of(desk[STATES_AT + core], held / 64);
+            |= (uint8_t)mark_of(desk[STATES_AT + core], held / 64,
+                                origin_of(desk, frame, i));
     }
 }
 
@@ -487,7 +532,9 @@ static void expect_no_reach(struct buffers *b, uint64_t class_, unsigned answer,
 
 static void test_sizes(void)
 {
-    check(PLUNGEROWL_DESK_SIZE == HELD_AT + 20 * FRAMES, "desk size");
+    check(CLOSED_AT == 1 && STATES_AT == 2 && DEPTHS_AT == 10 && MARKS_AT == 34
+          && HELD_AT == 98 && ORIGINS_AT == 578, "places on the desk");
+    check(PLUNGEROWL_DESK_SIZE == 638, "desk size");
     check(PLUNGEROWL_SHEET_SIZE(3 + 5) == 64, "sheet size");
     check(PLUNGEROWL_SLIP_SIZE(3 + 5) == 25, "slip size");
     check(PLUNGEROWL_RECORD_SIZE == 6, "record size");
@@ -514,12 +561,15 @@ static void test_numbers(void)
         check(kinds[i] == i, "number of kind %u", i);
     check(PLUNGEROWL_EXCLUSIVE == 0 && PLUNGEROWL_NONRECURSIVE_READ == 1
           && PLUNGEROWL_RECURSIVE_READ == 2, "numbers of the modes");
+    check(PLUNGEROWL_TRY_EXCLUSIVE == 3 && PLUNGEROWL_TRY_NONRECURSIVE_READ == 4
+          && PLUNGEROWL_TRY_RECURSIVE_READ == 5, "numbers of the tries");
     check(PLUNGEROWL_ER == 1 && PLUNGEROWL_EN == 2 && PLUNGEROWL_SR == 4
           && PLUNGEROWL_SN == 8, "numbers of the dependency kinds");
     check(PLUNGEROWL_SOURCE_HOLD == 0 && PLUNGEROWL_SOURCE_HARD == 1
           && PLUNGEROWL_SOURCE_SOFT == 2, "numbers of the sources");
     check(PLUNGEROWL_MAX_CLASSES == 64 && PLUNGEROWL_CORES == 8
-          && PLUNGEROWL_MAX_DEPTH == 20 && PLUNGEROWL_HEADER_SIZE == 4,
+          && PLUNGEROWL_MAX_DEPTH == 20 && PLUNGEROWL_FRAMES == 24
+          && PLUNGEROWL_PLACES == 480 && PLUNGEROWL_HEADER_SIZE == 4,
           "limits");
 }
 
@@ -569,7 +619,8 @@ static void test_reopen(void)
 
     open_buffers(&b, 8, 10);
     expect_step(&b, 0, ACQUIRE, 0, E, 0, "0E");
-    expect_step(&b, 0, ACQUIRE, 0, E, 1, "0E, 0E");
+    expect_step(&b, 0, ACQUIRE, 1, TRY + E, 0, "0E, try 1E");
+    expect_step(&b, 0, ACQUIRE, 0, E, 1, "0E, try 1E, 0E");
     expect_open(&b, 8, b.desk.size, b.sheet.size, 0, "opening again");
     expect_step(&b, 0, ACQUIRE, 0, E, 0, "0E after opening again");
     free_buffers(&b);
@@ -577,7 +628,7 @@ static void test_reopen(void)
 
 /* ------------------------------------------------------- accepted records */
 
-static void test_p2(size_t tail)
+static void expect_p2(size_t tail)
 {
     static const uint8_t cycle[] = { 2, 1, 2, 0, 2, 2, 0, FILL, FILL, FILL };
     static const uint8_t sheet[] = { 0, 0, 0, 0, 0, 2, 0, 2, 0 };
@@ -607,6 +658,12 @@ static void test_p2(size_t tail)
     expect_reach(&b, 2, BIT(1) | BIT(2), 2, "P2 closed, from 2");
     expect_no_reach(&b, 3, 4, "P2 closed, from K");
     free_buffers(&b);
+}
+
+static void test_p2(void)
+{
+    expect_p2(0);
+    expect_p2(50);
 }
 
 static void test_two_cycles(void)
@@ -761,14 +818,18 @@ static void test_refusal_3(void)
         expect_step(&b, i, ACQUIRE, 3, E, 3, "core over 7");
     for (i = 10; i < 256; i++)
         expect_step(&b, 0, i, 0, 0, 3, "kind over 9");
-    for (i = 3; i < 256; i++)
-        expect_step(&b, 0, ACQUIRE, 3, i, 3, "mode over 2");
+    for (i = MODES; i < 256; i++)
+        expect_step(&b, 0, ACQUIRE, 3, i, 3, "mode over 5");
     for (i = 1; i < 256; i++)
         expect_step(&b, 0, RELEASE, 1, i, 3, "release with a mode");
     for (i = HARD_ON; i <= EXIT_HARD; i++) {
-        expect_step(&b, 0, i, 1, 0, 3, "event with a class");
-        expect_step(&b, 0, i, 0, 1, 3, "event with a mode");
-        expect_step(&b, 0, i, 255, 255, 3, "event with class and mode");
+        unsigned j;
+
+        for (j = 1; j < 256; j++) {
+            expect_step(&b, 0, i, j, 0, 3, "event with a class");
+            expect_step(&b, 0, i, 0, j, 3, "event with a mode");
+            expect_step(&b, 0, i, j, j, 3, "event with class and mode");
+        }
     }
     free_buffers(&b);
 }
@@ -780,7 +841,10 @@ static void test_refusal_4(void)
 
     open_used(&b, 5);
     for (i = 8; i < 256; i++) {
-        expect_step(&b, 0, ACQUIRE, i, i % 3, 4, "acquire, class K or more");
+        unsigned mode;
+
+        for (mode = 0; mode < MODES; mode++)
+            expect_step(&b, 0, ACQUIRE, i, mode, 4, "acquire, class K or more");
         expect_step(&b, 0, RELEASE, i, 0, 4, "release, class K or more");
     }
     free_buffers(&b);
@@ -831,7 +895,9 @@ static void put_held(struct buffers *b, unsigned core, unsigned state,
                      && !(leaving && frame == frame_of(core, state));
 
         put_desk(b, DEPTHS_AT + frame, stands);
-        put_desk(b, HELD_AT + 20 * frame, stands ? 1 + i + 64 * mode : 0);
+        put_desk(b, HELD_AT + DEPTH * frame,
+                 stands ? 1 + i + 64 * (mode % TRY) : 0);
+        put_origin(b, frame, 0, stands && mode >= TRY);
         put_desk(b, MARKS_AT + 1 + i, 0);
     }
 }
@@ -843,7 +909,7 @@ static void test_table_marks(void)
     unsigned mode, state, event;
 
     open_buffers(&b, 8, 0);
-    for (mode = 0; mode < 3; mode++) {
+    for (mode = 0; mode < MODES; mode++) {
         for (state = 0; state < 9; state++) {
             for (event = 0; event < 8; event++) {
                 if (next_state[state][event] < 0)
@@ -864,7 +930,7 @@ static void test_acquire_marks(void)
     unsigned mode, state;
 
     open_buffers(&b, 8, 0);
-    for (mode = 0; mode < 3; mode++) {
+    for (mode = 0; mode < MODES; mode++) {
         for (state = 0; state < 9; state++) {
             put_desk(&b, STATES_AT + 5, state);
             put_desk(&b, MARKS_AT + 7, 0);
@@ -883,13 +949,15 @@ static void test_kinds(void)
     unsigned older, newer;
 
     open_buffers(&b, 8, 0);
-    for (older = 0; older < 3; older++) {
-        for (newer = 0; newer < 3; newer++) {
+    for (older = 0; older < MODES; older++) {
+        for (newer = 0; newer < MODES; newer++) {
+            unsigned middle = 3 + older % 3;
+
             expect_step(&b, 0, ACQUIRE, 2, older, 0, "older lock");
-            expect_step(&b, 0, ACQUIRE, 3 + older, newer, 0, "newer lock");
+            expect_step(&b, 0, ACQUIRE, middle, newer, 0, "newer lock");
             expect_step(&b, 0, ACQUIRE, 6, newer, 0, "newest lock");
             expect_step(&b, 0, RELEASE, 2, 0, 0, "release older");
-            expect_step(&b, 0, RELEASE, 3 + older, 0, 0, "release newer");
+            expect_step(&b, 0, RELEASE, middle, 0, 0, "release newer");
             expect_step(&b, 0, RELEASE, 6, 0, 0, "release newest");
         }
     }
@@ -900,15 +968,18 @@ static void test_refusal_7(void)
 {
     static const unsigned states[] = { 4, 6, 7, 8 };
     struct buffers b;
-    unsigned i;
+    unsigned i, mode;
 
     open_buffers(&b, 8, 0);
     for (i = 0; i < 4; i++) {
-        put_desk(&b, STATES_AT + 1, states[i]);
-        expect_step(&b, 1, ACQUIRE, 1, R, 0, "acquire in a handler");
-        expect_step(&b, 1, i == 0 ? EXIT_SOFT : EXIT_HARD, 0, 0, 7,
-                    "exit with a held lock");
-        expect_step(&b, 1, RELEASE, 1, 0, 0, "release in a handler");
+        for (mode = R; mode < MODES; mode++) {
+            put_desk(&b, STATES_AT + 1, states[i]);
+            put_desk(&b, MARKS_AT + 1, 0);
+            expect_step(&b, 1, ACQUIRE, 1, mode, 0, "acquire in a handler");
+            expect_step(&b, 1, i == 0 ? EXIT_SOFT : EXIT_HARD, 0, 0, 7,
+                        "exit with a held lock");
+            expect_step(&b, 1, RELEASE, 1, 0, 0, "release in a handler");
+        }
     }
     free_buffers(&b);
 }
@@ -922,12 +993,14 @@ static void test_refusal_8(void)
     open_buffers(&b, 8, 0);
     for (i = 0; i < 3; i++) {
         put_desk(&b, STATES_AT + 7, states[i]);
-        for (j = 0; j < 20; j++)
+        for (j = 0; j < DEPTH; j++)
             expect_step(&b, 7, ACQUIRE, 0, R, 0, "fill the frame");
-        expect_step(&b, 7, ACQUIRE, 0, R, 8, "full frame");
-        expect_step(&b, 7, ACQUIRE, 3, E, 8, "full frame, another class");
-        expect_step(&b, 7, ACQUIRE, 8, E, 4, "full frame, class K");
-        expect_step(&b, 7, ACQUIRE, 3, 3, 3, "full frame, mode 3");
+        for (j = 0; j < MODES; j++) {
+            expect_step(&b, 7, ACQUIRE, 0, j, 8, "full frame");
+            expect_step(&b, 7, ACQUIRE, 3, j, 8, "full frame, another class");
+            expect_step(&b, 7, ACQUIRE, 8, j, 4, "full frame, class K");
+        }
+        expect_step(&b, 7, ACQUIRE, 3, MODES, 3, "full frame, mode 6");
     }
     expect_step(&b, 6, ACQUIRE, 0, R, 0, "another core's frame");
     expect_step(&b, 7, RELEASE, 0, 0, 0, "release in a full frame");
@@ -940,7 +1013,7 @@ static void test_order(void)
     struct buffers b;
 
     open_buffers(&b, 8, 0);
-    expect_step(&b, 0, ACQUIRE, 8, 3, 3, "3 before 4");
+    expect_step(&b, 0, ACQUIRE, 8, MODES, 3, "3 before 4");
     expect_step(&b, 0, RELEASE, 8, 1, 3, "3 before 4, release");
     expect_step(&b, 0, RELEASE, 8, 0, 4, "4 before 5");
     expect_step(&b, 0, EXIT_HARD, 1, 0, 3, "3 before 6");
@@ -960,6 +1033,7 @@ static void test_closed(void)
     expect_step(&b, 0, ACQUIRE, 0, r, 1, "P7 record 2");
     expect_step(&b, 0, RELEASE, 0, 0, 10, "closed, release");
     expect_step(&b, 1, ACQUIRE, 1, E, 10, "closed, acquire");
+    expect_step(&b, 1, ACQUIRE, 1, TRY + E, 10, "closed, try");
     expect_step(&b, 1, ACQUIRE, 8, E, 10, "closed, 10 before 4");
     expect_step(&b, 1, EXIT_HARD, 0, 0, 10, "closed, 10 before 6");
     expect_step(&b, 1, RELEASE, 1, 0, 10, "closed, 10 before 5");
@@ -981,7 +1055,7 @@ static void test_closed_by_hand(void)
 
     open_buffers(&b, 8, 0);
     expect_step(&b, 3, ENTER_HARD, 0, 0, 0, "enter hard");
-    for (i = 0; i < 20; i++)
+    for (i = 0; i < DEPTH; i++)
         expect_step(&b, 3, ACQUIRE, 0, R, 0, "fill the frame");
     put_desk(&b, CLOSED_AT, 1);
     expect_step(&b, 3, ACQUIRE, 0, R, 10, "closed, 10 before 8");
@@ -992,6 +1066,481 @@ static void test_closed_by_hand(void)
     expect_step(&b, 3, ACQUIRE, 0, R, 8, "open again, 8");
     expect_step(&b, 3, EXIT_HARD, 0, 0, 7, "open again, 7");
     expect_step(&b, 0, HARD_ON, 0, 0, 0, "open again");
+    free_buffers(&b);
+}
+
+/* ------------------------------------------------------- successful tries */
+
+/* The desk bytes from a place on are the given ones. */
+static void check_desk(const struct buffers *b, size_t at,
+                       const uint8_t *bytes, size_t size, const char *what)
+{
+    size_t i;
+
+    for (i = 0; i < size; i++)
+        check(b->desk.bytes[at + i] == bytes[i], "%s: desk byte %lu is %02X",
+              what, (unsigned long)(at + i), b->desk.bytes[at + i]);
+}
+
+static void check_byte(const struct buffers *b, size_t at, unsigned byte,
+                       const char *what)
+{
+    uint8_t bytes[1];
+
+    bytes[0] = (uint8_t)byte;
+    check_desk(b, at, bytes, 1, what);
+}
+
+/* The example of tries in docs/FORMATS.md. */
+static void test_try_example(void)
+{
+    static const uint8_t cycle[] = { 1, 2, 2, 2, FILL, FILL, FILL };
+    static const uint8_t sheet[] = { 0, 0, 0, 1, 0, 0, 1, 0, 0 };
+    uint8_t desk[PLUNGEROWL_DESK_SIZE] = { 3, 0, 4 };
+    struct buffers b;
+
+    desk[10] = 2;
+    desk[11] = 1;
+    desk[34] = 0x88;
+    desk[35] = 0x44;
+    desk[36] = 0x4C;
+    desk[98] = 0x02;
+    desk[99] = 0x80;
+    desk[118] = 0x42;
+    desk[578] = 0x01;
+    desk[580] = 0x10;
+
+    open_buffers(&b, 3, 0);
+    expect_step(&b, 0, ACQUIRE, 1, E, 0, "try example, 1E");
+    expect_step(&b, 0, ACQUIRE, 2, TRY + E, 0, "try example, try 2E");
+    expect_step(&b, 0, ACQUIRE, 0, R, 0, "try example, 0R");
+    expect_step(&b, 0, RELEASE, 1, 0, 0, "try example, release 1");
+    expect_step(&b, 0, ENTER_SOFT, 0, 0, 0, "try example, enter soft");
+    expect_step(&b, 0, ACQUIRE, 2, TRY + r, 0, "try example, try 2r");
+    check_desk(&b, 0, desk, sizeof desk, "try example");
+    expect_step(&b, 0, RELEASE, 2, 0, 0, "try example, release 2");
+    expect_step(&b, 0, ACQUIRE, 2, E, 1, "try example, 2E");
+    desk[1] = 1;
+    desk[36] = 0x5C;
+    desk[118] = 0x02;
+    desk[580] = 0;
+    check_desk(&b, 0, desk, sizeof desk, "try example, fault");
+    check(memcmp(b.sheet.bytes, sheet, sizeof sheet) == 0,
+          "try example: sheet");
+    check(memcmp(b.slip.bytes, cycle, sizeof cycle) == 0, "try example: slip");
+    free_buffers(&b);
+}
+
+/* The held byte of a try has the mode without the try. */
+static void test_try_held_byte(void)
+{
+    struct buffers b;
+    unsigned class_, mode;
+
+    open_buffers(&b, 64, 0);
+    for (class_ = 0; class_ < 64; class_++) {
+        for (mode = TRY; mode < MODES; mode++) {
+            expect_step(&b, 6, ACQUIRE, class_, mode, 0, "a try");
+            check_byte(&b, HELD_AT + DEPTH * 18, class_ + 64 * (mode - TRY),
+                       "a try");
+            expect_step(&b, 6, RELEASE, class_, 0, 0, "release of a try");
+        }
+    }
+    free_buffers(&b);
+}
+
+/* Patterns of origin bits for a frame. */
+enum { NO_TRIES, ALL_TRIES, EVEN_TRIES, ODD_TRIES, THIRD_TRIES, ONE_TRY,
+       PATTERNS = ONE_TRY + DEPTH };
+
+static int is_try(unsigned pattern, unsigned place)
+{
+    switch (pattern) {
+    case NO_TRIES: return 0;
+    case ALL_TRIES: return 1;
+    case EVEN_TRIES: return place % 2 == 0;
+    case ODD_TRIES: return place % 2 == 1;
+    case THIRD_TRIES: return place % 3 == 0;
+    default: return place == pattern - ONE_TRY;
+    }
+}
+
+/* Fill a frame to the depth with class i at place i. All are recursive reads,
+ * whose dependencies close no path strongly. */
+static void put_frame(struct buffers *b, unsigned frame, unsigned depth,
+                      unsigned pattern)
+{
+    unsigned i;
+
+    put_desk(b, DEPTHS_AT + frame, depth);
+    for (i = 0; i < DEPTH; i++) {
+        put_desk(b, HELD_AT + DEPTH * frame + i, i < depth ? i + 64 * R : 0);
+        put_origin(b, frame, i, i < depth && is_try(pattern, i));
+    }
+}
+
+/* The frame is its core's current one and has the depth and the pattern; every
+ * other that may have held locks is full of tries. No class has a mark. */
+static void put_full(struct buffers *b, unsigned frame, unsigned depth,
+                     unsigned pattern)
+{
+    static const unsigned states[3] = { 0, 4, 8 };
+    unsigned i;
+
+    for (i = 0; i < CORES; i++)
+        put_desk(b, STATES_AT + i, i == frame / 3 ? states[frame % 3] : 8);
+    for (i = 0; i < FRAMES; i++)
+        put_frame(b, i, frames_fit[i % 3][b->desk.bytes[STATES_AT + i / 3]]
+                        ? DEPTH : 0, ALL_TRIES);
+    put_frame(b, frame, depth, pattern);
+    for (i = 0; i < 64; i++)
+        put_desk(b, MARKS_AT + i, 0);
+}
+
+/* At every place of every frame an acquire sets its own origin bit and no
+ * other; each lock held is marked by its own bit. */
+static void test_origin_acquires(void)
+{
+    struct buffers b;
+    unsigned frame, place, pattern;
+
+    open_buffers(&b, 64, 0);
+    for (frame = 0; frame < FRAMES; frame++) {
+        for (place = 0; place < DEPTH; place++) {
+            for (pattern = 0; pattern < ONE_TRY; pattern++) {
+                put_full(&b, frame, place, pattern);
+                expect_step(&b, frame / 3, ACQUIRE, 63, TRY + R, 0,
+                            "a try over others");
+                put_full(&b, frame, place, pattern);
+                expect_step(&b, frame / 3, ACQUIRE, 63, R, 0,
+                            "an acquire over others");
+            }
+        }
+    }
+    free_buffers(&b);
+}
+
+/* At every place of every frame a release moves down the origin bits above it,
+ * of its own frame only. */
+static void test_origin_releases(void)
+{
+    struct buffers b;
+    unsigned frame, place, pattern;
+
+    open_buffers(&b, 64, 0);
+    for (frame = 0; frame < FRAMES; frame++) {
+        for (place = 0; place < DEPTH; place++) {
+            for (pattern = 0; pattern < PATTERNS; pattern++) {
+                put_full(&b, frame, DEPTH, pattern);
+                expect_step(&b, frame / 3, RELEASE, place, 0, 0,
+                            "release in a full frame");
+                put_full(&b, frame, place + 1, pattern);
+                expect_step(&b, frame / 3, RELEASE, place, 0, 0,
+                            "release of the newest");
+            }
+        }
+    }
+    free_buffers(&b);
+}
+
+/* By hand: bits 0 to 3 of byte 580 are places 16 to 19 of core 0's task, bits 4
+ * to 7 are places 0 to 3 of its soft handler. */
+static void test_origin_shared(void)
+{
+    static const uint8_t acquired[] = { 0, 0, 0x9A, 0x01, 0 };
+    static const uint8_t released_1[] = { 0, 0, 0xDA, 0, 0 };
+    static const uint8_t released_0[] = { 0, 0, 0x6A, 0, 0 };
+    static const uint8_t left_soft[] = { 0, 0, 0x0A, 0, 0 };
+    static const uint8_t moved[] = { 0, 0, 0x05, 0, 0 };
+    static const uint8_t moved_on[] = { 0, 0x80, 0x02, 0, 0 };
+    struct buffers b;
+    unsigned i;
+
+    open_buffers(&b, 64, 0);
+    for (i = 0; i < DEPTH; i++)
+        expect_step(&b, 0, ACQUIRE, i, i == 17 || i == 19 ? TRY + R : R, 0,
+                    "shared byte, tries at places 17 and 19");
+    expect_step(&b, 0, ENTER_SOFT, 0, 0, 0, "shared byte, enter soft");
+    for (i = 0; i < 5; i++)
+        expect_step(&b, 0, ACQUIRE, 30 + i, i % 4 == 0 || i == 3 ? TRY + R : R,
+                    0, "shared byte, tries at places 0, 3 and 4");
+    check_desk(&b, 578, acquired, sizeof acquired, "shared byte");
+    expect_step(&b, 0, RELEASE, 31, 0, 0, "shared byte, release at place 1");
+    check_desk(&b, 578, released_1, sizeof released_1, "shared byte, place 1");
+    expect_step(&b, 0, RELEASE, 30, 0, 0, "shared byte, release at place 0");
+    check_desk(&b, 578, released_0, sizeof released_0, "shared byte, place 0");
+    for (i = 32; i < 35; i++)
+        expect_step(&b, 0, RELEASE, i, 0, 0, "shared byte, leaving soft");
+    check_desk(&b, 578, left_soft, sizeof left_soft, "shared byte, soft left");
+    expect_step(&b, 0, EXIT_SOFT, 0, 0, 0, "shared byte, exit soft");
+    expect_step(&b, 0, RELEASE, 0, 0, 0, "shared byte, release in the task");
+    check_desk(&b, 578, moved, sizeof moved, "shared byte, moved in the task");
+    expect_step(&b, 0, RELEASE, 1, 0, 0, "shared byte, once more");
+    check_desk(&b, 578, moved_on, sizeof moved_on, "shared byte, moved on");
+    free_buffers(&b);
+}
+
+/* By hand: the last bit of the desk is place 19 of core 7's hard handler. */
+static void test_origin_last(void)
+{
+    struct buffers b;
+    unsigned i;
+
+    open_buffers(&b, 64, 0);
+    expect_step(&b, 7, ENTER_HARD, 0, 0, 0, "last bit, enter hard");
+    for (i = 0; i < DEPTH; i++)
+        expect_step(&b, 7, ACQUIRE, i, i == 19 ? TRY + R : R, 0,
+                    "last bit, a try at place 19");
+    check_byte(&b, 637, 0x80, "last bit");
+    expect_step(&b, 7, RELEASE, 3, 0, 0, "last bit, release below");
+    check_byte(&b, 637, 0x40, "last bit, moved");
+    expect_step(&b, 7, RELEASE, 19, 0, 0, "last bit, release of the try");
+    check_byte(&b, 637, 0, "last bit, gone");
+    free_buffers(&b);
+}
+
+/* No dependency goes to a try; those from it are those of its mode. */
+static void test_try_dependencies(void)
+{
+    static const unsigned kinds[3][3] = { { 2, 2, 1 }, { 8, 8, 4 },
+                                          { 8, 8, 4 } };
+    struct buffers b;
+    unsigned older, newer;
+
+    for (older = 0; older < MODES; older++) {
+        for (newer = 0; newer < MODES; newer++) {
+            unsigned kind = newer < TRY ? kinds[older % TRY][newer] : 0;
+
+            open_buffers(&b, 8, 0);
+            expect_step(&b, 0, ACQUIRE, 2, older, 0, "held lock");
+            expect_step(&b, 0, ACQUIRE, 3, newer, 0, "another class over it");
+            check(b.sheet.bytes[8 * 2 + 3] == kind,
+                  "modes %u, %u: dependency %u", older, newer,
+                  b.sheet.bytes[8 * 2 + 3]);
+            expect_step(&b, 1, ACQUIRE, 2, older, 0, "held lock of core 1");
+            expect_step(&b, 1, ACQUIRE, 2, newer,
+                        kind != 0 && kind != PLUNGEROWL_SR,
+                        "the same class over it");
+            check(b.sheet.bytes[8 * 2 + 2] == kind,
+                  "modes %u, %u: dependency %u on itself", older, newer,
+                  b.sheet.bytes[8 * 2 + 2]);
+            free_buffers(&b);
+        }
+    }
+}
+
+/* Two cores acquire two classes crosswise: a fault where neither of the inner
+ * acquires is a try, whatever the outer ones are. */
+static void test_try_crosswise(void)
+{
+    struct buffers b;
+    unsigned tries;
+
+    for (tries = 0; tries < 16; tries++) {
+        unsigned mode[4], i;
+
+        for (i = 0; i < 4; i++)
+            mode[i] = tries >> i & 1 ? TRY + E : E;
+        open_buffers(&b, 8, 0);
+        expect_step(&b, 0, ACQUIRE, 1, mode[0], 0, "crosswise, core 0, outer");
+        expect_step(&b, 0, ACQUIRE, 2, mode[1], 0, "crosswise, core 0, inner");
+        expect_step(&b, 1, ACQUIRE, 2, mode[2], 0, "crosswise, core 1, outer");
+        expect_step(&b, 1, ACQUIRE, 1, mode[3], mode[1] == E && mode[3] == E,
+                    "crosswise, core 1, inner");
+        free_buffers(&b);
+    }
+}
+
+/* The marks of a try by state and mode: unsafe ones only. */
+static const unsigned try_marks[9][3] = {
+    { 68, 136, 136 }, { 4, 8, 8 }, { 0, 0, 0 }, { 0, 0, 0 }, { 4, 8, 8 },
+    { 0, 0, 0 }, { 0, 0, 0 }, { 0, 0, 0 }, { 0, 0, 0 }
+};
+
+/* A try is marked so by the record that acquires it, and by each later one. */
+static void test_try_marks(void)
+{
+    struct buffers b;
+    unsigned mode, state, event;
+
+    open_buffers(&b, 8, 0);
+    for (mode = 0; mode < 3; mode++) {
+        for (state = 0; state < 9; state++) {
+            unsigned mark = try_marks[state][mode];
+
+            put_desk(&b, STATES_AT + 5, state);
+            put_desk(&b, MARKS_AT + 6, 0);
+            put_desk(&b, MARKS_AT + 7, 0);
+            expect_step(&b, 5, ACQUIRE, 7, TRY + mode, 0, "a try");
+            check_byte(&b, MARKS_AT + 7, mark, "marks of a try");
+            put_desk(&b, MARKS_AT + 7, 0);
+            expect_step(&b, 5, ACQUIRE, 6, R, 0, "an acquire after a try");
+            check_byte(&b, MARKS_AT + 7, mark, "marks of a try, then acquire");
+            put_desk(&b, MARKS_AT + 7, 0);
+            expect_step(&b, 5, RELEASE, 6, 0, 0, "a release after a try");
+            check_byte(&b, MARKS_AT + 7, mark, "marks of a try, then release");
+            put_desk(&b, MARKS_AT + 6, 0);
+            for (event = 0; event < 8; event++) {
+                unsigned next = (unsigned)next_state[state][event];
+
+                if (next_state[state][event] < 0 || event == 5 || event == 7)
+                    continue;
+                put_desk(&b, MARKS_AT + 7, 0);
+                expect_step(&b, 5, event + 2, 0, 0, 0, "an event after a try");
+                check_byte(&b, MARKS_AT + 7,
+                           frame_of(5, next) == frame_of(5, state)
+                           ? try_marks[next][mode] : 0,
+                           "marks of a try, then an event");
+                put_desk(&b, STATES_AT + 5, state);
+            }
+            expect_step(&b, 5, RELEASE, 7, 0, 0, "release of a try");
+        }
+    }
+    free_buffers(&b);
+}
+
+/* A class that handlers only tried stays free for tasks. */
+static void test_try_in_handlers(void)
+{
+    struct buffers b;
+
+    open_buffers(&b, 8, 0);
+    expect_step(&b, 0, ENTER_SOFT, 0, 0, 0, "handlers, enter soft");
+    expect_step(&b, 0, ACQUIRE, 1, TRY + E, 0, "handlers, soft, try 1E");
+    expect_step(&b, 0, ENTER_HARD, 0, 0, 0, "handlers, enter hard");
+    expect_step(&b, 0, ACQUIRE, 2, TRY + r, 0, "handlers, hard, try 2r");
+    expect_step(&b, 0, ACQUIRE, 3, E, 0, "handlers, hard, 3E");
+    expect_step(&b, 0, RELEASE, 3, 0, 0, "handlers, hard, release 3");
+    check_byte(&b, MARKS_AT + 1, 4, "tried in the soft handler");
+    check_byte(&b, MARKS_AT + 2, 0, "tried in the hard handler");
+    check_byte(&b, MARKS_AT + 3, 1, "acquired in the hard handler");
+    expect_step(&b, 0, RELEASE, 2, 0, 0, "handlers, hard, release 2");
+    expect_step(&b, 0, EXIT_HARD, 0, 0, 0, "handlers, exit hard");
+    expect_step(&b, 0, RELEASE, 1, 0, 0, "handlers, soft, release 1");
+    expect_step(&b, 0, EXIT_SOFT, 0, 0, 0, "handlers, exit soft");
+    expect_step(&b, 1, ACQUIRE, 1, E, 0, "handlers, task, 1E");
+    expect_step(&b, 1, ACQUIRE, 2, E, 0, "handlers, task, 2E");
+    expect_step(&b, 2, ACQUIRE, 3, E, 1, "handlers, task, 3E");
+    free_buffers(&b);
+}
+
+/* A try that is held over a hard on becomes hard-unsafe. */
+static void test_try_over_hard_on(void)
+{
+    struct buffers b;
+
+    open_buffers(&b, 8, 0);
+    expect_step(&b, 0, SOFT_OFF, 0, 0, 0, "hard on, soft off");
+    expect_step(&b, 0, HARD_OFF, 0, 0, 0, "hard on, hard off");
+    expect_step(&b, 0, ACQUIRE, 4, TRY + E, 0, "hard on, try 4E");
+    check_byte(&b, MARKS_AT + 4, 0, "a try with all off");
+    expect_step(&b, 1, ENTER_HARD, 0, 0, 0, "hard on, core 1 enters hard");
+    expect_step(&b, 1, ACQUIRE, 4, R, 0, "hard on, core 1, 4R");
+    check_byte(&b, MARKS_AT + 4, 2, "hard-safe by another core");
+    expect_step(&b, 0, HARD_ON, 0, 0, 1, "hard on over a try");
+    check_byte(&b, MARKS_AT + 4, 2 + 4, "a try held over a hard on");
+    free_buffers(&b);
+}
+
+/* Marks are by class and the origin by held lock: of two locks of a class the
+ * one that is no try makes it safe. */
+static void test_try_same_class(void)
+{
+    static const unsigned first[] = { TRY + R, R };
+    struct buffers b;
+    unsigned i;
+
+    for (i = 0; i < 2; i++) {
+        unsigned second = first[1 - i];
+
+        open_buffers(&b, 8, 0);
+        expect_step(&b, 2, ENTER_HARD, 0, 0, 0, "same class, enter hard");
+        expect_step(&b, 2, ACQUIRE, 1, first[i], 0, "same class, first");
+        check_byte(&b, MARKS_AT + 1, i == 0 ? 0 : 2, "same class, the first");
+        put_desk(&b, MARKS_AT + 1, 0);
+        expect_step(&b, 2, ACQUIRE, 1, second, 0, "same class, second");
+        check_byte(&b, MARKS_AT + 1, 2, "same class, one is no try");
+        put_desk(&b, MARKS_AT + 1, 0);
+        expect_step(&b, 2, ACQUIRE, 5, TRY + R, 0, "same class, another");
+        check_byte(&b, MARKS_AT + 1, 2, "same class, after another");
+        check_byte(&b, MARKS_AT + 5, 0, "same class, the other");
+        put_desk(&b, MARKS_AT + 1, 0);
+        expect_step(&b, 2, RELEASE, 1, 0, 0, "same class, release");
+        check_byte(&b, MARKS_AT + 1, i == 0 ? 0 : 2, "same class, one is left");
+        free_buffers(&b);
+    }
+}
+
+/* A lock of the class in another frame, or of another core, makes it safe there
+ * and not here. */
+static void test_try_other_frame(void)
+{
+    struct buffers b;
+
+    open_buffers(&b, 8, 0);
+    expect_step(&b, 2, HARD_OFF, 0, 0, 0, "other frame, hard off");
+    expect_step(&b, 2, ACQUIRE, 1, R, 0, "other frame, task, 1R");
+    put_desk(&b, STATES_AT + 2, 6);
+    put_desk(&b, STATES_AT + 3, 6);
+    expect_step(&b, 3, ACQUIRE, 1, R, 0, "other frame, core 3, 1R");
+    put_desk(&b, MARKS_AT + 1, 0);
+    expect_step(&b, 2, ACQUIRE, 1, TRY + R, 0, "other frame, hard, try 1R");
+    check_byte(&b, MARKS_AT + 1, 0, "other frame");
+    free_buffers(&b);
+}
+
+/* A release takes the newest lock of the class, whatever its mode and origin;
+ * its own mode is 0. */
+static void test_try_release(void)
+{
+    /* modes of the older and of the newer lock of class 1 */
+    static const unsigned pairs[][2] = {
+        { E, TRY + E }, { E, TRY + r }, { R, TRY + E }, { r, TRY + R },
+        { TRY + R, R }, { TRY + r, R }, { TRY + E, TRY + R },
+        { TRY + R, TRY + E }, { R, TRY + R } };
+    struct buffers b;
+    size_t i;
+    unsigned mode;
+
+    for (i = 0; i < sizeof pairs / sizeof pairs[0]; i++) {
+        unsigned older = pairs[i][0], newer = pairs[i][1];
+
+        open_buffers(&b, 8, 0);
+        expect_step(&b, 0, ACQUIRE, 1, older, 0, "release, older");
+        expect_step(&b, 0, ACQUIRE, 1, newer, 0, "release, newer");
+        check_byte(&b, HELD_AT + 1, 1 + 64 * (newer % TRY), "release, newer");
+        for (mode = 1; mode < 8; mode++)
+            expect_step(&b, 0, RELEASE, 1, mode, 3, "release with a mode");
+        expect_step(&b, 0, RELEASE, 1, 0, 0, "release of the newer");
+        check_byte(&b, HELD_AT, 1 + 64 * (older % TRY), "release, older left");
+        check_byte(&b, HELD_AT + 1, 0, "release, newer gone");
+        check_byte(&b, ORIGINS_AT, older >= TRY, "release, origin bits");
+        expect_step(&b, 0, RELEASE, 1, 0, 0, "release of the older");
+        check_byte(&b, ORIGINS_AT, 0, "release, no origin bits");
+        expect_step(&b, 0, RELEASE, 1, 0, 5, "release of none");
+        free_buffers(&b);
+    }
+}
+
+/* A frame full of tries is full, and every try was counted. */
+static void test_try_full(void)
+{
+    struct buffers b;
+    unsigned i;
+
+    open_buffers(&b, 8, 0);
+    for (i = 0; i < DEPTH; i++)
+        expect_step(&b, 4, ACQUIRE, i % 8, TRY + i % 3, 0, "fill by tries");
+    check_byte(&b, DEPTHS_AT + 12, DEPTH, "full of tries");
+    for (i = 0; i < MODES; i++) {
+        expect_step(&b, 4, ACQUIRE, 1, i, 8, "full of tries");
+        expect_step(&b, 4, ACQUIRE, 8, i, 4, "full of tries, class K");
+    }
+    expect_step(&b, 4, ACQUIRE, 1, MODES, 3, "full of tries, mode 6");
+    expect_step(&b, 4, ACQUIRE, 8, MODES, 3, "full of tries, both");
+    for (i = 0; i < DEPTH; i++)
+        expect_step(&b, 4, RELEASE, i % 8, 0, 0, "release all tries");
+    expect_step(&b, 4, RELEASE, 0, 0, 5, "all tries released");
     free_buffers(&b);
 }
 
@@ -1087,6 +1636,8 @@ static void test_short_buffers(void)
 
     for (i = 0; i < desk; i += i < 100 ? 1 : 53)
         expect_short(i, 64, 25, "a desk that is short");
+    expect_short(ORIGINS_AT - 1, 64, 25, "a desk without its last place");
+    expect_short(ORIGINS_AT, 64, 25, "a desk without origin bits");
     expect_short(desk - 1, 64, 25, "a desk that is short by one");
     for (i = 0; i < 64; i++)
         expect_short(desk, i, 25, "a sheet that is short");
@@ -1120,21 +1671,25 @@ static unsigned state_for(unsigned frame)
     return states[frame % 3];
 }
 
-/* Every value of one byte of a standing held lock. */
-static void expect_held_byte(struct buffers *b, size_t at)
+/* Every value of the byte of a standing held lock, acquired by a try or not. */
+static void expect_held_byte(struct buffers *b, unsigned frame, unsigned place)
 {
+    size_t at = HELD_AT + DEPTH * (size_t)frame + place;
     unsigned value;
 
-    for (value = 0; value < 256; value++) {
+    for (value = 0; value < 2 * 256; value++) {
+        put_origin(b, frame, place, value / 256);
         if (value % 64 >= 8)
-            expect_unfit_with(b, at, value, "held lock of class K or more");
-        else if (value / 64 == 3)
-            expect_unfit_with(b, at, value, "held lock of mode 3");
+            expect_unfit_with(b, at, value % 256,
+                              "held lock of class K or more");
+        else if (value % 256 / 64 == 3)
+            expect_unfit_with(b, at, value % 256, "held lock of mode 3");
         else {
-            put_desk(b, at, value);
+            put_desk(b, at, value % 256);
             expect_no_reach(b, 0, 0, "a fit held lock");
         }
     }
+    put_origin(b, frame, place, 0);
     put_desk(b, at, 0);
 }
 
@@ -1145,19 +1700,56 @@ static void test_unfit_held(void)
 
     open_buffers(&b, 8, 0);
     for (frame = 0; frame < FRAMES; frame++) {
-        size_t held = HELD_AT + 20 * (size_t)frame;
+        size_t held = HELD_AT + DEPTH * (size_t)frame;
 
         put_desk(&b, STATES_AT + frame / 3, state_for(frame));
-        for (depth = 21; depth < 256; depth++)
+        for (depth = DEPTH + 1; depth < 256; depth++)
             expect_unfit_with(&b, DEPTHS_AT + frame, depth, "depth over 20");
-        for (depth = 0; depth <= 20; depth++) {
+        for (depth = 0; depth <= DEPTH; depth++) {
             put_desk(&b, DEPTHS_AT + frame, depth);
             expect_no_reach(&b, 0, 0, "a fit depth");
-            for (i = depth; i < 20; i++)
+            for (i = depth; i < DEPTH; i++)
                 expect_unfit_with(&b, held + i, 1 + 12 * i, "unused byte");
         }
-        for (i = 0; i < 20; i++)
-            expect_held_byte(&b, held + i);
+        for (i = 0; i < DEPTH; i++)
+            expect_held_byte(&b, frame, i);
+        put_desk(&b, DEPTHS_AT + frame, 0);
+        put_desk(&b, STATES_AT + frame / 3, 0);
+    }
+    free_buffers(&b);
+}
+
+/* An origin bit is 0 from the depth of its frame on, and free below. */
+static void test_unfit_origins(void)
+{
+    struct buffers b;
+    unsigned frame, depth, i;
+
+    open_buffers(&b, 8, 0);
+    for (frame = 0; frame < FRAMES; frame++) {
+        put_desk(&b, STATES_AT + frame / 3, state_for(frame));
+        for (depth = 0; depth <= DEPTH; depth++) {
+            put_desk(&b, DEPTHS_AT + frame, depth);
+            for (i = 0; i < DEPTH; i++) {
+                put_origin(&b, frame, i, 1);
+                if (i < depth)
+                    expect_no_reach(&b, 0, 0, "origin bit of a held lock");
+                else
+                    expect_unfit(&b, "origin bit without a held lock");
+                put_origin(&b, frame, i, 0);
+            }
+            for (i = 0; i < depth; i++)
+                put_origin(&b, frame, i, 1);
+            expect_no_reach(&b, 0, 0, "origin bits of all held locks");
+            expect_step(&b, frame / 3, HARD_ON, 0, 0,
+                        frame % 3 == 2 ? 6 : 0, "all held by tries");
+            if (depth < DEPTH) {
+                put_origin(&b, frame, depth, 1);
+                expect_unfit(&b, "an origin bit too many");
+            }
+            for (i = 0; i < DEPTH; i++)
+                put_origin(&b, frame, i, 0);
+        }
         put_desk(&b, DEPTHS_AT + frame, 0);
         put_desk(&b, STATES_AT + frame / 3, 0);
     }
@@ -1255,11 +1847,13 @@ static void test_fullest(void)
     for (i = 0; i < 8; i++)
         put_desk(&b, STATES_AT + i, 8);
     for (i = 0; i < FRAMES; i++)
-        put_desk(&b, DEPTHS_AT + i, 20);
+        put_desk(&b, DEPTHS_AT + i, DEPTH);
     for (i = 0; i < 64; i++)
         put_desk(&b, MARKS_AT + i, 255);
-    for (i = 0; i < 20 * FRAMES; i++)
+    for (i = 0; i < PLUNGEROWL_PLACES; i++)
         put_desk(&b, HELD_AT + i, 63 + 64 * R);
+    for (i = ORIGINS_AT; i < PLUNGEROWL_DESK_SIZE; i++)
+        put_desk(&b, i, 255);
     for (i = 0; i < 64; i++)
         for (j = 0; j < 64; j++)
             put_sheet(&b, i, j, 15);
@@ -1379,57 +1973,65 @@ static void check_met(const char *call, const int met[256], const char *answers)
               "%s: answer %u %s given", call, i, met[i] ? "was" : "was never");
 }
 
-static void test_all(void)
+struct test {
+    const char *name;
+    void (*run)(void);
+};
+
+#define TEST(name) { #name, test_##name }
+
+static const struct test tests[] = {
+    TEST(sizes), TEST(numbers),
+    TEST(open_refused), TEST(open_accepted), TEST(reopen),
+    TEST(p2), TEST(two_cycles), TEST(full_slip), TEST(release_order),
+    TEST(frames), TEST(late_mark), TEST(standing_cycle),
+    TEST(refusal_3), TEST(refusal_4), TEST(refusal_5),
+    TEST(table), TEST(table_marks), TEST(acquire_marks), TEST(kinds),
+    TEST(refusal_7), TEST(refusal_8), TEST(order), TEST(closed),
+    TEST(closed_by_hand),
+    TEST(try_example), TEST(try_held_byte), TEST(origin_acquires),
+    TEST(origin_releases), TEST(origin_shared), TEST(origin_last),
+    TEST(try_dependencies), TEST(try_crosswise), TEST(try_marks),
+    TEST(try_in_handlers), TEST(try_over_hard_on), TEST(try_same_class),
+    TEST(try_other_frame), TEST(try_release), TEST(try_full),
+    TEST(unfit_lengths), TEST(short_buffers), TEST(unfit_heads),
+    TEST(unfit_held), TEST(unfit_origins), TEST(unfit_frames),
+    TEST(unfit_marks), TEST(mark_cycles), TEST(fullest), TEST(unfit_sheet),
+    TEST(ask_refused), TEST(ask_arrivals), TEST(ask_back), TEST(ask_marks)
+};
+
+/* Run the test of the name, or all for NULL; how many were run. */
+static size_t run_tests(const char *name)
 {
-    test_sizes();
-    test_numbers();
-    test_open_refused();
-    test_open_accepted();
-    test_reopen();
-    test_p2(0);
-    test_p2(50);
-    test_two_cycles();
-    test_full_slip();
-    test_release_order();
-    test_frames();
-    test_late_mark();
-    test_standing_cycle();
-    test_refusal_3();
-    test_refusal_4();
-    test_refusal_5();
-    test_table();
-    test_table_marks();
-    test_acquire_marks();
-    test_kinds();
-    test_refusal_7();
-    test_refusal_8();
-    test_order();
-    test_closed();
-    test_closed_by_hand();
-    test_unfit_lengths();
-    test_short_buffers();
-    test_unfit_heads();
-    test_unfit_held();
-    test_unfit_frames();
-    test_unfit_marks();
-    test_mark_cycles();
-    test_fullest();
-    test_unfit_sheet();
-    test_ask_refused();
-    test_ask_arrivals();
-    test_ask_back();
-    test_ask_marks();
+    size_t i, run = 0;
+
+    for (i = 0; i < sizeof tests / sizeof tests[0]; i++) {
+        if (name == NULL || strcmp(name, tests[i].name) == 0) {
+            tests[i].run();
+            run++;
+        }
+    }
+    return run;
 }
 
 int main(int argc, char **argv)
 {
+    const char *name;
+
     only_first = argc > 1 && strcmp(argv[1], "--first") == 0;
-    for (sides = GUARD_BOTH; sides <= FENCE_BEHIND; sides++)
-        test_all();
-    /* The answers from 0 on: x given, - not. */
-    check_met("open", open_met, "x-x");
-    check_met("step", step_met, "xx-xxxxxx-xx");
-    check_met("ask", ask_met, "x---x------x");
+    name = argv[1 + only_first];
+    for (sides = GUARD_BOTH; sides <= FENCE_BEHIND; sides++) {
+        if (run_tests(name) == 0) {
+            fprintf(stderr, "selftest: no test %s\n", name);
+            return 2;
+        }
+    }
+    if (name == NULL) {
+        /* The answers from 0 on: x given, - not. */
+        check_met("open", open_met, "x-x");
+        check_met("step", step_met, "xx-xxxxxx-xx");
+        check_met("ask", ask_met, "x---x------x");
+    }
     printf("selftest: %lu checks, %lu wrong\n", checks, failures);
     return failures == 0 ? 0 : 1;
 }

@@ -34,7 +34,6 @@
 
 #include "plungerowl.h"
 
-#define MARKS_AT 34
 #define STACK_SIZE ((size_t)1 << 18)
 #define PAINT 0xC5
 #define RANDOM_INPUTS 300
@@ -257,16 +256,22 @@ static void put_hard_on(struct input *in)
     memcpy(in->record, hard_on, sizeof hard_on);
 }
 
-/* An acquire of the last class over 19 held locks of class 0. */
+/* An acquire of the last class over all other places with held locks of class
+ * 0, every other one acquired by a try. */
 static void put_acquire(struct input *in)
 {
+    const unsigned others = PLUNGEROWL_MAX_DEPTH - 1;
+    unsigned i;
     const uint8_t acquire[] = { 0x4C, 0x4B, 0, PLUNGEROWL_ACQUIRE,
                                 (uint8_t)(in->k - 1),
                                 PLUNGEROWL_RECURSIVE_READ };
 
     memcpy(in->record, acquire, sizeof acquire);
-    in->desk[10] = 19;
-    memset(in->desk + 98, 64 * PLUNGEROWL_RECURSIVE_READ, 19);
+    in->desk[PLUNGEROWL_DEPTHS_AT] = (uint8_t)others;
+    memset(in->desk + PLUNGEROWL_HELD_AT, 64 * PLUNGEROWL_RECURSIVE_READ,
+           others);
+    for (i = 0; i < others; i += 2)
+        in->desk[PLUNGEROWL_ORIGINS_AT + i / 8] |= (uint8_t)(1 << i % 8);
 }
 
 /* A chain through all classes in order, its kinds in turn. */
@@ -289,7 +294,7 @@ static void put_dense(struct input *in)
 
 static void put_marks(struct input *in, unsigned mark)
 {
-    memset(in->desk + MARKS_AT, (int)mark, in->k);
+    memset(in->desk + PLUNGEROWL_MARKS_AT, (int)mark, in->k);
 }
 
 static void put_random(struct input *in)

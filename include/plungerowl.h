@@ -7,7 +7,8 @@
  * The library keeps no memory of its own. The caller lends three buffers and
  * hands them to the calls:
  *
- *   desk   PLUNGEROWL_DESK_SIZE bytes       cores, held locks, usage marks
+ *   desk   PLUNGEROWL_DESK_SIZE bytes       cores, held locks, usage marks,
+ *                                           origin bits
  *   sheet  PLUNGEROWL_SHEET_SIZE(K) bytes   lock dependencies seen
  *   slip   PLUNGEROWL_SLIP_SIZE(K) bytes    the cycle reported on a fault
  *
@@ -50,10 +51,25 @@ extern "C" {
 /* Limits. */
 #define PLUNGEROWL_MAX_CLASSES 64
 #define PLUNGEROWL_CORES 8
-#define PLUNGEROWL_MAX_DEPTH 20
+#define PLUNGEROWL_MAX_DEPTH 20 /* held locks in a frame */
 
-/* Sizes in bytes; k is the number of classes, 1 to 64. */
-#define PLUNGEROWL_DESK_SIZE 578
+/*
+ * Where the parts of a desk begin; docs/FORMATS.md says what they have. A core
+ * has three frames: task, soft handler, hard handler. The places for held locks
+ * are PLUNGEROWL_MAX_DEPTH in each frame; every place has a byte and, further
+ * on, an origin bit.
+ */
+#define PLUNGEROWL_FRAMES (3 * PLUNGEROWL_CORES)
+#define PLUNGEROWL_PLACES (PLUNGEROWL_FRAMES * PLUNGEROWL_MAX_DEPTH)
+#define PLUNGEROWL_CLOSED_AT 1
+#define PLUNGEROWL_STATES_AT 2
+#define PLUNGEROWL_DEPTHS_AT (PLUNGEROWL_STATES_AT + PLUNGEROWL_CORES)
+#define PLUNGEROWL_MARKS_AT (PLUNGEROWL_DEPTHS_AT + PLUNGEROWL_FRAMES)
+#define PLUNGEROWL_HELD_AT (PLUNGEROWL_MARKS_AT + PLUNGEROWL_MAX_CLASSES)
+#define PLUNGEROWL_ORIGINS_AT (PLUNGEROWL_HELD_AT + PLUNGEROWL_PLACES)
+
+/* Sizes in bytes; k is the number of classes, 1 to 64. A desk has 638. */
+#define PLUNGEROWL_DESK_SIZE (PLUNGEROWL_ORIGINS_AT + PLUNGEROWL_PLACES / 8)
 #define PLUNGEROWL_SHEET_SIZE(k) ((size_t)(k) * (size_t)(k))
 #define PLUNGEROWL_SLIP_SIZE(k) ((size_t)1 + (size_t)3 * (size_t)(k))
 #define PLUNGEROWL_RECORD_SIZE 6
@@ -84,10 +100,11 @@ enum plungerowl_answer {
     PLUNGEROWL_OK = 0,
     /* step: accepted, a closed strong path exists; desk closed, slip written */
     PLUNGEROWL_FAULT = 1,
-    /* open: K not 1 to 64, desk under 578 bytes, or sheet under K x K bytes */
+    /* open: K not 1 to 64, desk under PLUNGEROWL_DESK_SIZE bytes, or sheet
+     * under K x K bytes */
     PLUNGEROWL_BAD_OPENING = 2,
     /* step: not six bytes, wrong signature, core over 7, kind over 9, mode over
-     * 2, or a byte that should be 0 */
+     * 5, or a byte that should be 0 */
     PLUNGEROWL_BAD_RECORD = 3,
     /* step: acquire or release of class K or more; ask: class K or more */
     PLUNGEROWL_BAD_CLASS = 4,
@@ -97,7 +114,7 @@ enum plungerowl_answer {
     PLUNGEROWL_BAD_EVENT = 6,
     /* step: exit soft or exit hard allowed, but the frame has a held lock */
     PLUNGEROWL_STILL_HELD = 7,
-    /* step: acquire, but the frame has 20 held locks */
+    /* step: acquire, but the frame has PLUNGEROWL_MAX_DEPTH held locks */
     PLUNGEROWL_FRAME_FULL = 8,
     /* step: desk closed by an earlier fault */
     PLUNGEROWL_CLOSED = 10,
@@ -120,11 +137,19 @@ enum plungerowl_kind {
     PLUNGEROWL_EXIT_HARD = 9
 };
 
-/* Modes of an acquire (byte 5 of a record). */
+/*
+ * Modes of an acquire (byte 5 of a record). Those with TRY are successful
+ * tries: such an acquire did not wait, and once held it is a lock of the mode
+ * of that name without TRY. A try that failed is not in a log. Every release,
+ * also of a try, has 0.
+ */
 enum plungerowl_mode {
     PLUNGEROWL_EXCLUSIVE = 0,
     PLUNGEROWL_NONRECURSIVE_READ = 1,
-    PLUNGEROWL_RECURSIVE_READ = 2
+    PLUNGEROWL_RECURSIVE_READ = 2,
+    PLUNGEROWL_TRY_EXCLUSIVE = 3,
+    PLUNGEROWL_TRY_NONRECURSIVE_READ = 4,
+    PLUNGEROWL_TRY_RECURSIVE_READ = 5
 };
 
 /*
@@ -140,8 +165,8 @@ enum plungerowl_dependency {
 };
 
 /*
- * Sources of a dependency in a slip: a lock acquired while another was held, or
- * usage marks of hard or of soft interrupts.
+ * Sources of a dependency in a slip: a lock acquired, and not by a try, while
+ * another was held, or usage marks of hard or of soft interrupts.
  */
 enum plungerowl_source {
     PLUNGEROWL_SOURCE_HOLD = 0,
@@ -152,9 +177,9 @@ enum plungerowl_source {
 /*
  * Open: prepare desk and sheet for a new log with the given number of classes.
  *
- * Answers 0 or 2. On 0 desk byte 0 is K, the other 577 desk bytes are zero and
- * the K x K sheet bytes are zero. On 2 nothing is changed. The slip is not
- * needed here and needs no preparation.
+ * Answers 0 or 2. On 0 desk byte 0 is K, the other PLUNGEROWL_DESK_SIZE - 1
+ * desk bytes are zero and the K x K sheet bytes are zero. On 2 nothing is
+ * changed. The slip is not needed here and needs no preparation.
  */
 uint8_t plungerowl_open(uint64_t classes,
                         uint8_t *desk, size_t desk_len,
