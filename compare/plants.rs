@@ -142,7 +142,7 @@ pub const PLANTS: &[Plant] = &[
         shown(
             &["try over a held lock that waited", "try over a try"],
             plant(
-                "arrows-to-try",
+                "dependency-to-try",
                 "a try draws dependencies from the held locks",
                 &[("if by_try { first..first } else { first..first + depth }", "first..first + depth")],
             ),
@@ -151,7 +151,7 @@ pub const PLANTS: &[Plant] = &[
     shown(
         &["try over a try"],
         plant(
-            "arrows-try-to-try",
+            "dependency-try-to-try",
             "a try draws dependencies from the tries before it",
             &[(
                 "let older_holds = if by_try { first..first } else { first..first + depth };
@@ -165,7 +165,7 @@ pub const PLANTS: &[Plant] = &[
         shown(
             &["acquire over a try"],
             plant(
-                "no-arrows-from-try",
+                "no-dependency-from-try",
                 "an acquire draws no dependency from a try",
                 &[("for at in older_holds {", "for at in older_holds.filter(|&at| !is_try(desk, at)) {")],
             ),

@@ -131,7 +131,7 @@ pub fn run() -> bool {
             row(&format!("question, K = {k}, {}", if dense { "dense" } else { "sparse" }), times, n);
         }
     }
-    let logs: [(fn(usize) -> Style, &str); 2] = [(clean_style, "log"), (try_style, "log with tries")];
+    let logs: [(fn(usize) -> Style, &str); 2] = [(clean_style, "log of 200000"), (try_style, "log with tries")];
     for ((style, name), k) in logs.into_iter().flat_map(|log| [(log, 8usize), (log, 64)]) {
         // A clean log, every record accepted.
         let n = 200_000;
@@ -169,7 +169,7 @@ pub fn run() -> bool {
             println!("the two differ over the log, or not clean");
             well = false;
         }
-        row(&format!("{name} of {n}, K = {k}, a record"), times, n);
+        row(&format!("{name}, K = {k}, per record"), times, n);
         println!("{:34} {:.3} s and {:.3} s whole; {arrows} hold arrows drawn at the end", "", times.0, times.1);
     }
     well

@@ -293,6 +293,12 @@ fn refusal_logs() {
     assert_clean(&twenty);
     twenty.push(take(0, 0, R));
     assert_eq!(judge(8, &twenty), (21, 8));
+    // A full frame is full for itself alone: not for another core, nor for a handler.
+    twenty[20] = take(1, 0, R);
+    assert_clean(&twenty);
+    twenty[20] = event(0, ENTER_SOFT);
+    twenty.push(take(0, 0, R));
+    assert_clean(&twenty);
     assert_eq!(judge(8, &[event(0, ENTER_HARD), take(0, 0, E), event(0, EXIT_HARD)]), (3, 7));
     assert_eq!(judge(8, &[event(0, ENTER_SOFT), take(0, 0, E), event(0, EXIT_SOFT)]), (3, 7));
     assert_eq!(judge(8, &[event(0, EXIT_HARD)]), (1, 6));
