@@ -618,7 +618,7 @@ pub fn violate(rng: &mut Rng, clause: usize, b: &mut (Vec<u8>, Vec<u8>, Vec<u8>)
             desk[hold_at(frame, place)] = rng.pick(&[1, 64, 128, 255, rng.clone().between(1, 255) as u8]);
         }
         ORIGIN => {
-            let (frame, last) = if rng.mille(200) { (FRAMES - 1, 1) } else { (frame, 4) };
+            let (frame, last) = if rng.mille(300) { (FRAMES - 1, 1) } else { (frame, 4) };
             let depth = usize::from(desk[DEPTHS + frame]);
             if depth >= DEEPEST {
                 return false;
@@ -683,18 +683,15 @@ fn some_calls(rng: &mut Rng, k: usize, n: usize) -> Vec<Call> {
 fn unfit_desk(rng: &mut Rng) -> Case {
     let k = any_k(rng);
     let mut buffers = fit_desk(rng, k);
-    let n = rng.pick(&[1, 1, 2, 3, 6]);
+    let n = rng.pick(&[1, 1, 1, 2, 3, 6]);
     for _ in 0..n {
-        // Origins and lengths, which are wrong in many ways, more often.
+        // Many by what can be wrong in many ways.
+        let often = rng.pick(&[ORIGIN, ORIGIN, "desk too short", "hold mode 3"]);
         let any = rng.under(CLAUSES.len());
-        let clause = match rng.under(20) {
-            0..=2 => CLAUSES.iter().position(|c| *c == ORIGIN).unwrap_or(any),
-            3..=5 => 0,
-            _ => any,
-        };
+        let clause = if rng.mille(400) { CLAUSES.iter().position(|c| *c == often).unwrap_or(any) } else { any };
         violate(rng, clause, &mut buffers);
     }
-    let mut calls = some_calls(rng, k, 4);
+    let mut calls = some_calls(rng, k, 6);
     if rng.mille(100) {
         calls.push(Call::Open(k as u64));
         calls.extend(some_calls(rng, k, 3));
@@ -736,7 +733,7 @@ fn changed_desk(rng: &mut Rng) -> Case {
 
 fn opening(rng: &mut Rng) -> Case {
     // Only the desk's length decides.
-    let by_length = rng.mille(400);
+    let by_length = rng.mille(600);
     let k = match if by_length { 3 } else { rng.under(4) } {
         0 => rng.under(301) as u64,
         1 => rng.pick(&BIG),
@@ -846,11 +843,11 @@ const KINDS: [Kind; 9] = [
     Kind { name: "log from opening", weight: 180, make: log },
     Kind { name: "deep log", weight: 60, make: deep_log },
     Kind { name: "long log", weight: 5, make: long_log },
-    Kind { name: "fit desk", weight: 250, make: drawn_desk },
+    Kind { name: "fit desk", weight: 200, make: drawn_desk },
     Kind { name: "desk with tries", weight: 80, make: tries },
-    Kind { name: "unfit desk", weight: 145, make: unfit_desk },
-    Kind { name: "changed desk", weight: 130, make: changed_desk },
-    Kind { name: "opening", weight: 60, make: opening },
+    Kind { name: "unfit desk", weight: 190, make: unfit_desk },
+    Kind { name: "changed desk", weight: 115, make: changed_desk },
+    Kind { name: "opening", weight: 80, make: opening },
     Kind { name: PAIRS, weight: 90, make: pair },
 ];
 
@@ -996,7 +993,7 @@ pub const FIXED: [(&str, u64); 8] = [
     (EACH_PLACE, 5040),
     (EACH_OPENING, 3487),
     (EACH_CLAUSE, 2400),
-    (EACH_DESK_BYTE, 29_834),
+    (EACH_DESK_BYTE, 29_863),
     (EACH_STATE, 21_600),
     (ALL_OF_1, 4352),
     (ALL_OF_2, 65_536),

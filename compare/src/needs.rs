@@ -43,11 +43,11 @@ const RANDOM: [(&str, u64); 9] = [
     ("log from opening", 1800),
     ("deep log", 600),
     ("long log", 50),
-    ("fit desk", 2500),
+    ("fit desk", 2000),
     ("desk with tries", 800),
-    ("unfit desk", 1450),
-    ("changed desk", 1300),
-    ("opening", 600),
+    ("unfit desk", 1900),
+    ("changed desk", 1150),
+    ("opening", 800),
     (gen::PAIRS, 900),
 ];
 

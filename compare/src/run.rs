@@ -217,6 +217,9 @@ fn run_calls(case: &Case, calls: &[&Call], judges: &mut Judges, counts: &mut Cou
                 got = subject.step(subj.desk.lend(), subj.sheet.lend(), subj.slip.lend(), record.slice());
                 fast_got = (fast.step)(quick.desk.lend(), quick.sheet.lend(), quick.slip.lend(), record.slice());
                 counts.step[usize::from(want)] += 1;
+                if want < 10 && (want == 3) == record.names().is_some() {
+                    return fail("reference", format!("answer {want}, and the record names {:?}", record.names()));
+                }
                 if want == 11 {
                     clause = reference::unfit(before.desk.see(), before.sheet.see(), Some(slip_before[2].see()));
                     let Some(i) = CLAUSES.iter().position(|c| Some(*c) == clause) else {

@@ -172,9 +172,9 @@ pub const SIGHTS: &[Sight] = &[
     sight("try in a task, marked", 36_000, |l| l.tries() && l.state() < 2),
     sight("exclusive try marked unsafe", 16_000, |l| l.tries_mode(3) && [0, 1, 4].contains(&l.state())),
     sight("try in state 4", 9000, |l| l.tries_in(4)),
-    sight("try in state 5", 4000, |l| l.tries_in(5)),
+    sight("try in state 5", 3900, |l| l.tries_in(5)),
     sight("try in state 6", 7100, |l| l.tries_in(6)),
-    sight("try in state 7", 2700, |l| l.tries_in(7)),
+    sight("try in state 7", 2600, |l| l.tries_in(7)),
     sight("try in state 8", 4100, |l| l.tries_in(8)),
     sight("try held over a hard on", 2900, |l| {
         l.accepted(2).is_some() && [2, 3, 5].contains(&l.state()) && tries(l.before, l.frame()).next().is_some()
@@ -185,8 +185,8 @@ pub const SIGHTS: &[Sight] = &[
     sight("event over a held try", 24_000, |l| {
         l.record().is_some_and(|r| l.answer < 2 && r.1 > 1) && tries(l.after, l.frame_after()).next().is_some()
     }),
-    sight("record after a try in a soft handler", 19_000, |l| l.passes_over(&[4, 5])),
-    sight("record after a try in a hard handler", 19_000, |l| l.passes_over(&[6, 7, 8])),
+    sight("record after a try in a soft handler", 18_000, |l| l.passes_over(&[4, 5])),
+    sight("record after a try in a hard handler", 18_000, |l| l.passes_over(&[6, 7, 8])),
     sight("event after a try in a handler", 4800, |l| {
         l.record().is_some_and(|r| r.1 > 1) && l.passes_over(&[4, 5, 6, 7, 8])
     }),
@@ -194,7 +194,7 @@ pub const SIGHTS: &[Sight] = &[
     sight("try and wait of one class and one letter in a handler", 3100, |l| {
         l.both_ways(|t, w| (t == 2) == (w == 2))
     }),
-    sight("try and wait of one class and two letters in a handler", 710, |l| {
+    sight("try and wait of one class and two letters in a handler", 680, |l| {
         l.both_ways(|t, w| (t == 2) != (w == 2))
     }),
     // Releases.
@@ -203,17 +203,17 @@ pub const SIGHTS: &[Sight] = &[
     sight("release between a try and a wait above it", 15_000, |l| {
         l.release(|desk, f, p| (p..depth(desk, f) - 1).any(|q| is_try(desk, f, q) != is_try(desk, f, q + 1)))
     }),
-    sight("release that moves an origin to the byte before", 7400, |l| {
+    sight("release that moves an origin to the byte before", 7200, |l| {
         l.release(|desk, f, p| tries(desk, f).any(|t| t > p && (DEEPEST * f + t) % 8 == 0))
     }),
-    sight("release with a try on top", 57_000, |l| l.release(|desk, f, _| is_try(desk, f, depth(desk, f) - 1))),
-    sight("release in a full frame, a try first in the next", 410, |l| {
+    sight("release with a try on top", 56_000, |l| l.release(|desk, f, _| is_try(desk, f, depth(desk, f) - 1))),
+    sight("release in a full frame, a try first in the next", 390, |l| {
         l.release(|desk, f, _| depth(desk, f) == DEEPEST && f + 1 < FRAMES && is_try(desk, f + 1, 0))
     }),
     sight("release in a frame not full, a try first in the next", 4000, |l| {
         l.release(|desk, f, _| depth(desk, f) < DEEPEST && f + 1 < FRAMES && is_try(desk, f + 1, 0))
     }),
-    sight("release with a try in a later frame", 50_000, |l| {
+    sight("release with a try in a later frame", 49_000, |l| {
         l.release(|desk, f, _| (f + 1..FRAMES).any(|g| tries(desk, g).next().is_some()))
     }),
     sight("release of a try over a wait of its class", 5300, |l| {
@@ -221,55 +221,55 @@ pub const SIGHTS: &[Sight] = &[
             is_try(desk, f, p) && waits(desk, f).any(|w| hold(desk, f, w) % 64 == hold(desk, f, p) % 64)
         })
     }),
-    sight("release of a wait over a try of its class", 3500, |l| {
+    sight("release of a wait over a try of its class", 3400, |l| {
         l.release(|desk, f, p| {
             !is_try(desk, f, p) && tries(desk, f).any(|t| hold(desk, f, t) % 64 == hold(desk, f, p) % 64)
         })
     }),
-    sight("release where the class is held in two modes", 17_000, |l| {
+    sight("release where the class is held in two modes", 16_000, |l| {
         l.release(|desk, f, p| {
             let lock = hold(desk, f, p);
             (0..p).any(|q| hold(desk, f, q) % 64 == lock % 64 && hold(desk, f, q) != lock)
         })
     }),
     // Refusals.
-    sight("try in a full frame", 3000, |l| l.refused(8, |_, _, mode| TRIES.contains(&mode))),
-    sight("try of class K or more", 670, |l| l.refused(4, |_, _, mode| TRIES.contains(&mode))),
-    sight("acquire with mode 6", 210, |l| l.refused(3, |kind, class, mode| kind == 0 && mode == 6 && class < l.classes())),
-    sight("acquire with a mode over 6", 320, |l| l.refused(3, |kind, _, mode| kind == 0 && mode > 6)),
-    sight("acquire with mode 6 and class K or more", 330, |l| {
+    sight("try in a full frame", 2900, |l| l.refused(8, |_, _, mode| TRIES.contains(&mode))),
+    sight("try of class K or more", 640, |l| l.refused(4, |_, _, mode| TRIES.contains(&mode))),
+    sight("acquire with mode 6", 200, |l| l.refused(3, |kind, class, mode| kind == 0 && mode == 6 && class < l.classes())),
+    sight("acquire with a mode over 6", 310, |l| l.refused(3, |kind, _, mode| kind == 0 && mode > 6)),
+    sight("acquire with mode 6 and class K or more", 320, |l| {
         l.refused(3, |kind, class, mode| kind == 0 && mode == 6 && class >= l.classes())
     }),
     sight("release with a try's mode", 110, |l| l.refused(3, |kind, _, mode| kind == 1 && TRIES.contains(&mode))),
-    sight("event with a try's mode", 110, |l| {
+    sight("event with a try's mode", 100, |l| {
         l.refused(3, |kind, class, mode| kind > 1 && class == 0 && TRIES.contains(&mode))
     }),
     // The fit test.
-    sight("call on a fit desk with a try", 310_000, |l| l.answer < 10 && has_origins(l.before)),
-    sight("origin right past the depth", 400, |l| l.origin(|f, p| p == depth(l.before, f))),
-    sight("origin in an empty frame", 1100, |l| l.origin(|f, _| depth(l.before, f) == 0)),
-    sight("origin in a byte of two frames", 270, |l| {
+    sight("call on a fit desk with a try", 300_000, |l| l.answer < 10 && has_origins(l.before)),
+    sight("origin right past the depth", 750, |l| l.origin(|f, p| p == depth(l.before, f))),
+    sight("origin in an empty frame", 1900, |l| l.origin(|f, _| depth(l.before, f) == 0)),
+    sight("origin in a byte of two frames", 480, |l| {
         l.origin(|f, p| {
             let byte = (DEEPEST * f + p) / 8;
             byte != DEEPEST * f / 8 && byte == DEEPEST * (f + 1) / 8
         })
     }),
-    sight("origin at the last place of the last frame", 170, |l| l.origin(|f, p| (f, p) == (FRAMES - 1, DEEPEST - 1))),
-    sight("hold byte of 192 or more with an origin", 150, |l| {
+    sight("origin at the last place of the last frame", 660, |l| l.origin(|f, p| (f, p) == (FRAMES - 1, DEEPEST - 1))),
+    sight("hold byte of 192 or more with an origin", 960, |l| {
         let mut places = (0..FRAMES).flat_map(|f| (0..depth(l.before, f)).map(move |p| (f, p)));
         l.clause("hold mode 3") && places.any(|(f, p)| hold(l.before, f, p) > 191 && is_try(l.before, f, p))
     }),
-    sight("call on a desk a byte short of the origins", 270, |l| l.short(ORIGINS - 1..ORIGINS)),
-    sight("call on a desk without the origins", 230, |l| l.short(ORIGINS..ORIGINS + 1)),
-    sight("call on a desk with part of the origins", 590, |l| l.short(ORIGINS + 1..DESK)),
-    sight("call on a desk a byte short", 370, |l| l.short(DESK - 1..DESK)),
+    sight("call on a desk a byte short of the origins", 340, |l| l.short(ORIGINS - 1..ORIGINS)),
+    sight("call on a desk without the origins", 320, |l| l.short(ORIGINS..ORIGINS + 1)),
+    sight("call on a desk with part of the origins", 850, |l| l.short(ORIGINS + 1..DESK)),
+    sight("call on a desk a byte short", 490, |l| l.short(DESK - 1..DESK)),
     sight("call on a desk a byte longer", 21_000, |l| l.answer < 10 && l.before.len() == DESK + 1),
     // Opening.
-    sight("opening of a desk a byte short of the origins", 55, |l| l.opens(ORIGINS - 1..ORIGINS)),
-    sight("opening of a desk without the origins", 57, |l| l.opens(ORIGINS..ORIGINS + 1)),
-    sight("opening of a desk with part of the origins", 140, |l| l.opens(ORIGINS + 1..DESK)),
-    sight("opening of a desk a byte short", 88, |l| l.opens(DESK - 1..DESK)),
-    sight("opening of a desk a byte longer", 230, |l| {
+    sight("opening of a desk a byte short of the origins", 98, |l| l.opens(ORIGINS - 1..ORIGINS)),
+    sight("opening of a desk without the origins", 100, |l| l.opens(ORIGINS..ORIGINS + 1)),
+    sight("opening of a desk with part of the origins", 230, |l| l.opens(ORIGINS + 1..DESK)),
+    sight("opening of a desk a byte short", 130, |l| l.opens(DESK - 1..DESK)),
+    sight("opening of a desk a byte longer", 280, |l| {
         matches!(l.call, Call::Open(_)) && l.answer == 0 && l.before.len() == DESK + 1
     }),
     sight("opening over origins", 4400, |l| matches!(l.call, Call::Open(_)) && l.answer == 0 && has_origins(l.before)),
