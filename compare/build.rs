@@ -37,7 +37,7 @@ fn plant(out: &Path) {
     let reference = std::fs::read_to_string(REFERENCE).expect(REFERENCE);
     let reference = edit(&reference, "judges have no tests", "#[cfg(test)]\nmod tests;\n", "");
     let (mut modules, mut table) = (String::new(), String::new());
-    for plants::Plant { name, wrong, breaks, edits } in plants::PLANTS {
+    for plants::Plant { name, wrong, sights, breaks, edits } in plants::PLANTS {
         assert!(!edits.is_empty(), "planted {name}: no edit");
         let source = edits.iter().fold(reference.clone(), |source, (old, new)| edit(&source, name, old, new));
         let path = out.join(format!("{name}.rs"));
@@ -45,7 +45,7 @@ fn plant(out: &Path) {
         let module = name.replace('-', "_");
         modules += &format!("#[allow(dead_code)]\n#[path = {path:?}]\nmod plant_{module};\n");
         table += &format!(
-            "    Plant {{ name: {name:?}, wrong: {wrong:?}, breaks: {breaks:?}, \
+            "    Plant {{ name: {name:?}, wrong: {wrong:?}, sights: &{sights:?}, breaks: {breaks:?}, \
              judge: Judge {{ open: plant_{module}::open, step: plant_{module}::step, ask: plant_{module}::ask }} }},\n"
         );
     }

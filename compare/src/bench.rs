@@ -2,11 +2,12 @@
 //! rounds, the two taking turns. No timed test: nothing fails by being slow. It fails
 //! only if the two disagree on what they computed or if a drawing isn't clean.
 
-use crate::gen::{clean_style, Shadow};
+use crate::gen::{clean_style, try_style, Shadow, Style};
 use crate::judges::library;
 use crate::rng::Rng;
 use crate::run::Rec;
 use crate::fast;
+use reference::{DEEPEST, DEPTHS, HOLDS, MARKS, STATES};
 use std::hint::black_box;
 use std::time::Instant;
 
@@ -17,7 +18,7 @@ const ROUNDS: usize = 15;
 
 /// A clean drawing: arrows only upwards, unsafe marks below and safe marks above.
 /// Sparse: each class to the next, no marks. Dense: each class to all higher ones by
-/// every kind, every mark on its half; 20 holds in three frames.
+/// every kind, every mark on its half; three full frames.
 fn drawing(k: usize, dense: bool) -> Shadow {
     let mut s = Shadow::opened(k);
     for from in 0..k {
@@ -29,21 +30,21 @@ fn drawing(k: usize, dense: bool) -> Shadow {
             }
         }
         if dense {
-            s.desk[34 + from] = if from < k / 2 { 4 + 8 + 64 + 128 } else { 1 + 2 + 16 + 32 };
+            s.desk[MARKS + from] = if from < k / 2 { 4 + 8 + 64 + 128 } else { 1 + 2 + 16 + 32 };
         }
     }
     // Core 0 in the task, with hard off (its takes leave no marks) and a few holds;
     // in the dense drawing cores 1 to 3 have full frames.
-    s.desk[2] = 3;
-    s.desk[10] = 2;
-    s.desk[98] = 0;
-    s.desk[99] = 1;
+    s.desk[STATES] = 3;
+    s.desk[DEPTHS] = 2;
+    s.desk[HOLDS] = 0;
+    s.desk[HOLDS + 1] = 1;
     if dense {
         for core in 1..4 {
-            s.desk[2 + core] = 3;
-            s.desk[10 + 3 * core] = 20;
-            for i in 0..20 {
-                s.desk[98 + 60 * core + i] = (i % k) as u8;
+            s.desk[STATES + core] = 3;
+            s.desk[DEPTHS + 3 * core] = DEEPEST as u8;
+            for i in 0..DEEPEST {
+                s.desk[HOLDS + 3 * DEEPEST * core + i] = (i % k) as u8;
             }
         }
     }
@@ -130,11 +131,12 @@ pub fn run() -> bool {
             row(&format!("question, K = {k}, {}", if dense { "dense" } else { "sparse" }), times, n);
         }
     }
-    for k in [8usize, 64] {
+    let logs: [(fn(usize) -> Style, &str); 2] = [(clean_style, "log of 200000"), (try_style, "log with tries")];
+    for ((style, name), k) in logs.into_iter().flat_map(|log| [(log, 8usize), (log, 64)]) {
         // A clean log, every record accepted.
         let n = 200_000;
         let rng = &mut Rng::new(9);
-        let style = clean_style(k);
+        let style = style(k);
         let mut shadow = Shadow::opened(k);
         let mut log = Vec::with_capacity(n);
         while log.len() < n {
@@ -167,7 +169,7 @@ pub fn run() -> bool {
             println!("the two differ over the log, or not clean");
             well = false;
         }
-        row(&format!("log of {n}, K = {k}, per record"), times, n);
+        row(&format!("{name}, K = {k}, per record"), times, n);
         println!("{:34} {:.3} s and {:.3} s whole; {arrows} hold arrows drawn at the end", "", times.0, times.1);
     }
     well

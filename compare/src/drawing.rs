@@ -1,7 +1,8 @@
 //! The drawing of a list of records, as document 01 has it under "Two desks, one claim": it starts from zero and is worked
-//! out from K and the records, never from a desk or a sheet. No code is shared with a judge.
+//! out from K and the records, never from a desk or a sheet. No code is shared with a judge, the depth's number alone.
 
 use crate::run::Rec;
+use reference::DEEPEST;
 
 /// No next state.
 pub const X: u8 = 255;
@@ -23,7 +24,10 @@ pub const FRAME: [usize; 9] = [0, 0, 0, 0, 1, 1, 2, 2, 2];
 #[derive(Clone, Copy)]
 struct HeldLock {
     class: usize,
+    /// 0 exclusive, 1 read, 2 recursive read.
     mode: u8,
+    /// Whether it was acquired by a try, which never waited.
+    tried: bool,
 }
 
 impl HeldLock {
@@ -62,15 +66,17 @@ impl Drawing {
     fn take_in(&mut self, record: &Rec) {
         let Some(named) = record.names() else { return };
         let [_, _, _, kind, class, mode, ..] = record.bytes;
-        let lock = HeldLock { class: usize::from(class), mode };
+        let lock = HeldLock { class: usize::from(class), mode: mode % 3, tried: mode > 2 };
         let core = &mut self.cores[usize::from(named)];
         let held = &mut core.frames[FRAME[usize::from(core.state)]];
         match kind {
             0 | 1 if lock.class >= self.k => return,
-            0 if held.len() == 20 => return,
+            0 if held.len() == DEEPEST => return,
             0 => {
-                for older in held.iter() {
-                    self.leads[older.class][older.first()] |= 1 << lock.arrival();
+                if !lock.tried {
+                    for older in held.iter() {
+                        self.leads[older.class][older.first()] |= 1 << lock.arrival();
+                    }
                 }
                 held.push(lock);
             }
@@ -86,7 +92,7 @@ impl Drawing {
         }
         for held in &core.frames[FRAME[usize::from(core.state)]] {
             for (level, safe_in, unsafe_in) in [(0, &[6, 7, 8][..], &[0, 1, 4][..]), (1, &[4, 5], &[0])] {
-                if safe_in.contains(&core.state) {
+                if safe_in.contains(&core.state) && !held.tried {
                     self.safe[level] |= 1 << held.arrival();
                 }
                 if unsafe_in.contains(&core.state) {

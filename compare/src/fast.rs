@@ -1,15 +1,14 @@
-//! An ordinary Rust judge written for speed, for the benchmark: same semantics as
-//! document 01. Fit test at each step, successor words built once per step, one
-//! depth-first walk over (class, arrival) with done and on-stack words. It is
+//! An ordinary Rust judge written for speed, for the benchmark, by the same documents.
+//! Fit test at each step, a frame's origins as one word, successor words built once per
+//! step, one depth-first walk over (class, arrival) with done and on-stack words. It is
 //! compared with the reference in every run of the comparer. No unsafe code.
 #![forbid(unsafe_code)]
 
-const DESK: usize = 578;
-const STATES: usize = 2;
-const DEPTHS: usize = 10;
-const MARKS: usize = 34;
-const HOLDS: usize = 98;
+use reference::{DEEPEST, DEPTHS, DESK, HOLDS, MARKS, ORIGINS, STATES};
+
 const X: u8 = 255;
+/// All unsafe mark bits.
+const UNSAFE: u8 = 4 + 8 + 64 + 128;
 
 static NEXT: [[u8; 8]; 9] = [
     [0, 2, 0, 1, 4, X, 6, X],
@@ -50,6 +49,31 @@ pub fn open(k: u64, desk: &mut [u8], sheet: &mut [u8]) -> u8 {
     0
 }
 
+/// Where a frame's origin bits lie: the start of eight bytes within the region that hold all of them, and the first
+/// bit's place there.
+#[inline]
+fn origins_at(frame: usize) -> (usize, usize) {
+    const { assert!(DEEPEST + 7 <= 64) };
+    let bit = DEEPEST * frame;
+    let start = (bit / 8).min(DESK - ORIGINS - 8);
+    (ORIGINS + start, bit - 8 * start)
+}
+
+/// A frame's origin bits, the oldest lock's lowest.
+#[inline]
+fn origins(desk: &[u8; DESK], frame: usize) -> u64 {
+    let (start, shift) = origins_at(frame);
+    let eight = u64::from_le_bytes(desk[start..start + 8].try_into().unwrap());
+    eight >> shift & ((1 << DEEPEST) - 1)
+}
+
+#[inline]
+fn flip_origins(desk: &mut [u8; DESK], frame: usize, bits: u64) {
+    let (start, shift) = origins_at(frame);
+    let eight: &mut [u8; 8] = (&mut desk[start..start + 8]).try_into().unwrap();
+    *eight = (u64::from_le_bytes(*eight) ^ bits << shift).to_le_bytes();
+}
+
 /// All of "Unfit" but the buffers' sizes and K.
 fn fits(desk: &[u8; DESK], sheet: &[u8], k: usize) -> bool {
     let mut bad = desk[1] > 1;
@@ -63,16 +87,21 @@ fn fits(desk: &[u8; DESK], sheet: &[u8], k: usize) -> bool {
         return false;
     }
     let k8 = k as u8;
-    for (holds, &depth) in desk[HOLDS..].chunks_exact(20).zip(&desk[DEPTHS..MARKS]) {
-        let holds: &[u8; 20] = holds.try_into().unwrap();
+    for (holds, &depth) in desk[HOLDS..ORIGINS].chunks_exact(DEEPEST).zip(&desk[DEPTHS..MARKS]) {
+        let holds: &[u8; DEEPEST] = holds.try_into().unwrap();
         if depth == 0 {
             bad |= holds.iter().fold(0, |all, &h| all | h) != 0;
         } else {
-            bad |= depth > 20;
+            bad |= depth > DEEPEST as u8;
             for (i, &h) in holds.iter().enumerate() {
                 let wrong = if (i as u8) < depth { (h & 63 >= k8) | (h >= 192) } else { h != 0 };
                 bad |= wrong;
             }
+        }
+    }
+    if desk[ORIGINS..].iter().fold(0, |all, &b| all | b) != 0 {
+        for (frame, &depth) in desk[DEPTHS..MARKS].iter().enumerate() {
+            bad |= origins(desk, frame) >> (depth & 63) != 0;
         }
     }
     let marks: &[u8; 64] = desk[MARKS..HOLDS].try_into().unwrap();
@@ -306,29 +335,34 @@ fn step_with<const PLAIN: bool>(desk: &mut [u8], sheet: &mut [u8], slip: &mut [u
         return 10;
     }
     let &[0x4C, 0x4B, core, kind, class, mode] = record else { return 3 };
-    if core > 7 || kind > 9 || mode > 2 || (kind >= 1 && mode != 0) || (kind >= 2 && class != 0) {
+    if core > 7 || kind > 9 || mode > 5 || (kind >= 1 && mode != 0) || (kind >= 2 && class != 0) {
         return 3;
     }
     let core = usize::from(core);
     let mut state = usize::from(desk[STATES + core]);
     let here = 3 * core + usize::from(FRAME[state]);
     let depth = usize::from(desk[DEPTHS + here]);
-    let first = HOLDS + 20 * here;
+    let first = HOLDS + DEEPEST * here;
     match kind {
         0 => {
             let to = usize::from(class);
             if to >= k {
                 return 4;
             }
-            if depth == 20 {
+            if depth == DEEPEST {
                 return 8;
             }
-            let second = if mode == 2 { 1 } else { 2 };
-            for &hold in &desk[first..first + depth] {
-                let kind = if hold < 64 { second } else { 4 * second };
-                sheet[usize::from(hold & 63) * k + to] |= kind;
+            if mode < 3 {
+                let second = if mode == 2 { 1 } else { 2 };
+                for &hold in &desk[first..first + depth] {
+                    let kind = if hold < 64 { second } else { 4 * second };
+                    sheet[usize::from(hold & 63) * k + to] |= kind;
+                }
+                desk[first + depth] = class + 64 * mode;
+            } else {
+                desk[first + depth] = class + 64 * (mode - 3);
+                flip_origins(desk, here, 1 << depth);
             }
-            desk[first + depth] = class + 64 * mode;
             desk[DEPTHS + here] += 1;
         }
         1 => {
@@ -341,6 +375,10 @@ fn step_with<const PLAIN: bool>(desk: &mut [u8], sheet: &mut [u8], slip: &mut [u
             desk.copy_within(first + at + 1..first + depth, first + at);
             desk[first + depth - 1] = 0;
             desk[DEPTHS + here] -= 1;
+            let above = origins(desk, here) >> at;
+            if above != 0 {
+                flip_origins(desk, here, (above ^ above >> 1) << at);
+            }
         }
         _ => {
             let after = NEXT[state][usize::from(kind) - 2];
@@ -355,10 +393,13 @@ fn step_with<const PLAIN: bool>(desk: &mut [u8], sheet: &mut [u8], slip: &mut [u
         }
     }
     let here = 3 * core + usize::from(FRAME[state]);
-    let first = HOLDS + 20 * here;
+    let first = HOLDS + DEEPEST * here;
+    let mut origins = origins(desk, here);
     for at in first..first + usize::from(desk[DEPTHS + here]) {
         let hold = desk[at];
-        desk[MARKS + usize::from(hold & 63)] |= BITS[state][usize::from(hold >> 6)];
+        let marks = if origins & 1 == 0 { 255 } else { UNSAFE };
+        desk[MARKS + usize::from(hold & 63)] |= BITS[state][usize::from(hold >> 6)] & marks;
+        origins >>= 1;
     }
     let words = if PLAIN { words_plain(desk, sheet, k) } else { words(desk, sheet, k) };
     let mut stack = [0; 129];

@@ -4,6 +4,8 @@ use crate::drawing::{FRAME, NEXT, X};
 use crate::fast;
 use crate::rng::Rng;
 use crate::run::{Call, Case, Rec};
+use crate::sights::ORIGIN;
+use reference::{CLAUSES, DEEPEST, DEPTHS, DESK, FRAMES, HOLDS, MARKS, ORIGINS, STATES};
 
 const BIG: [u64; 16] = [
     255, 256, 257, 264, 300, 320, 65536, 65544, 1 << 31, 1 << 32, (1 << 32) + 1, (1 << 32) + 8,
@@ -27,7 +29,44 @@ fn any_k(rng: &mut Rng) -> usize {
 fn any_buffers(rng: &mut Rng, k: usize) -> (Vec<u8>, Vec<u8>, Vec<u8>) {
     let mut extra = || if rng.mille(400) { rng.under(9) } else { 0 };
     let (a, b, c) = (extra(), extra(), extra());
-    (rng.bytes(578 + a), rng.bytes(k * k + b), rng.bytes(1 + 3 * k + c))
+    (rng.bytes(DESK + a), rng.bytes(k * k + b), rng.bytes(1 + 3 * k + c))
+}
+
+/// A place's hold byte.
+fn hold_at(frame: usize, place: usize) -> usize {
+    HOLDS + DEEPEST * frame + place
+}
+
+/// A place's origin: its byte and its bit.
+fn origin_at(frame: usize, place: usize) -> (usize, u8) {
+    let bit = DEEPEST * frame + place;
+    (ORIGINS + bit / 8, 1 << (bit % 8))
+}
+
+/// Puts a held lock on top of a frame.
+fn push(desk: &mut [u8], frame: usize, lock: u8, is_try: bool) {
+    let depth = usize::from(desk[DEPTHS + frame]);
+    desk[hold_at(frame, depth)] = lock;
+    let (byte, bit) = origin_at(frame, depth);
+    if is_try {
+        desk[byte] |= bit;
+    }
+    desk[DEPTHS + frame] += 1;
+}
+
+/// Takes all held locks out of a frame.
+fn empty(desk: &mut [u8], frame: usize) {
+    desk[DEPTHS + frame] = 0;
+    for place in 0..DEEPEST {
+        desk[hold_at(frame, place)] = 0;
+        let (byte, bit) = origin_at(frame, place);
+        desk[byte] &= !bit;
+    }
+}
+
+/// Whether locks may be held in a core's frame (task, soft, hard) in this state.
+fn may_hold(state: u8, frame: usize) -> bool {
+    [true, [4, 5, 8].contains(&state), state >= 6][frame]
 }
 
 /// A case yet without a name.
@@ -43,8 +82,8 @@ pub struct Style {
     pub cores: Vec<u8>,
     /// Weights of acquire, release, event.
     pub weights: [usize; 3],
-    /// Weights of the three modes.
-    pub modes: [usize; 3],
+    /// Weights of the six modes.
+    pub modes: [usize; 6],
     /// In 1000: records with anything in them, damaged records, questions, acquires that
     /// heed no order of classes, and proposals that fault and are then proposed anew.
     pub random: usize,
@@ -52,6 +91,17 @@ pub struct Style {
     pub asks: usize,
     pub unordered: usize,
     pub avoid: usize,
+}
+
+/// Weights of the modes, with none, some, many tries, or nothing else.
+fn any_modes(rng: &mut Rng) -> [usize; 6] {
+    const WEIGHTS: [[usize; 3]; 9] =
+        [[1, 1, 1], [1, 1, 1], [8, 1, 1], [1, 1, 8], [0, 0, 1], [1, 0, 0], [0, 1, 3], [1, 0, 3], [1, 1, 20]];
+    let (waits, tries) = (rng.pick(&WEIGHTS), rng.pick(&WEIGHTS[..4]));
+    let (wait, try_) = rng.pick(&[(1, 0), (1, 0), (4, 1), (1, 1), (1, 3), (0, 1)]);
+    let [a, b, c] = waits.map(|w| w * wait);
+    let [d, e, f] = tries.map(|w| w * try_);
+    [a, b, c, d, e, f]
 }
 
 fn any_style(rng: &mut Rng, k: usize) -> Style {
@@ -64,7 +114,7 @@ fn any_style(rng: &mut Rng, k: usize) -> Style {
         k,
         cores,
         weights: rng.pick(&[[5, 3, 3], [6, 1, 1], [9, 1, 0], [4, 4, 4], [2, 2, 6], [5, 5, 1]]),
-        modes: rng.pick(&[[1, 1, 1], [1, 1, 1], [8, 1, 1], [1, 1, 8], [0, 0, 1], [1, 0, 0], [0, 1, 3], [1, 0, 3], [1, 1, 20]]),
+        modes: any_modes(rng),
         random: rng.pick(&[0, 10, 30, 30, 200]),
         damaged: rng.pick(&[0, 5, 10, 20, 100]),
         asks: rng.pick(&[0, 10, 30, 100]),
@@ -75,15 +125,20 @@ fn any_style(rng: &mut Rng, k: usize) -> Style {
 
 pub fn clean_style(k: usize) -> Style {
     Style {
-        k, cores: (0..8).collect(), weights: [4, 4, 2], modes: [2, 1, 1],
+        k, cores: (0..8).collect(), weights: [4, 4, 2], modes: [2, 1, 1, 0, 0, 0],
         random: 0, damaged: 0, asks: 0, unordered: 0, avoid: 1000,
     }
+}
+
+/// The same with a third of the acquires tries.
+pub fn try_style(k: usize) -> Style {
+    Style { modes: [4, 2, 2, 2, 1, 1], ..clean_style(k) }
 }
 
 pub fn damaged(rng: &mut Rng, k: usize) -> Rec {
     let kind = rng.under(10) as u8;
     let class = if kind < 2 { rng.under(k) as u8 } else { 0 };
-    let mode = if kind == 0 { rng.under(3) as u8 } else { 0 };
+    let mode = if kind == 0 { rng.under(6) as u8 } else { 0 };
     let mut bytes = vec![0x4C, 0x4B, rng.under(8) as u8, kind, class, mode];
     match rng.under(6) {
         0 => {
@@ -107,13 +162,21 @@ pub fn damaged(rng: &mut Rng, k: usize) -> Rec {
         }
         4 => {
             // Just over an edge.
-            match rng.under(6) {
+            match rng.under(7) {
                 0 => bytes[2] = rng.pick(&[8, 9, 16, 128, 255]),
                 1 => bytes[3] = rng.pick(&[10, 11, 16, 32, 255]),
-                2 => bytes[5] = rng.pick(&[3, 4, 64, 128, 255]),
+                2 => {
+                    bytes[3] = 0;
+                    bytes[5] = rng.pick(&[6, 6, 6, 7, 8, 9, 12, 64, 67, 128, 255]);
+                }
+                6 => {
+                    bytes[3] = 0;
+                    bytes[4] = rng.pick(&[k, 64, 255]) as u8;
+                    bytes[5] = rng.pick(&[6, 6, 7, 255]);
+                }
                 3 => {
                     bytes[3] = 1;
-                    bytes[5] = rng.pick(&[1, 2]);
+                    bytes[5] = rng.pick(&[1, 2, 3, 4, 5, 6]);
                 }
                 4 => {
                     bytes[3] = rng.between(2, 9) as u8;
@@ -123,7 +186,7 @@ pub fn damaged(rng: &mut Rng, k: usize) -> Rec {
                 _ => {
                     bytes[3] = rng.between(2, 9) as u8;
                     bytes[4] = 0;
-                    bytes[5] = rng.pick(&[1, 2]);
+                    bytes[5] = rng.pick(&[1, 2, 3, 4, 5, 6]);
                 }
             }
             Rec::of(&bytes)
@@ -134,6 +197,12 @@ pub fn damaged(rng: &mut Rng, k: usize) -> Rec {
             Rec::of(&bytes)
         }
     }
+}
+
+/// The classes of a frame (task, soft, hard): from the first up to the second, which is none of them.
+fn classes_of(k: usize, frame: usize) -> (usize, usize) {
+    let (a, b) = (k / 2, k / 2 + k / 4);
+    if k < 4 { (0, k) } else { [(0, a), (a, b), (b, k)][frame] }
 }
 
 /// A record that most likely is accepted on this desk, as the style says.
@@ -149,15 +218,15 @@ fn propose(rng: &mut Rng, s: &Style, desk: &[u8]) -> Rec {
             _ => 0,
         };
         rng.next();
-        return Rec::new(core, kind, class, if kind == 0 { rng.under(3) as u8 } else { 0 });
+        return Rec::new(core, kind, class, if kind == 0 { rng.under(7) as u8 } else { 0 });
     }
-    let state = usize::from(desk[2 + usize::from(core)]);
+    let state = usize::from(desk[STATES + usize::from(core)]);
     let frame = FRAME[state];
     let here = 3 * usize::from(core) + frame;
-    let depth = usize::from(desk[10 + here]);
-    let held = &desk[98 + 20 * here..98 + 20 * here + depth];
+    let depth = usize::from(desk[DEPTHS + here]);
+    let held = &desk[hold_at(here, 0)..hold_at(here, depth)];
     let mut what = rng.weighted(&s.weights);
-    if what == 0 && depth == 20 && !rng.mille(300) {
+    if what == 0 && depth == DEEPEST && !rng.mille(300) {
         what = 1;
     }
     if what == 0 {
@@ -166,9 +235,11 @@ fn propose(rng: &mut Rng, s: &Style, desk: &[u8]) -> Rec {
             return Rec::new(core, 0, rng.under(s.k) as u8, mode);
         }
         // Task classes lowest, then those of soft handlers, then those of hard ones, and
-        // within a frame ever higher ones: never a cycle.
-        let (a, b) = (s.k / 2, s.k / 2 + s.k / 4);
-        let (low, high) = if s.k < 4 { (0, s.k) } else { [(0, a), (a, b), (b, s.k)][frame] };
+        // within a frame ever higher ones: never a cycle. No dependency leads to a try.
+        let (low, high) = classes_of(s.k, frame);
+        if mode >= 3 && rng.mille(500) {
+            return Rec::new(core, 0, rng.between(low, high - 1) as u8, mode);
+        }
         let low = held.iter().map(|h| usize::from(h % 64) + 1).max().unwrap_or(0).max(low);
         if low < high {
             let far = if rng.mille(700) { (low + 3).min(high) } else { high };
@@ -204,7 +275,7 @@ pub struct Shadow {
 
 impl Shadow {
     pub fn opened(k: usize) -> Shadow {
-        let mut s = Shadow { desk: vec![0; 578], sheet: vec![0; k * k], slip: vec![0; 1 + 3 * k] };
+        let mut s = Shadow { desk: vec![0; DESK], sheet: vec![0; k * k], slip: vec![0; 1 + 3 * k] };
         fast::open(k as u64, &mut s.desk, &mut s.sheet);
         s
     }
@@ -275,7 +346,7 @@ fn log(rng: &mut Rng) -> Case {
     case(any_buffers(rng, k), calls)
 }
 
-/// Acquires mostly, to depths of 20 and 21.
+/// Acquires mostly, until frames are full and refuse.
 fn deep_log(rng: &mut Rng) -> Case {
     let k = rng.pick(&[1, 2, 3, 8, 64, 64, 33]);
     let mut style = any_style(rng, k);
@@ -283,7 +354,7 @@ fn deep_log(rng: &mut Rng) -> Case {
     style.cores.truncate(2);
     style.damaged = 0;
     if k < 40 || rng.mille(500) {
-        style.modes = [0, 0, 1];
+        style.modes = rng.pick(&[[0, 0, 1, 0, 0, 0], [0, 0, 1, 0, 0, 1], [0, 0, 0, 1, 1, 1]]);
         style.unordered = 1000;
     } else {
         style.unordered = 0;
@@ -295,7 +366,7 @@ fn deep_log(rng: &mut Rng) -> Case {
 
 fn long_log(rng: &mut Rng) -> Case {
     let k = rng.pick(&[4, 8, 17, 64]);
-    let mut style = clean_style(k);
+    let mut style = if rng.mille(500) { clean_style(k) } else { try_style(k) };
     style.random = 10;
     style.damaged = 5;
     style.asks = 5;
@@ -308,25 +379,25 @@ fn long_log(rng: &mut Rng) -> Case {
 /// A fit desk and sheet that no opening need lead to.
 pub fn fit_desk(rng: &mut Rng, k: usize) -> (Vec<u8>, Vec<u8>, Vec<u8>) {
     let (mut desk, mut sheet, slip) = any_buffers(rng, k);
-    desk[..578].fill(0);
+    desk[..DESK].fill(0);
     desk[0] = k as u8;
     desk[1] = u8::from(rng.mille(60));
     let fullness = rng.pick(&[0, 1, 2, 3]);
+    let tries = rng.pick(&[0, 0, 100, 500, 1000]);
     for core in 0..8 {
         let state = rng.under(9) as u8;
-        desk[2 + core] = state;
+        desk[STATES + core] = state;
         for frame in 0..3 {
-            let may = [true, [4, 5, 8].contains(&state), state >= 6][frame];
             let depth = match fullness {
-                _ if !may => 0,
+                _ if !may_hold(state, frame) => 0,
                 0 => 0,
                 1 => rng.under(3),
-                2 => rng.under(21),
-                _ => rng.pick(&[0, 1, 19, 20, 20]),
+                2 => rng.under(DEEPEST + 1),
+                _ => rng.pick(&[0, 1, DEEPEST - 1, DEEPEST, DEEPEST]),
             };
-            desk[10 + 3 * core + frame] = depth as u8;
-            for i in 0..depth {
-                desk[98 + 20 * (3 * core + frame) + i] = (rng.under(k) + 64 * rng.under(3)) as u8;
+            for _ in 0..depth {
+                let lock = (rng.under(k) + 64 * rng.under(3)) as u8;
+                push(&mut desk, 3 * core + frame, lock, rng.mille(tries));
             }
         }
     }
@@ -345,7 +416,7 @@ pub fn fit_desk(rng: &mut Rng, k: usize) -> (Vec<u8>, Vec<u8>, Vec<u8>) {
             } else {
                 m &= !(((m >> 4) & 12 & !m) << 4);
             }
-            desk[34 + class] = m;
+            desk[MARKS + class] = m;
         }
     }
     sheet[..k * k].fill(0);
@@ -438,15 +509,57 @@ fn drawn_desk(rng: &mut Rng) -> Case {
     case((desk, sheet, slip), calls)
 }
 
+/// Desks that hold tries, with nothing drawn yet, and records that seldom fault: so the origins move for long.
+fn tries(rng: &mut Rng) -> Case {
+    let k = rng.pick(&[3, 8, 12, 33, 64]);
+    let (mut desk, mut sheet, slip) = any_buffers(rng, k);
+    desk[..DESK].fill(0);
+    desk[0] = k as u8;
+    sheet[..k * k].fill(0);
+    let (fullness, density) = (rng.under(3), rng.pick(&[200, 500, 900, 1000]));
+    for core in 0..8 {
+        let state = rng.under(9) as u8;
+        desk[STATES + core] = state;
+        for frame in (0..3).filter(|&frame| may_hold(state, frame)) {
+            let depth = match fullness {
+                0 => rng.under(4),
+                1 => rng.under(DEEPEST + 1),
+                _ => rng.pick(&[DEEPEST - 1, DEEPEST, DEEPEST]),
+            };
+            let (low, high) = classes_of(k, frame);
+            for _ in 0..depth {
+                let lock = rng.between(low, high - 1) + 64 * rng.under(3);
+                push(&mut desk, 3 * core + frame, lock as u8, rng.mille(density));
+            }
+        }
+    }
+    let style = Style {
+        weights: rng.pick(&[[2, 5, 3], [3, 3, 3], [1, 8, 1], [4, 2, 3]]),
+        modes: rng.pick(&[[1, 1, 1, 1, 1, 1], [0, 0, 1, 1, 1, 1], [0, 0, 0, 1, 1, 1], [1, 1, 4, 2, 2, 2]]),
+        random: 20,
+        damaged: 20,
+        asks: 20,
+        unordered: rng.pick(&[0, 0, 20]),
+        ..clean_style(k)
+    };
+    let mut shadow = Shadow { desk: desk.clone(), sheet: sheet.clone(), slip: slip.clone() };
+    let mut calls = Vec::new();
+    let most = rng.pick(&[5, 20, 60]);
+    steps(rng, &style, &mut shadow, most, &mut calls);
+    case((desk, sheet, slip), calls)
+}
+
 /// Violates one clause of "Unfit" (by its place in CLAUSES); false if this desk can't.
 pub fn violate(rng: &mut Rng, clause: usize, b: &mut (Vec<u8>, Vec<u8>, Vec<u8>)) -> bool {
     let (desk, sheet, slip) = b;
     if clause == 0 {
-        let n = if rng.mille(500) { 577 } else { rng.under(578) };
+        let part = rng.clone().between(ORIGINS, DESK - 1);
+        let n = rng.pick(&[DESK - 1, DESK - 1, part, ORIGINS, ORIGINS - 1, rng.clone().under(ORIGINS)]);
         desk.truncate(n);
+        rng.next();
         return true;
     }
-    if desk.len() < 578 {
+    if desk.len() < DESK {
         return false;
     }
     let k = usize::from(desk[0]);
@@ -458,80 +571,94 @@ pub fn violate(rng: &mut Rng, clause: usize, b: &mut (Vec<u8>, Vec<u8>, Vec<u8>)
         return false;
     }
     let core = rng.under(8);
-    let frame = rng.under(24);
-    let depth = usize::from(desk[10 + frame]);
-    match clause {
-        2 => {
+    let frame = rng.under(FRAMES);
+    let depth = usize::from(desk[DEPTHS + frame]);
+    match CLAUSES[clause] {
+        "sheet too short" => {
             let n = if rng.mille(500) { k * k - 1 } else { rng.under(k * k) };
             sheet.truncate(n);
         }
-        3 => {
+        "slip too short" => {
             let n = if rng.mille(500) { 3 * k } else { rng.under(1 + 3 * k) };
             slip.truncate(n);
         }
-        4 => desk[1] = rng.pick(&[2, 3, 128, 255, rng.clone().between(2, 255) as u8]),
-        5 => desk[2 + core] = rng.pick(&[9, 10, 16, 255, rng.clone().between(9, 255) as u8]),
-        6 => desk[10 + frame] = rng.pick(&[21, 22, 84, 255, rng.clone().between(21, 255) as u8]),
-        7 | 8 => {
+        "byte 1 over 1" => desk[1] = rng.pick(&[2, 3, 128, 255, rng.clone().between(2, 255) as u8]),
+        "state over 8" => desk[STATES + core] = rng.pick(&[9, 10, 16, 255, rng.clone().between(9, 255) as u8]),
+        "depth over the limit" => {
+            let over = DEEPEST as u8 + 1;
+            desk[DEPTHS + frame] = rng.pick(&[over, over + 1, 64 + over, 255, rng.clone().between(DEEPEST + 1, 255) as u8]);
+        }
+        name @ ("hold class K or more" | "hold mode 3") => {
             // In a task frame, where a lock may always be held.
             let frame = 3 * core;
-            let mut depth = usize::from(desk[10 + frame]);
-            if depth > 20 {
+            if usize::from(desk[DEPTHS + frame]) > DEEPEST {
                 return false;
             }
-            if depth == 0 {
-                desk[10 + frame] = 1;
-                depth = 1;
+            if desk[DEPTHS + frame] == 0 {
+                push(desk, frame, 0, rng.mille(500));
             }
-            let at = 98 + 20 * frame + rng.under(depth);
-            if clause == 8 {
-                desk[at] = 192 + rng.under(k) as u8;
+            let place = rng.under(usize::from(desk[DEPTHS + frame]));
+            if name == "hold mode 3" {
+                desk[hold_at(frame, place)] = 192 + rng.under(k) as u8;
+                let (byte, bit) = origin_at(frame, place);
+                if rng.mille(500) {
+                    desk[byte] |= bit;
+                }
             } else if k < 64 {
-                desk[at] = (rng.pick(&[k, 63, rng.clone().between(k, 63)]) + 64 * rng.under(3)) as u8;
+                desk[hold_at(frame, place)] = (rng.pick(&[k, 63, rng.clone().between(k, 63)]) + 64 * rng.under(3)) as u8;
             } else {
                 return false;
             }
         }
-        9 => {
-            if depth > 19 {
+        "unused hold not 0" => {
+            if depth >= DEEPEST {
                 return false;
             }
-            let at = rng.pick(&[depth, 19, rng.clone().between(depth, 19)]);
-            desk[98 + 20 * frame + at] = rng.pick(&[1, 64, 128, 255, rng.clone().between(1, 255) as u8]);
+            let place = rng.pick(&[depth, DEEPEST - 1, rng.clone().between(depth, DEEPEST - 1)]);
+            desk[hold_at(frame, place)] = rng.pick(&[1, 64, 128, 255, rng.clone().between(1, 255) as u8]);
         }
-        10 | 11 => {
-            let (part, states): (usize, &[u8]) =
-                if clause == 10 { (1, &[0, 1, 2, 3, 6, 7]) } else { (2, &[0, 1, 2, 3, 4, 5]) };
-            let frame = 3 * core + part;
-            if desk[10 + frame] == 0 {
-                desk[10 + frame] = 1;
-                desk[98 + 20 * frame] = rng.under(k) as u8;
+        ORIGIN => {
+            let (frame, last) = if rng.mille(300) { (FRAMES - 1, 1) } else { (frame, 4) };
+            let depth = usize::from(desk[DEPTHS + frame]);
+            if depth >= DEEPEST {
+                return false;
             }
-            let other = 3 * core + 3 - part;
-            // Keep the other handler frame from being wrong as well.
-            desk[10 + other] = 0;
-            desk[98 + 20 * other..118 + 20 * other].fill(0);
-            desk[2 + core] = rng.pick(states);
+            // The frame's last place, which may share a byte with the next frame, the first past the depth, or any.
+            let place = [DEEPEST - 1, depth, depth, rng.clone().between(depth, DEEPEST - 1)][rng.under(last)];
+            let (byte, bit) = origin_at(frame, place);
+            desk[byte] |= bit;
         }
-        12 => {
+        name @ ("soft holds outside 4, 5, 8" | "hard holds outside 6-8") => {
+            let (part, states): (usize, &[u8]) =
+                if name.starts_with("soft") { (1, &[0, 1, 2, 3, 6, 7]) } else { (2, &[0, 1, 2, 3, 4, 5]) };
+            let frame = 3 * core + part;
+            if desk[DEPTHS + frame] == 0 {
+                push(desk, frame, rng.under(k) as u8, rng.mille(500));
+            }
+            // Keep the other handler frame from being wrong as well.
+            empty(desk, 3 * core + 3 - part);
+            desk[STATES + core] = rng.pick(states);
+        }
+        "mark on class K or more" => {
             if k == 64 {
                 return false;
             }
             let at = rng.pick(&[k, 63, rng.clone().between(k, 63)]);
-            desk[34 + at] = rng.pick(&[1, 2, 4, 8, 16, 32, 68, 136]);
+            desk[MARKS + at] = rng.pick(&[1, 2, 4, 8, 16, 32, 68, 136]);
         }
-        13 => {
-            let at = 34 + rng.pick(&[0, k - 1, rng.clone().under(k)]);
+        "soft-unsafe without hard-unsafe" => {
+            let at = MARKS + rng.pick(&[0, k - 1, rng.clone().under(k)]);
             let (soft, hard) = rng.pick(&[(64, 4), (128, 8)]);
             desk[at] = (desk[at] | soft) & !hard;
         }
-        _ => {
+        "sheet byte over 15" => {
             let at = rng.pick(&[0, k * k - 1, rng.clone().under(k * k)]);
             if at >= sheet.len() {
                 return false;
             }
             sheet[at] |= rng.pick(&[16, 32, 64, 128, 240]);
         }
+        other => panic!("no way to violate {other}"),
     }
     rng.next();
     true
@@ -556,12 +683,15 @@ fn some_calls(rng: &mut Rng, k: usize, n: usize) -> Vec<Call> {
 fn unfit_desk(rng: &mut Rng) -> Case {
     let k = any_k(rng);
     let mut buffers = fit_desk(rng, k);
-    let n = rng.pick(&[1, 1, 2, 3, 6]);
+    let n = rng.pick(&[1, 1, 1, 2, 3, 6]);
     for _ in 0..n {
-        let clause = rng.under(15);
+        // Many by what can be wrong in many ways.
+        let often = rng.pick(&[ORIGIN, ORIGIN, "desk too short", "hold mode 3"]);
+        let any = rng.under(CLAUSES.len());
+        let clause = if rng.mille(400) { CLAUSES.iter().position(|c| *c == often).unwrap_or(any) } else { any };
         violate(rng, clause, &mut buffers);
     }
-    let mut calls = some_calls(rng, k, 4);
+    let mut calls = some_calls(rng, k, 6);
     if rng.mille(100) {
         calls.push(Call::Open(k as u64));
         calls.extend(some_calls(rng, k, 3));
@@ -579,21 +709,22 @@ fn changed_desk(rng: &mut Rng) -> Case {
         (s.desk, s.sheet, s.slip)
     };
     for _ in 0..rng.between(1, 3) {
-        let at = match rng.under(6) {
-            0 => rng.under(10),
-            1 => rng.between(10, 33),
-            2 => rng.between(34, 97),
-            _ => rng.under(578 + k * k),
+        let at = match rng.under(7) {
+            0 => rng.under(DEPTHS),
+            1 => rng.between(DEPTHS, MARKS - 1),
+            2 => rng.between(MARKS, HOLDS - 1),
+            3 => rng.between(ORIGINS, DESK - 1),
+            _ => rng.under(DESK + k * k),
         };
         let value = match rng.under(3) {
             0 => rng.byte(),
             1 => rng.under(24) as u8,
             _ => 1 << rng.under(8),
         };
-        if at < 578 {
+        if at < DESK {
             buffers.0[at] = value;
         } else {
-            buffers.1[at - 578] = value;
+            buffers.1[at - DESK] = value;
         }
     }
     let calls = some_calls(rng, k, 4);
@@ -601,7 +732,9 @@ fn changed_desk(rng: &mut Rng) -> Case {
 }
 
 fn opening(rng: &mut Rng) -> Case {
-    let k = match rng.under(4) {
+    // Only the desk's length decides.
+    let by_length = rng.mille(600);
+    let k = match if by_length { 3 } else { rng.under(4) } {
         0 => rng.under(301) as u64,
         1 => rng.pick(&BIG),
         2 => rng.next() >> rng.under(64),
@@ -615,7 +748,12 @@ fn opening(rng: &mut Rng) -> Case {
         _ => n,
     };
     let size = k.min(64) as usize;
-    let (d, s, l) = (near(rng, 578), near(rng, size * size), near(rng, 1 + 3 * size));
+    let (mut d, mut s, l) = (near(rng, DESK), near(rng, size * size), near(rng, 1 + 3 * size));
+    if by_length {
+        d = rng.pick(&[ORIGINS - 1, ORIGINS, rng.clone().between(ORIGINS, DESK - 1), DESK - 1, DESK + 1]);
+        rng.next();
+        s = size * size;
+    }
     let buffers = (rng.bytes(d), rng.bytes(s), rng.bytes(l));
     let mut calls = vec![Call::Open(k)];
     calls.extend(some_calls(rng, size.max(1), 3));
@@ -637,6 +775,9 @@ pub fn pair(rng: &mut Rng) -> Case {
         }
         1 => {
             // The first list faults by itself, what is put in does not.
+            if rng.mille(500) {
+                own.modes = [1, 1, 1, 0, 0, 0];
+            }
             own.weights = [3, 3, 4];
             own.unordered = 300;
             own.avoid = 0;
@@ -698,14 +839,15 @@ struct Kind {
 }
 
 pub const PAIRS: &str = "pair of lists";
-const KINDS: [Kind; 8] = [
-    Kind { name: "log from opening", weight: 190, make: log },
+const KINDS: [Kind; 9] = [
+    Kind { name: "log from opening", weight: 180, make: log },
     Kind { name: "deep log", weight: 60, make: deep_log },
     Kind { name: "long log", weight: 5, make: long_log },
-    Kind { name: "fit desk", weight: 320, make: drawn_desk },
-    Kind { name: "unfit desk", weight: 125, make: unfit_desk },
-    Kind { name: "changed desk", weight: 150, make: changed_desk },
-    Kind { name: "opening", weight: 60, make: opening },
+    Kind { name: "fit desk", weight: 200, make: drawn_desk },
+    Kind { name: "desk with tries", weight: 80, make: tries },
+    Kind { name: "unfit desk", weight: 190, make: unfit_desk },
+    Kind { name: "changed desk", weight: 115, make: changed_desk },
+    Kind { name: "opening", weight: 80, make: opening },
     Kind { name: PAIRS, weight: 90, make: pair },
 ];
 
@@ -716,7 +858,7 @@ pub fn random(rng: &mut Rng) -> Case {
 
 // ---------------------------------------------------------------------- fixed
 
-/// Records in short: "c:t" with t an acquire as 3E, 3r, 3R, a release as -3, or an event:
+/// Records in short: "c:w" on core c, w an acquire as 3E, 3r, 3R, a try as t3E, a release as -3, or an event:
 /// h+ h- s+ s- (hard or soft on or off), S+ S- H+ H- (enter or exit a handler).
 fn read(text: &str) -> Vec<Rec> {
     let mut core = 0;
@@ -734,8 +876,9 @@ fn read(text: &str) -> Vec<Rec> {
             Some(i) => Rec::new(core, 2 + i as u8, 0, 0),
             None if word.starts_with('-') => Rec::new(core, 1, word[1..].parse().unwrap(), 0),
             None => {
-                let (class, mode) = word.split_at(word.len() - 1);
-                let mode = "ErR".find(mode).unwrap() as u8;
+                let (lock, tried) = word.strip_prefix('t').map_or((word, 0), |lock| (lock, 3));
+                let (class, mode) = lock.split_at(lock.len() - 1);
+                let mode = "ErR".find(mode).unwrap() as u8 + tried;
                 Rec::new(core, 0, class.parse().unwrap(), mode)
             }
         });
@@ -753,8 +896,10 @@ pub struct HandLog {
 }
 
 pub fn hand_logs() -> Vec<HandLog> {
-    let twenty: String = "0R ".repeat(20);
-    let twenty_one: String = "0R ".repeat(21);
+    let full = "0R ".repeat(DEEPEST);
+    let over_full = "0R ".repeat(DEEPEST + 1);
+    let full_of_tries = "t0E ".repeat(DEEPEST);
+    let over_full_of_tries = "t0E ".repeat(DEEPEST + 1);
     let rows: Vec<(&'static str, usize, &str, u8)> = vec![
         ("P1", 8, "", 0),
         ("P2", 8, "0:1E 2E -2 -1 1:2E 1E", 1),
@@ -771,8 +916,8 @@ pub fn hand_logs() -> Vec<HandLog> {
         ("P11", 8, "0:H+ 4E -4 H- h- 4E 5E -5 -4 h+ 5E", 1),
         ("P12", 8, "0:s- 6E -6 s+ S+ 6E", 0),
         ("P12 without", 8, "0:6E -6 S+ 6E", 1),
-        ("depth 20", 8, &twenty, 0),
-        ("depth 21", 8, &twenty_one, 8),
+        ("full frame", 8, &full, 0),
+        ("over a full frame", 8, &over_full, 8),
         ("exit hard with a held lock", 8, "0:H+ 1E H-", 7),
         ("exit soft with a held lock", 8, "0:S+ 1E S-", 7),
         ("exit hard in state 0", 8, "0:H-", 6),
@@ -807,21 +952,54 @@ pub fn hand_logs() -> Vec<HandLog> {
         ("exit soft in a task", 1, "0:0R S- ", 6),
         ("K of 1", 1, "0:0R 0R -0 0R 1:0R 2:0R H+ 0R", 0),
         ("K of 1, fault", 1, "0:0r -0 H+ 0r", 1),
+        // Tries.
+        ("try on a held class", 8, "0:1E t1E t1r t1R", 0),
+        ("wait on a tried class", 8, "0:t1E 1E", 1),
+        ("read wait on a read try", 8, "0:t1r 1R", 0),
+        ("recursive wait on an exclusive try", 8, "0:t1E 1R", 1),
+        ("P2 with the last a try", 8, "0:1E 2E -2 -1 1:2E t1E", 0),
+        ("P2 with the first of core 1 a try", 8, "0:1E 2E -2 -1 1:t2E 1E", 1),
+        ("P2 with both of core 1 tries", 8, "0:1E 2E -2 -1 1:t2E t1E 3E", 0),
+        ("P2 from a try onwards", 8, "0:1E t2E 3E 1:3E 2E", 1),
+        ("try over tries", 8, "0:t2E t3r 4R t5R t6E 7R -3 -7 -4 -2", 0),
+        ("P10 by a try in the handler", 8, "0:3E -3 H+ t3E 4R -4 t5r -5 -3 H-", 0),
+        ("P10 by a try in the task", 8, "0:t3E -3 H+ 3E", 1),
+        ("P12 by a try in the handler", 8, "0:6E -6 S+ t6E h- 7R h+ -7 -6 S-", 0),
+        ("P12 by a try in the task", 8, "0:t6E -6 S+ 6R", 1),
+        ("try held over hard on", 8, "1:H+ 3E 0:h- t3E h+", 1),
+        ("try held over soft on", 8, "1:S+ 3R 0:s- t3E s+", 1),
+        ("try in a soft handler, hard-unsafe", 8, "0:S+ t3E 1:H+ 3E", 1),
+        ("try over state 8", 8, "0:S+ t3r H+ t4E t5R -4 5R -5 -5 H- -3 S-", 0),
+        ("try over state 7", 8, "0:s- t1r H+ t4r 5R -5 -4 H- s+", 0),
+        ("one class both ways in a handler, other letter", 8, "0:H+ 3R t3E -3 4R", 0),
+        ("one class both ways in a handler, same letter", 8, "0:S+ 3E t3r h- h+", 0),
+        ("one class both ways in a handler, the try first", 8, "0:H+ t3R 3R -3 4R", 0),
+        ("class tried in the handler, waited in the task", 8, "0:h- 3E 1:H+ t3E 4R", 0),
+        ("full of tries", 8, &full_of_tries, 0),
+        ("over full of tries", 8, &over_full_of_tries, 8),
+        ("newest whatever its origin", 8, "0:1E t1r 2R t1R t3E -1 -1 -1 -2 -3", 0),
+        ("newest a wait over a try", 8, "0:t1R 1R t2E -1 -1 -2", 0),
+        ("try of class 8 of 8", 8, "0:t8E", 4),
+        ("try still held at exit hard", 8, "0:H+ t1E H-", 7),
+        ("try released twice", 8, "0:t1E -1 -1", 5),
+        ("try released in another frame", 8, "0:t1E S+ -1", 5),
     ];
     rows.into_iter().map(|(name, k, text, last)| HandLog { name, k, records: read(text), last }).collect()
 }
 
 /// The kinds of fixed cases, and how many there are of each.
-pub const FIXED: [(&str, u64); 7] = [
-    (HAND_LOGS, 48),
-    (EACH_OPENING, 2536),
-    (EACH_CLAUSE, 2250),
-    (EACH_DESK_BYTE, 27_564),
-    (EACH_STATE, 5400),
+pub const FIXED: [(&str, u64); 8] = [
+    (HAND_LOGS, 78),
+    (EACH_PLACE, 5040),
+    (EACH_OPENING, 3487),
+    (EACH_CLAUSE, 2400),
+    (EACH_DESK_BYTE, 29_863),
+    (EACH_STATE, 21_600),
     (ALL_OF_1, 4352),
     (ALL_OF_2, 65_536),
 ];
 const HAND_LOGS: &str = "hand logs";
+const EACH_PLACE: &str = "each place released";
 const EACH_OPENING: &str = "each opening";
 const EACH_CLAUSE: &str = "each clause alone";
 const EACH_DESK_BYTE: &str = "each desk byte";
@@ -846,12 +1024,38 @@ pub fn fixed(each: &mut dyn FnMut(Case) -> bool) {
             return;
         }
     }
+    // Each place of each frame released at each depth, all frames that may hold locks full of tries and waits.
+    for frame in 0..FRAMES {
+        let core = frame / 3;
+        for depth in 1..=DEEPEST {
+            for place in 0..depth {
+                let mut desk = Shadow::opened(DEEPEST).desk;
+                desk[STATES..STATES + 8].fill(8);
+                desk[STATES + core] = rng.pick([&[1, 2, 3][..], &[4, 5], &[6, 7, 8]][frame % 3]);
+                for other in 0..FRAMES {
+                    let most = if other == frame { depth } else { DEEPEST };
+                    for i in 0..if may_hold(desk[STATES + other / 3], other % 3) { most } else { 0 } {
+                        // Recursive reads: whatever is drawn is clean.
+                        push(&mut desk, other, i as u8 + 64 * 2, rng.mille(600));
+                    }
+                }
+                let calls = vec![Call::Step(Rec::new(core as u8, 1, place as u8, 0)), Call::Ask(0)];
+                let (sheet, slip) = (vec![0; DEEPEST * DEEPEST], vec![9; 1 + 3 * DEEPEST]);
+                if !each(EACH_PLACE, case((desk, sheet, slip), calls)) {
+                    return;
+                }
+            }
+        }
+    }
     // Opening with each K from 0 to 300 and big ones, with buffers just long enough,
     // one byte short, and empty.
     for k in (0..=300).chain(BIG) {
         let size = k.min(64) as usize;
         let short = (size * size).saturating_sub(1);
-        for (d, s) in [(578, size * size), (578, 4096), (577, size * size), (578, short), (577, short), (0, 0), (600, 5000), (578, 0)] {
+        for (d, s) in [
+            (DESK, size * size), (DESK, 4096), (DESK - 1, size * size), (DESK, short), (DESK - 1, short), (0, 0),
+            (DESK + 22, 5000), (DESK, 0), (ORIGINS, size * size), (ORIGINS - 1, size * size), (DESK + 1, size * size),
+        ] {
             let mut calls = vec![Call::Open(k)];
             calls.extend(some_calls(rng, size.max(1), 2));
             if !each(EACH_OPENING, case((rng.bytes(d), rng.bytes(s), rng.bytes(1 + 3 * size)), calls)) {
@@ -860,7 +1064,7 @@ pub fn fixed(each: &mut dyn FnMut(Case) -> bool) {
         }
     }
     // Each clause of "Unfit" alone, open and closed, with every kind of call.
-    for clause in 0..15 {
+    for (clause, &name) in CLAUSES.iter().enumerate() {
         let mut made = 0;
         while made < 150 {
             let k = any_k(rng);
@@ -873,19 +1077,19 @@ pub fn fixed(each: &mut dyn FnMut(Case) -> bool) {
             if !violate(rng, clause, &mut buffers) {
                 continue;
             }
-            if clause == 6 {
+            let desk = &mut buffers.0;
+            if name == "depth over the limit" {
                 // An overlong depth in a handler frame would be wrong twice.
-                let states: Vec<u8> = buffers.0[2..10].to_vec();
                 for core in 0..8 {
-                    let wrong = (buffers.0[11 + 3 * core] > 20 && ![4, 5, 8].contains(&states[core]))
-                        || (buffers.0[12 + 3 * core] > 20 && states[core] < 6);
-                    if wrong {
-                        buffers.0[2 + core] = 8;
+                    let state = desk[STATES + core];
+                    let over = |frame| usize::from(desk[DEPTHS + 3 * core + frame]) > DEEPEST;
+                    if (1..3).any(|frame| over(frame) && !may_hold(state, frame)) {
+                        desk[STATES + core] = 8;
                     }
                 }
             }
-            let name = reference::CLAUSES[clause];
-            if clause == 5 && (0..8).any(|c| buffers.0[2 + c] > 8 && (buffers.0[11 + 3 * c] > 0 || buffers.0[12 + 3 * c] > 0)) {
+            let in_handlers = |core: usize| desk[DEPTHS + 3 * core + 1] > 0 || desk[DEPTHS + 3 * core + 2] > 0;
+            if name == "state over 8" && (0..8).any(|core| desk[STATES + core] > 8 && in_handlers(core)) {
                 // A state over 8 with locks held in handlers is wrong twice: leave them out.
                 continue;
             }
@@ -904,15 +1108,15 @@ pub fn fixed(each: &mut dyn FnMut(Case) -> bool) {
         }
     }
     // Each byte of the desk with each value, on an opened desk with some held locks.
-    for at in 0..578 {
+    for at in 0..DESK {
         let k = [1, 3, 8, 64][at % 4];
         let mut shadow = Shadow::opened(k);
-        let style = clean_style(k);
+        let style = try_style(k);
         for _ in 0..30 {
             shadow.next(rng, &style);
         }
         for value in 0..=255u8 {
-            if at >= 34 && value > 4 && !value.is_power_of_two() && !rng.mille(100) {
+            if at >= MARKS && value > 4 && !value.is_power_of_two() && !rng.mille(100) {
                 continue;
             }
             let mut desk = shadow.desk.clone();
@@ -923,18 +1127,22 @@ pub fn fixed(each: &mut dyn FnMut(Case) -> bool) {
             }
         }
     }
-    // Each state with each kind, with empty and with standing frames.
+    // Each state with each kind, with empty and with standing frames, by waits and by tries.
     for state in 0..9u8 {
-        for held in [0, 1, 20] {
+        for (held, tries) in [(0, false), (1, false), (1, true), (2, true), (DEEPEST, false), (DEEPEST, true)] {
             let mut desk = Shadow::opened(3).desk;
-            desk[2 + 4] = state;
+            desk[STATES + 4] = state;
             let here = 12 + FRAME[usize::from(state)];
-            desk[10 + here] = held;
-            desk[98 + 20 * here..98 + 20 * here + usize::from(held)].fill(1 + 64 * 2);
+            for i in 0..held {
+                // Among tries every second lock is one: the oldest, and so on.
+                push(&mut desk, here, 1 + 64 * 2, tries && i % 2 == 0);
+            }
             for kind in 0..10 {
                 for class in 0..5 {
-                    for mode in 0..4 {
-                        let calls = vec![Call::Step(Rec::new(4, kind, class, mode)), Call::Ask(1)];
+                    for mode in 0..8 {
+                        let calls = vec![
+                            Call::Step(Rec::new(4, kind, class, mode)), Call::Ask(1), Call::Step(Rec::new(4, 0, 2, 2)),
+                        ];
                         if !each(EACH_STATE, case((desk.clone(), vec![0; 9], vec![9; 10]), calls)) {
                             return;
                         }
@@ -948,7 +1156,7 @@ pub fn fixed(each: &mut dyn FnMut(Case) -> bool) {
     for mark in 0..=255u8 {
         for kinds in 0..17u8 {
             let mut desk = Shadow::opened(1).desk;
-            desk[34] = mark;
+            desk[MARKS] = mark;
             let calls = vec![Call::Ask(0), tick.clone(), Call::Ask(0), Call::Ask(1)];
             if !each(ALL_OF_1, case((desk, vec![kinds], vec![7; 4]), calls)) {
                 return;

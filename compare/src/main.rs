@@ -13,6 +13,7 @@ mod planted;
 mod rng;
 mod run;
 mod selftest;
+mod sights;
 
 use judges::{Judges, Subject};
 use needs::Need;
@@ -36,7 +37,8 @@ compare: the library beside the reference, call by call and byte by byte
   --seed S                 other random cases (1)
   --planted NAME           a wrong judge in the library's place
   --both                   the planted judge in the place of the reference and the fast
-                           judge too: then only demand 3's pairs of lists can show it
+                           judge too: then only demand 3's pairs of lists can show it,
+                           and the answers that the documents give for the hand logs
   --without NAME           leave out what is counted under this name
 
 Exit status: 0 no difference and every minimum met; 1 a difference, a wrong answer or a
@@ -140,11 +142,15 @@ fn report(met: &Met, limits: &Limits) -> bool {
         "questions answered on closed desks {}, on open desks where the class reaches itself {}",
         random.asked_closed, random.asked_itself
     );
-    println!("from opening, 20th held lock {}, 21st refused {}", random.twentieth, random.twenty_first);
+    println!("frames filled from opening {}, acquires refused by them {}", random.filled, random.over_full);
     let [hold, hard, soft] = random.sources;
     println!("the subject's cycles: longest {}, dependencies by source hold {hold}, hard {hard}, soft {soft}", random.longest_cycle);
     for (name, cases, calls) in fixed.by_name.iter().chain(&random.by_name) {
         println!("  {name:24} {cases:>9} cases {calls:>11} calls");
+    }
+    println!("sights:");
+    for (sight, met) in sights::SIGHTS.iter().zip(random.sights.0) {
+        println!("  {:56} {met:>9}", sight.name);
     }
     let under = needs::under(fixed, random, limits.cases);
     for (need, met, least) in &under {
@@ -196,11 +202,11 @@ fn long_records(subject: &mut Subject) -> bool {
 fn list() {
     println!("planted judges (* also with --both):");
     for p in PLANTS {
-        println!("{} {:20} {}", if p.breaks.is_some() { "*" } else { " " }, p.name, p.wrong);
+        println!("{} {:24} {}", if p.breaks.is_some() { "*" } else { " " }, p.name, p.wrong);
     }
     println!("counted, with the least number (in 100,000 random cases, but for the first {}):", 1 + gen::FIXED.len());
     for (need, least) in needs::all() {
-        println!("  {:52} {least:>6}", need.name());
+        println!("  {:56} {least:>6}", need.name());
     }
 }
 

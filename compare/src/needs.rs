@@ -4,6 +4,8 @@
 use crate::gen::{self, Shadow};
 use crate::judges::FAST;
 use crate::run::{Call, Case, Counts};
+use crate::sights::{Look, SIGHTS};
+use reference::{CLAUSES, DEEPEST, DEPTHS, HOLDS, MARKS};
 
 /// Random cases of a full run: 66,000 were seen in 60 s beside four busy programs on two cores.
 const RANDOM_CASES: u64 = 5000;
@@ -25,25 +27,27 @@ pub enum Need {
     Clause(Asked, usize),
     FaultInSecond,
     FaultInBoth,
-    Twentieth,
-    TwentyFirst,
+    Filled,
+    OverFull,
     Source(usize),
     AskedClosed,
     AskedItself,
+    Sight(usize),
 }
 use Asked::{Opening, Question, Step};
 
 const SOURCES: [&str; 3] = ["hold", "hard", "soft"];
 
 /// The kinds of random cases; named here too, so that one is missed that is no longer made.
-const RANDOM: [(&str, u64); 8] = [
-    ("log from opening", 1900),
+const RANDOM: [(&str, u64); 9] = [
+    ("log from opening", 1800),
     ("deep log", 600),
     ("long log", 50),
-    ("fit desk", 3200),
-    ("unfit desk", 1250),
-    ("changed desk", 1500),
-    ("opening", 600),
+    ("fit desk", 2000),
+    ("desk with tries", 800),
+    ("unfit desk", 1900),
+    ("changed desk", 1150),
+    ("opening", 800),
     (gen::PAIRS, 900),
 ];
 
@@ -66,17 +70,18 @@ pub fn all() -> Vec<(Need, u64)> {
     ] {
         all.extend(answers.iter().map(|&(answer, least)| (Need::Answer(call, answer), least)));
     }
-    for clause in 0..reference::CLAUSES.len() {
+    for clause in 0..CLAUSES.len() {
         all.push((Need::Clause(Step, clause), 160));
         // A question has no slip.
-        if reference::CLAUSES[clause] != "slip too short" {
+        if CLAUSES[clause] != "slip too short" {
             all.push((Need::Clause(Question, clause), 70));
         }
     }
     all.extend([(Need::FaultInSecond, 200), (Need::FaultInBoth, 140)]);
-    all.extend([(Need::Twentieth, 13_000), (Need::TwentyFirst, 5000)]);
+    all.extend([(Need::Filled, 13_000), (Need::OverFull, 5000)]);
     all.extend([(Need::Source(0), 4200), (Need::Source(1), 620), (Need::Source(2), 340)]);
     all.extend([(Need::AskedClosed, 4900), (Need::AskedItself, 4000)]);
+    all.extend(SIGHTS.iter().enumerate().map(|(i, sight)| (Need::Sight(i), sight.least)));
     all
 }
 
@@ -95,14 +100,15 @@ impl Need {
             Need::RandomCases => "random cases".into(),
             Need::Fixed(name) | Need::Kind(name) => name.into(),
             Need::Answer(c, answer) => format!("{} {answer}", call(c)),
-            Need::Clause(c, clause) => format!("{} with {}", call(c), reference::CLAUSES[clause]),
+            Need::Clause(c, clause) => format!("{} with {}", call(c), CLAUSES[clause]),
             Need::FaultInSecond => "pair with a fault in the second list only".into(),
             Need::FaultInBoth => "pair with a fault in both lists".into(),
-            Need::Twentieth => "20th held lock from opening".into(),
-            Need::TwentyFirst => "21st held lock refused".into(),
+            Need::Filled => "frame filled from opening".into(),
+            Need::OverFull => "acquire refused by a frame filled from opening".into(),
             Need::Source(source) => format!("dependency of source {} in a cycle", SOURCES[source]),
             Need::AskedClosed => "question on a closed desk".into(),
             Need::AskedItself => "question whose class reaches itself".into(),
+            Need::Sight(i) => SIGHTS[i].name.into(),
         }
     }
 
@@ -119,11 +125,12 @@ impl Need {
             Need::Clause(_, clause) => random.clause_step[clause],
             Need::FaultInSecond => random.pair_faults[1],
             Need::FaultInBoth => random.pair_faults[2],
-            Need::Twentieth => random.twentieth,
-            Need::TwentyFirst => random.twenty_first,
+            Need::Filled => random.filled,
+            Need::OverFull => random.over_full,
             Need::Source(source) => random.sources[source],
             Need::AskedClosed => random.asked_closed,
             Need::AskedItself => random.asked_itself,
+            Need::Sight(i) => random.sights.0[i],
         }
     }
 
@@ -163,24 +170,29 @@ impl Need {
         match self {
             Need::Answer(c, answer) => c == call && seen.answer == answer,
             Need::Clause(c, clause) => {
-                let slip = (call == Step).then_some(&before.slip[..]);
-                let unfit = reference::unfit(&before.desk, &before.sheet, slip);
-                c == call && seen.answer == 11 && unfit == Some(reference::CLAUSES[clause])
+                c == call && seen.clause() == Some(CLAUSES[clause])
             }
-            Need::Twentieth => {
-                let mut depths = before.desk.iter().zip(&after.desk).skip(10).take(24);
-                call == Step && seen.answer < 2 && depths.any(|(was, is)| (*was, *is) == (19, 20))
+            Need::Filled => {
+                let full = |desk: &[u8]| desk[DEPTHS..MARKS].iter().filter(|&&d| usize::from(d) == DEEPEST).count();
+                call == Step && seen.answer < 2 && full(&after.desk) > full(&before.desk)
             }
-            Need::TwentyFirst => call == Step && seen.answer == 8,
+            Need::OverFull => call == Step && seen.answer == 8,
             Need::Source(0) => call == Step && seen.answer == 1 && after.sheet.iter().any(|&b| b & 15 != 0),
             Need::Source(source) => {
                 let safe = if source == 1 { 3 } else { 48 };
-                call == Step && seen.answer == 1 && after.desk[34..98].iter().any(|m| m & safe != 0)
+                call == Step && seen.answer == 1 && after.desk[MARKS..HOLDS].iter().any(|m| m & safe != 0)
             }
             Need::AskedClosed => call == Question && seen.answer == 0 && before.desk[1] == 1,
             Need::AskedItself => {
                 matches!(seen.call, Call::Ask(class) if seen.answer == 0 && seen.word >> class & 1 == 1) && before.desk[1] == 0
             }
+            Need::Sight(i) => (SIGHTS[i].met)(&Look {
+                call: seen.call,
+                before: &before.desk,
+                after: &after.desk,
+                answer: seen.answer,
+                clause: seen.clause(),
+            }),
             _ => false,
         }
     }
@@ -193,6 +205,15 @@ struct Seen<'a> {
     after: Shadow,
     answer: u8,
     word: u64,
+}
+
+impl Seen<'_> {
+    /// With answer 11: the first clause that is violated.
+    fn clause(&self) -> Option<&'static str> {
+        let slip = matches!(self.call, Call::Step(_)).then_some(&self.before.slip[..]);
+        let unfit = || reference::unfit(&self.before.desk, &self.before.sheet, slip);
+        if self.answer == 11 { unfit() } else { None }
+    }
 }
 
 /// Plays a case's calls (or only those chosen) on the fast judge, and says which are kept; the others are undone.

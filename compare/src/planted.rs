@@ -5,6 +5,8 @@ use crate::judges::Judge;
 pub struct Plant {
     pub name: &'static str,
     pub wrong: &'static str,
+    /// The call that shows it to be wrong must be one of these sights, where any are named.
+    pub sights: &'static [&'static str],
     /// The part of demand 3's claim that it breaks while it stands in the place of every judge.
     pub breaks: Option<&'static str>,
     pub judge: Judge,

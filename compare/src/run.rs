@@ -4,6 +4,8 @@
 
 use crate::claim;
 use crate::judges::Judges;
+use crate::sights::{self, Look, SIGHTS};
+use reference::{CLAUSES, DEEPEST, DEPTHS, DESK, MARKS};
 
 /// A record of 0 to 12 bytes.
 #[derive(Clone, Copy, PartialEq, Eq)]
@@ -29,7 +31,7 @@ impl Rec {
         let &[0x4C, 0x4B, core, kind, class, mode] = self.slice() else { return None };
         let well = core <= 7
             && match kind {
-                0 => mode <= 2,
+                0 => mode <= 5,
                 1 => mode == 0,
                 2..=9 => class == 0 && mode == 0,
                 _ => false,
@@ -66,6 +68,15 @@ pub struct Diff {
     pub text: String,
 }
 
+/// How often each sight was met.
+pub struct Sighted(pub [u64; SIGHTS.len()]);
+
+impl Default for Sighted {
+    fn default() -> Sighted {
+        Sighted([0; SIGHTS.len()])
+    }
+}
+
 #[derive(Default)]
 pub struct Counts {
     pub cases: u64,
@@ -73,8 +84,11 @@ pub struct Counts {
     pub open: [u64; 16],
     pub step: [u64; 16],
     pub ask: [u64; 16],
-    pub clause_step: [u64; 15],
-    pub clause_ask: [u64; 15],
+    pub clause_step: [u64; CLAUSES.len()],
+    pub clause_ask: [u64; CLAUSES.len()],
+    /// Calls of each sight, and the sights of the last call, bit by bit.
+    pub sights: Sighted,
+    pub last_sights: u64,
     pub pair_records: u64,
     /// Pairs of lists with no fault, with one in the second only, in both.
     pub pair_faults: [u64; 3],
@@ -82,8 +96,8 @@ pub struct Counts {
     /// Questions on open desks where the class reaches itself.
     pub asked_itself: u64,
     /// From opening: accepted acquires that fill a frame, and those refused for a full one.
-    pub twentieth: u64,
-    pub twenty_first: u64,
+    pub filled: u64,
+    pub over_full: u64,
     /// Of the subject's cycles: the longest, and dependencies by source.
     pub longest_cycle: u8,
     pub sources: [u64; 3],
@@ -149,9 +163,19 @@ fn slip_wrong(answer: u8, bench: &Bench, before: &Guarded) -> Option<String> {
     first_difference("slip past 1 + 3n", &bench.slip, &expected)
 }
 
+impl Counts {
+    fn sight(&mut self, call: &Call, before: &Bench, after: &Bench, answer: u8, clause: Option<&'static str>) {
+        let look = Look { call, before: before.desk.see(), after: after.desk.see(), answer, clause };
+        self.last_sights = sights::of(&look);
+        for (i, count) in self.sights.0.iter_mut().enumerate() {
+            *count += self.last_sights >> i & 1;
+        }
+    }
+}
+
 /// How many frames are full.
 fn full_frames(bench: &Bench) -> usize {
-    bench.desk.see()[10..34].iter().filter(|&&depth| depth == 20).count()
+    bench.desk.see()[DEPTHS..MARKS].iter().filter(|&&depth| usize::from(depth) == DEEPEST).count()
 }
 
 /// Runs the calls on the three benches; the subject's answers.
@@ -178,11 +202,13 @@ fn run_calls(case: &Case, calls: &[&Call], judges: &mut Judges, counts: &mut Cou
         }
         counts.calls += 1;
         let (want, got, fast_got);
+        let mut clause = None;
         match call {
             Call::Open(k) => {
                 want = (other.open)(*k, refe.desk.lend(), refe.sheet.lend());
                 got = subject.open(*k, subj.desk.lend(), subj.sheet.lend());
                 fast_got = (fast.open)(*k, quick.desk.lend(), quick.sheet.lend());
+                counts.sight(call, &before, &refe, want, clause);
                 counts.open[usize::from(want)] += 1;
                 from_opening |= want == 0;
             }
@@ -191,9 +217,12 @@ fn run_calls(case: &Case, calls: &[&Call], judges: &mut Judges, counts: &mut Cou
                 got = subject.step(subj.desk.lend(), subj.sheet.lend(), subj.slip.lend(), record.slice());
                 fast_got = (fast.step)(quick.desk.lend(), quick.sheet.lend(), quick.slip.lend(), record.slice());
                 counts.step[usize::from(want)] += 1;
+                if want < 10 && (want == 3) == record.names().is_some() {
+                    return fail("reference", format!("answer {want}, and the record names {:?}", record.names()));
+                }
                 if want == 11 {
-                    let clause = reference::unfit(before.desk.see(), before.sheet.see(), Some(slip_before[2].see()));
-                    let Some(i) = reference::CLAUSES.iter().position(|c| Some(*c) == clause) else {
+                    clause = reference::unfit(before.desk.see(), before.sheet.see(), Some(slip_before[2].see()));
+                    let Some(i) = CLAUSES.iter().position(|c| Some(*c) == clause) else {
                         return fail("reference", "11 without a clause".into());
                     };
                     counts.clause_step[i] += 1;
@@ -205,9 +234,10 @@ fn run_calls(case: &Case, calls: &[&Call], judges: &mut Judges, counts: &mut Cou
                 } else if case.clause.is_some() {
                     return fail("reference", format!("{want} though {:?} was meant", case.clause));
                 }
+                counts.sight(call, &before, &refe, want, clause);
                 if from_opening {
-                    counts.twentieth += u64::from(want < 2 && full_frames(&refe) > full_frames(&before));
-                    counts.twenty_first += u64::from(want == 8);
+                    counts.filled += u64::from(want < 2 && full_frames(&refe) > full_frames(&before));
+                    counts.over_full += u64::from(want == 8);
                 }
                 if want == 1 {
                     if refe.desk.see()[1] != 1 {
@@ -233,14 +263,15 @@ fn run_calls(case: &Case, calls: &[&Call], judges: &mut Judges, counts: &mut Cou
                 fast_got = (fast.ask)(quick.desk.see(), quick.sheet.see(), *class, &mut w2, &mut c2);
                 counts.ask[usize::from(want)] += 1;
                 if want == 11 {
-                    let clause = reference::unfit(before.desk.see(), before.sheet.see(), None);
-                    let i = reference::CLAUSES.iter().position(|c| Some(*c) == clause).unwrap_or(0);
+                    clause = reference::unfit(before.desk.see(), before.sheet.see(), None);
+                    let i = CLAUSES.iter().position(|c| Some(*c) == clause).unwrap_or(0);
                     counts.clause_ask[i] += 1;
                 }
                 if want == 0 {
                     counts.asked_closed += u64::from(refe.desk.see()[1] == 1);
                     counts.asked_itself += u64::from(refe.desk.see()[1] == 0 && w0 >> class & 1 == 1);
                 }
+                counts.sight(call, &before, &refe, want, clause);
                 if (w[1], c[1]) != (w0, c0) && got == want {
                     return fail("subject", format!("word {:#x} count {} instead of {w0:#x} {c0}", w[1], c[1]));
                 }
@@ -285,7 +316,7 @@ fn run_calls(case: &Case, calls: &[&Call], judges: &mut Judges, counts: &mut Cou
         // Opening, told from the document's sentence
         if matches!(call, Call::Open(_)) && want == 0 {
             let k = usize::from(refe.desk.see()[0]);
-            let zero = refe.desk.see()[1..578].iter().chain(&refe.sheet.see()[..k * k]).all(|&b| b == 0);
+            let zero = refe.desk.see()[1..DESK].iter().chain(&refe.sheet.see()[..k * k]).all(|&b| b == 0);
             if !zero || !matches!(call, Call::Open(n) if *n == k as u64) {
                 return fail("reference", "opening is wrong".into());
             }

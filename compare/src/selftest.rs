@@ -7,23 +7,28 @@ use crate::needs::{self, Need};
 use crate::planted::{Plant, PLANTS};
 use crate::rng::Rng;
 use crate::run::{self, Counts};
-use crate::{hand_answers, try_case, Limits, Met};
+use crate::sights;
+use crate::{try_case, Limits, Met};
 use std::time::{Duration, Instant};
 
-/// Random cases of a quick run.
+/// Random cases of a quick run, and of one without something.
 const CASES: u64 = 800;
-/// Pairs of lists for a planted judge in every place.
+const CASES_WITHOUT: u64 = 200;
+/// Pairs of lists for a planted judge in every place, at most, and how many of them are to show it.
 const PAIRS: u64 = 1000;
+const SHOWN: u64 = 5;
 
 fn quick(without: Option<Need>) -> Limits {
-    Limits { seconds: 0, cases: CASES, seed: 7, without }
+    let cases = if without.is_some() { CASES_WITHOUT } else { CASES };
+    Limits { seconds: 0, cases, seed: 7, without }
 }
 
 fn soon() -> Instant {
     Instant::now() + Duration::from_secs(60)
 }
 
-/// In the library's place it is caught by the fixed cases alone and by the random ones alone.
+/// In the library's place it is caught by the fixed cases alone and by the random ones alone, at a call that is one of
+/// the sights named for it.
 fn caught(plant: &Plant) -> bool {
     let mut calls = Vec::new();
     for which in ["fixed", "random"] {
@@ -34,8 +39,13 @@ fn caught(plant: &Plant) -> bool {
             "fixed" => quick(None).fixed(&mut each),
             _ => quick(None).random(soon(), &mut each),
         }
+        let named = plant.sights.iter().fold(0, |all, name| all | 1 << sights::named(name));
+        let meant = named == 0 || named & counts.last_sights != 0;
         match failed {
-            Some((_, diff)) if diff.judge == "subject" => calls.push(counts.calls),
+            Some((_, diff)) if diff.judge == "subject" && meant => calls.push(counts.calls),
+            Some((_, diff)) if diff.judge == "subject" => {
+                println!("{}, {which} cases: by no sight named for it: {}", plant.name, diff.text);
+            }
             Some((_, diff)) => println!("{}, {which} cases: {}: {}", plant.name, diff.judge, diff.text),
             None => println!("{}, {which} cases: no difference in {} calls", plant.name, counts.calls),
         }
@@ -47,26 +57,25 @@ fn caught(plant: &Plant) -> bool {
     calls.len() == 2
 }
 
-/// In the place of every judge nothing but demand 3's claim of two lists catches it, and that part of it does.
+/// In the place of every judge no two differ, and that part of demand 3's claim of two lists catches it.
 fn breaks(plant: &Plant, part: &str) -> bool {
     let mut judges = Judges::all(plant.judge);
     let (mut counts, mut failed) = (Counts::default(), None);
     let no_pairs = quick(Some(Need::Kind(gen::PAIRS)));
-    let mut each = |case| try_case(case, &mut judges, &mut counts, &mut failed);
-    no_pairs.fixed(&mut each);
-    no_pairs.random(soon(), &mut each);
-    let mut seen = 0;
-    for number in 0..PAIRS {
+    no_pairs.random(soon(), &mut |case| try_case(case, &mut judges, &mut counts, &mut failed));
+    let (mut seen, mut number) = (0, 0);
+    while seen < SHOWN && number < PAIRS {
         let case = gen::pair(&mut Rng::new(number));
+        number += 1;
         match run::run(&case, &mut judges, &mut counts) {
             Err(diff) if diff.judge == part => seen += 1,
             Err(diff) if !claim::PARTS.contains(&diff.judge) => failed = Some((case, diff)),
             _ => {}
         }
     }
-    let well = seen > 0 && failed.is_none() && hand_answers(&mut judges.subject);
+    let well = seen > 0 && failed.is_none();
     let verdict = if well { "broken in" } else { "NOT CAUGHT, or not only by it:" };
-    println!("{} in every place: \"{part}\" {verdict} {seen} of {PAIRS} pairs", plant.name);
+    println!("{} in every place: \"{part}\" {verdict} {seen} of {number} pairs", plant.name);
     if let Some((_, diff)) = failed {
         println!("{}: {}", diff.judge, diff.text);
     }

@@ -1,8 +1,8 @@
 //! An independent second program for the lock log judge.
 //!
-//! Written from document 01 ("What will be built, and the rules") alone, to be
-//! compared byte for byte with the proved library. Sentences in quotation marks
-//! are the document's.
+//! Written from the documents alone (01, "What will be built, and the rules", and
+//! of 02 "A try never waits"), to be compared byte for byte with the proved
+//! library. Sentences in quotation marks are the documents'.
 //!
 //! How closed strong paths are decided: a path is a walk over *arrivals*, an
 //! arrival being a class together with the second letter (N or R) of the arrow
@@ -17,9 +17,6 @@ use std::io::{ErrorKind, Read, Write};
 
 // ---------------------------------------------------------------- the bench
 
-/// "Desk, 578 bytes".
-pub const DESK: usize = 578;
-
 /// "Sheet, K x K bytes".
 pub fn sheet_len(k: usize) -> usize {
     k.saturating_mul(k)
@@ -31,14 +28,18 @@ pub fn slip_len(k: usize) -> usize {
 }
 
 const MAX_K: usize = 64; // "K is the number of classes, 1 to 64"
-const CORES: usize = 8; // "There are 8 cores."
-const DEEPEST: usize = 20; // "20 per frame"
+pub const CORES: usize = 8; // "There are 8 cores."
+pub const FRAMES: usize = 3 * CORES; // task, soft, hard of each core
+pub const DEEPEST: usize = 20; // "20 per frame"
+const PLACES: usize = FRAMES * DEEPEST;
 
 // Where things lie on the desk.
-const STATES: usize = 2; // "bytes 2-9 each core's state 0-8"
-const DEPTHS: usize = 10; // "bytes 10-33 hold depths (core 0 task, soft, hard, then core 1 and so on)"
-const MARKS: usize = 34; // "bytes 34-97 marks by class"
-const HOLDS: usize = 98; // "bytes 98-577 the holds"
+pub const STATES: usize = 2; // "bytes 2-9 each core's state 0-8"
+pub const DEPTHS: usize = STATES + CORES; // "bytes 10-33 hold depths (core 0 task, soft, hard, then core 1 and so on)"
+pub const MARKS: usize = DEPTHS + FRAMES; // "bytes 34-97 marks by class"
+pub const HOLDS: usize = MARKS + MAX_K; // "bytes 98-577 the holds"
+pub const ORIGINS: usize = HOLDS + PLACES; // "60 more desk bytes from 578 on, one bit per hold place in order"
+pub const DESK: usize = ORIGINS + PLACES.div_ceil(8); // "It is then 638 bytes"
 
 // "Kinds: 0 take, 1 release, .. 7 exit soft, .. 9 exit hard."
 const TAKE: u8 = 0;
@@ -49,6 +50,9 @@ const EXIT_HARD: u8 = 9;
 // "Modes of a take: 0 exclusive, 1 non-recursive read, 2 recursive read."
 const EXCLUSIVE: u8 = 0;
 const RECURSIVE: u8 = 2;
+// "Modes 3, 4 and 5 become a successful try for exclusive, read and recursive read."
+const TRY: u8 = 3;
+const LAST_MODE: u8 = TRY + RECURSIVE;
 
 // "the sum of the arrow kinds seen: ER 1, EN 2, SR 4, SN 8"
 const ER: u8 = 1;
@@ -66,9 +70,9 @@ fn ends_with_r(kind: u8) -> bool {
 
 // ------------------------------------------------------------------ opening
 
-/// "Opening writes K, zero in the other 577 desk bytes, and zero in the sheet's
-/// K x K bytes." Answers 0, or 2: "K not 1-64, desk under 578, or sheet under
-/// K x K", "nothing changed".
+/// Opening writes K, zero in the other 637 desk bytes, and zero in the sheet's
+/// K x K bytes. Answers 0, or 2: K not 1-64, desk under 638, or sheet under
+/// K x K, "nothing changed".
 pub fn open(k: u64, desk: &mut [u8], sheet: &mut [u8]) -> u8 {
     if k < 1 || k > MAX_K as u64 {
         return 2;
@@ -86,17 +90,18 @@ pub fn open(k: u64, desk: &mut [u8], sheet: &mut [u8]) -> u8 {
 // -------------------------------------------------------------------- unfit
 
 /// Every name that [`unfit`] can give, in the order in which it looks.
-pub const CLAUSES: [&str; 15] = [
+pub const CLAUSES: [&str; 16] = [
     "desk too short",
     "K not 1-64",
     "sheet too short",
     "slip too short",
     "byte 1 over 1",
     "state over 8",
-    "depth over 20",
+    "depth over the limit",
     "hold class K or more",
     "hold mode 3",
     "unused hold not 0",
+    "origin where no hold stands",
     "soft holds outside 4, 5, 8",
     "hard holds outside 6-8",
     "mark on class K or more",
@@ -139,7 +144,7 @@ pub fn unfit(desk: &[u8], sheet: &[u8], slip: Option<&[u8]>) -> Option<&'static 
         return Some(CLAUSES[6]);
     }
     // "a standing hold with class K or more or mode 3; an unused hold byte not 0"
-    let frames = || desk[HOLDS..DESK].chunks_exact(DEEPEST).zip(depths);
+    let frames = || desk[HOLDS..ORIGINS].chunks_exact(DEEPEST).zip(depths);
     let standing = |test: fn(u8, usize) -> bool| {
         frames().any(|(holds, &depth)| holds[..usize::from(depth)].iter().any(|&h| test(h, k)))
     };
@@ -152,27 +157,51 @@ pub fn unfit(desk: &[u8], sheet: &[u8], slip: Option<&[u8]>) -> Option<&'static 
     if frames().any(|(holds, &depth)| holds[usize::from(depth)..].iter().any(|&h| h != 0)) {
         return Some(CLAUSES[9]);
     }
+    // "zero where no hold stands, else the desk is unfit"
+    let stands = |place: usize| place % DEEPEST < usize::from(depths[place / DEEPEST]);
+    if (0..PLACES).any(|place| !stands(place) && is_try(desk, HOLDS + place)) {
+        return Some(CLAUSES[10]);
+    }
     // "soft holds outside states 4, 5, 8"
     if (0..CORES).any(|c| depths[3 * c + 1] > 0 && ![4, 5, 8].contains(&states[c])) {
-        return Some(CLAUSES[10]);
+        return Some(CLAUSES[11]);
     }
     // "hard holds outside 6-8"
     if (0..CORES).any(|c| depths[3 * c + 2] > 0 && ![6, 7, 8].contains(&states[c])) {
-        return Some(CLAUSES[11]);
+        return Some(CLAUSES[12]);
     }
     // "a mark on a class K or more"
     if marks[k..].iter().any(|&m| m != 0) {
-        return Some(CLAUSES[12]);
+        return Some(CLAUSES[13]);
     }
     // "a soft-unsafe mark without its hard-unsafe one"
     if marks.iter().any(|&m| (m & 64 != 0 && m & 4 == 0) || (m & 128 != 0 && m & 8 == 0)) {
-        return Some(CLAUSES[13]);
+        return Some(CLAUSES[14]);
     }
     // "a sheet byte over 15"
     if sheet[..sheet_len(k)].iter().any(|&b| b > 15) {
-        return Some(CLAUSES[14]);
+        return Some(CLAUSES[15]);
     }
     None
+}
+
+// ------------------------------------------------------------------- origins
+
+/// The origin of the hold whose byte is at `at`: "one bit per hold place in order, 1
+/// for a try, lowest bit first".
+fn is_try(desk: &[u8], at: usize) -> bool {
+    let place = at - HOLDS;
+    desk[ORIGINS + place / 8] >> (place % 8) & 1 == 1
+}
+
+fn set_origin(desk: &mut [u8], at: usize, is_try: bool) {
+    let place = at - HOLDS;
+    let bit = 1 << (place % 8);
+    if is_try {
+        desk[ORIGINS + place / 8] |= bit;
+    } else {
+        desk[ORIGINS + place / 8] &= !bit;
+    }
 }
 
 // ------------------------------------------------------------- the nine states
@@ -220,12 +249,12 @@ struct Record {
 }
 
 /// None for answer 3: "not six bytes, wrong mark, core over 7, kind over 9, mode
-/// over 2, or a byte that should be 0".
+/// over" 5, "or a byte that should be 0".
 fn read_record(bytes: &[u8]) -> Option<Record> {
     let &[0x4C, 0x4B, core, kind, class, mode] = bytes else {
         return None;
     };
-    if core > 7 || kind > 9 || mode > 2 {
+    if core > 7 || kind > 9 || mode > LAST_MODE {
         return None;
     }
     // "Mode is 0 for a release; class and mode are 0 for kinds 2 to 9."
@@ -284,9 +313,13 @@ pub fn step(desk: &mut [u8], sheet: &mut [u8], slip: &mut [u8], record: &[u8]) -
     // Accepted: from here on desk and sheet change.
     match (kind, newest) {
         (TAKE, _) => {
+            // "Once held it counts as mode 0, 1 or 2"
+            let (by_try, mode) = (mode >= TRY, mode % TRY);
             // "A take draws one hold arrow to the new class from every hold in the
-            // core's current frame, then adds the hold."
-            for at in first..first + depth {
+            // core's current frame, then adds the hold." A try "draws no arrow from the
+            // older holds".
+            let older_holds = if by_try { first..first } else { first..first + depth };
+            for at in older_holds {
                 let (older, older_mode) = (usize::from(desk[at] % 64), desk[at] / 64);
                 // "First letter: E if the older hold is exclusive, S for either read.
                 // Second: R if the take is recursive read, else N"
@@ -299,13 +332,20 @@ pub fn step(desk: &mut [u8], sheet: &mut [u8], slip: &mut [u8], record: &[u8]) -
                 sheet[older * k + usize::from(class)] |= arrow;
             }
             desk[first + depth] = class + 64 * mode;
+            set_origin(desk, first + depth, by_try);
             desk[DEPTHS + here] += 1;
         }
         (RELEASE, Some(at)) => {
-            // "later holds move down one", "Unused hold bytes are zero."
-            let end = first + depth;
-            desk.copy_within(at + 1..end, at);
-            desk[end - 1] = 0;
+            // "later holds move down one", "Unused hold bytes are zero."; the origin is
+            // "moved down on a release".
+            let last = first + depth - 1;
+            for to in at..last {
+                desk[to] = desk[to + 1];
+                let origin = is_try(desk, to + 1);
+                set_origin(desk, to, origin);
+            }
+            desk[last] = 0;
+            set_origin(desk, last, false);
             desk[DEPTHS + here] -= 1;
         }
         _ => desk[STATES + usize::from(core)] = state_after,
@@ -336,11 +376,12 @@ fn mark(desk: &mut [u8], core: u8) {
         let unsafe_ = if mode == EXCLUSIVE { 4 } else { 8 };
         let mut bits = 0;
         // "Hard-safe in 6-8; soft-safe in 4-5; hard-unsafe in 0, 1, 4; soft-unsafe in
-        // 0 only"
-        if [6, 7, 8].contains(&state) {
+        // 0 only"; a try "sets no safe mark then or later".
+        let waited = !is_try(desk, at);
+        if waited && [6, 7, 8].contains(&state) {
             bits |= safe;
         }
-        if [4, 5].contains(&state) {
+        if waited && [4, 5].contains(&state) {
             bits |= safe * 16;
         }
         if [0, 1, 4].contains(&state) {

@@ -1,4 +1,4 @@
-//! The logs of document 01 and the rules one by one.
+//! The logs of document 01 and the rules of both documents one by one.
 use super::*;
 
 // ------------------------------------------------------------------- helpers
@@ -6,6 +6,11 @@ use super::*;
 const E: u8 = 0;
 const NR: u8 = 1; // the document's "r"
 const R: u8 = 2;
+// Tries of the three.
+const TE: u8 = 3;
+const TR: u8 = 4;
+const TRR: u8 = 5;
+const MODES: [u8; 6] = [E, NR, R, TE, TR, TRR];
 
 const HARD_ON: u8 = 2;
 const HARD_OFF: u8 = 3;
@@ -63,6 +68,10 @@ impl Bench {
         let (mut word, mut count) = (99, 99);
         let answer = ask(&self.desk, &self.sheet, class, &mut word, &mut count);
         (answer, word, count)
+    }
+    /// The places whose origin bit is 1, lowest bit first over the whole region.
+    fn origins(&self) -> Vec<usize> {
+        (0..480).filter(|&place| self.desk[578 + place / 8] >> (place % 8) & 1 == 1).collect()
     }
     fn unfit(&self) -> Option<&'static str> {
         unfit(&self.desk, &self.sheet, Some(&self.slip))
@@ -284,6 +293,12 @@ fn refusal_logs() {
     assert_clean(&twenty);
     twenty.push(take(0, 0, R));
     assert_eq!(judge(8, &twenty), (21, 8));
+    // A full frame is full for itself alone: not for another core, nor for a handler.
+    twenty[20] = take(1, 0, R);
+    assert_clean(&twenty);
+    twenty[20] = event(0, ENTER_SOFT);
+    twenty.push(take(0, 0, R));
+    assert_clean(&twenty);
     assert_eq!(judge(8, &[event(0, ENTER_HARD), take(0, 0, E), event(0, EXIT_HARD)]), (3, 7));
     assert_eq!(judge(8, &[event(0, ENTER_SOFT), take(0, 0, E), event(0, EXIT_SOFT)]), (3, 7));
     assert_eq!(judge(8, &[event(0, EXIT_HARD)]), (1, 6));
@@ -353,11 +368,17 @@ fn answer_3() {
     b.refused(&[0x4C, 0x4C, 0, 0, 2, 0], 3);
     b.refused(&[0x4C, 0x4B, 8, 0, 2, 0], 3);
     b.refused(&[0x4C, 0x4B, 0, 10, 0, 0], 3);
-    b.refused(&[0x4C, 0x4B, 0, 0, 2, 3], 3);
-    b.refused(&[0x4C, 0x4B, 0, 1, 1, 1], 3);
+    for mode in 6..=255 {
+        b.refused(&[0x4C, 0x4B, 0, TAKE, 2, mode], 3);
+    }
+    // No mode but 0 with the other kinds, those of a try neither.
+    for kind in 1..10 {
+        for mode in 1..=255 {
+            b.refused(&[0x4C, 0x4B, 0, kind, u8::from(kind == RELEASE), mode], 3);
+        }
+    }
     for kind in 2..10 {
         b.refused(&[0x4C, 0x4B, 0, kind, 1, 0], 3);
-        b.refused(&[0x4C, 0x4B, 0, kind, 0, 1], 3);
     }
 }
 
@@ -379,8 +400,13 @@ fn refusal_order() {
     b.refused(&take(0, 8, E), 11);
     // 3 before 4: class K or more with a bad mode.
     let b = Bench::new(8);
-    b.refused(&[0x4C, 0x4B, 0, TAKE, 8, 3], 3);
+    b.refused(&[0x4C, 0x4B, 0, TAKE, 8, 6], 3);
     b.refused(&[0x4C, 0x4B, 0, RELEASE, 8, 1], 3);
+    b.refused(&[0x4C, 0x4B, 0, RELEASE, 8, TE], 3);
+    for mode in MODES {
+        b.refused(&take(0, 8, mode), 4);
+        b.refused(&take(0, 255, mode), 4);
+    }
     // 3 before 6.
     b.refused(&[0x4C, 0x4B, 0, EXIT_HARD, 1, 0], 3);
     b.refused(&[0x4C, 0x4B, 0, EXIT_SOFT, 0, 2], 3);
@@ -390,9 +416,11 @@ fn refusal_order() {
     b.refused(&release(0, 8), 4);
     // 4 and 3 before 8: the frame is full.
     let full = b.clean(&[take(0, 0, R); 20]);
-    full.refused(&take(0, 8, R), 4);
-    full.refused(&take(0, 0, 3), 3);
-    full.refused(&take(0, 7, E), 8);
+    full.refused(&take(0, 0, 6), 3);
+    for mode in MODES {
+        full.refused(&take(0, 8, mode), 4);
+        full.refused(&take(0, 7, mode), 8);
+    }
     // 6 before 7: exits that are x while holds stand in the frame.
     full.refused(&event(0, EXIT_HARD), 6);
     full.refused(&event(0, EXIT_SOFT), 6);
@@ -411,7 +439,7 @@ fn refusal_order() {
 #[test]
 fn opening() {
     for k in [0, 65, 256, 264, 1 << 32, (1 << 32) + 8, u64::MAX] {
-        let mut desk = vec![0xA5; 600];
+        let mut desk = vec![0xA5; DESK + 22];
         let mut sheet = vec![0xA5; 70 * 70];
         assert_eq!(open(k, &mut desk, &mut sheet), 2);
         assert!(desk.iter().chain(&sheet).all(|&b| b == 0xA5));
@@ -422,6 +450,8 @@ fn opening() {
             (DESK, size, 0),
             (DESK + 3, size + 5, 0),
             (DESK - 1, size, 2),
+            (578, size, 2),
+            (577, size, 2),
             (DESK, size - 1, 2),
             (0, 0, 2),
         ] {
@@ -433,8 +463,8 @@ fn opening() {
                 continue;
             }
             assert_eq!(desk[0], k as u8);
-            assert!(desk[1..DESK].iter().chain(&sheet[..size]).all(|&b| b == 0));
-            assert!(desk[DESK..].iter().chain(&sheet[size..]).all(|&b| b == 0xA5));
+            assert!(desk[1..638].iter().chain(&sheet[..size]).all(|&b| b == 0));
+            assert!(desk[638..].iter().chain(&sheet[size..]).all(|&b| b == 0xA5));
             assert_eq!(unfit(&desk, &sheet, None), None);
         }
     }
@@ -446,11 +476,19 @@ fn bytes_past_the_sizes_stay() {
     let mut sheet = vec![0xA5; sheet_len(3) + 9];
     let mut slip = vec![0xA5; slip_len(3) + 9];
     assert_eq!(open(3, &mut desk, &mut sheet), 0);
+    // The last place of the last frame, whose origin is the highest bit of byte 637.
+    desk[9] = 8;
+    desk[33] = 19;
+    desk[558..577].fill(128);
+    let last = [take(7, 0, TRR), release(7, 0), take(7, 0, TRR)];
+    assert_eq!(last.map(|r| step(&mut desk, &mut sheet, &mut slip, &r)), [0, 0, 0]);
+    assert_eq!(desk[637], 128);
+    assert!(slip.iter().all(|&b| b == 0xA5));
     let answers = p2_records().map(|r| step(&mut desk, &mut sheet, &mut slip, &r));
     assert_eq!(answers, [0, 0, 0, 0, 0, 1]);
     assert_eq!(slip[..7], [2, 1, EN, 0, 2, EN, 0]);
     assert_eq!(desk[1], 1);
-    for tail in [&desk[DESK..], &sheet[9..], &slip[7..]] {
+    for tail in [&desk[638..], &sheet[9..], &slip[7..]] {
         assert!(tail.iter().all(|&b| b == 0xA5));
     }
     assert!(true_circle(&desk, &sheet, &slip));
@@ -483,6 +521,8 @@ fn each_clause_of_unfit() {
             met.push(clause);
         }
     };
+    violate(CLAUSES[0], &|b| b.desk.truncate(637));
+    violate(CLAUSES[0], &|b| b.desk.truncate(578));
     violate(CLAUSES[0], &|b| b.desk.truncate(577));
     violate(CLAUSES[0], &|b| b.desk.clear());
     violate(CLAUSES[1], &|b| b.desk[0] = 0);
@@ -503,33 +543,42 @@ fn each_clause_of_unfit() {
         b.desk[10] = 20;
         b.desk[117] = 63 + 128;
     });
-    violate(CLAUSES[8], &|b| {
-        b.desk[10] = 1;
-        b.desk[98] = 192;
-    });
+    // The origin doesn't excuse a mode of 3.
+    for origin in 0..2 {
+        violate(CLAUSES[8], &|b| {
+            b.desk[10] = 1;
+            b.desk[98] = 192;
+            b.desk[578] = origin;
+        });
+    }
     violate(CLAUSES[9], &|b| b.desk[98] = 1);
     violate(CLAUSES[9], &|b| b.desk[577] = 64);
     violate(CLAUSES[9], &|b| b.desk[98 + 120 + 1] = 7);
+    // Every origin bit where no hold stands: core 2's frames have one hold each.
+    let standing = [6 * 20, 7 * 20, 8 * 20];
+    for place in (0..480).filter(|place| !standing.contains(place)) {
+        violate(CLAUSES[10], &|b| b.desk[578 + place / 8] |= 1 << (place % 8));
+    }
     for state in [0, 1, 2, 3, 6, 7] {
-        violate(CLAUSES[10], &|b| {
+        violate(CLAUSES[11], &|b| {
             b.desk[2] = state;
             b.desk[11] = 1;
         });
     }
     for state in 0..6 {
-        violate(CLAUSES[11], &|b| {
+        violate(CLAUSES[12], &|b| {
             b.desk[9] = state;
             b.desk[33] = 1;
         });
     }
-    violate(CLAUSES[12], &|b| b.desk[34 + 8] = 1);
-    violate(CLAUSES[12], &|b| b.desk[97] = 4);
-    violate(CLAUSES[13], &|b| b.desk[34] = 64);
-    violate(CLAUSES[13], &|b| b.desk[34] = 128);
-    violate(CLAUSES[13], &|b| b.desk[41] = 64 + 8);
-    violate(CLAUSES[13], &|b| b.desk[41] = 128 + 4);
-    violate(CLAUSES[14], &|b| b.sheet[0] = 16);
-    violate(CLAUSES[14], &|b| b.sheet[63] = 255);
+    violate(CLAUSES[13], &|b| b.desk[34 + 8] = 1);
+    violate(CLAUSES[13], &|b| b.desk[97] = 4);
+    violate(CLAUSES[14], &|b| b.desk[34] = 64);
+    violate(CLAUSES[14], &|b| b.desk[34] = 128);
+    violate(CLAUSES[14], &|b| b.desk[41] = 64 + 8);
+    violate(CLAUSES[14], &|b| b.desk[41] = 128 + 4);
+    violate(CLAUSES[15], &|b| b.sheet[0] = 16);
+    violate(CLAUSES[15], &|b| b.sheet[63] = 255);
     assert_eq!(met, CLAUSES);
 
     // And what is still fit.
@@ -539,6 +588,15 @@ fn each_clause_of_unfit() {
         assert_eq!(b.unfit(), None);
     };
     fit(&|b| b.desk[1] = 1);
+    for place in standing {
+        fit(&|b| b.desk[578 + place / 8] |= 1 << (place % 8));
+    }
+    // Frame 0 has bits 0-19: bytes 578, 579 and the low half of 580.
+    fit(&|b| {
+        b.desk[10] = 20;
+        b.desk[578..581].copy_from_slice(&[255, 255, 15]);
+    });
+    fit(&|b| b.desk.push(255));
     fit(&|b| b.desk[34] = 0b1100_1100);
     fit(&|b| b.desk[41] = 255);
     fit(&|b| b.sheet.fill(15));
@@ -625,20 +683,20 @@ fn next_states_follow_the_names() {
 
 #[test]
 fn marks_by_state_and_mode() {
-    // Rows: state; columns: E, r, R.
-    let expected: [[u8; 3]; 9] = [
-        [4 + 64, 8 + 128, 8 + 128],
-        [4, 8, 8],
-        [0, 0, 0],
-        [0, 0, 0],
-        [16 + 4, 16 + 8, 32 + 8],
-        [16, 16, 32],
-        [1, 1, 2],
-        [1, 1, 2],
-        [1, 1, 2],
+    // Rows: state; columns: E, r, R, and tries of them.
+    let expected: [[u8; 6]; 9] = [
+        [4 + 64, 8 + 128, 8 + 128, 4 + 64, 8 + 128, 8 + 128],
+        [4, 8, 8, 4, 8, 8],
+        [0, 0, 0, 0, 0, 0],
+        [0, 0, 0, 0, 0, 0],
+        [16 + 4, 16 + 8, 32 + 8, 4, 8, 8],
+        [16, 16, 32, 0, 0, 0],
+        [1, 1, 2, 0, 0, 0],
+        [1, 1, 2, 0, 0, 0],
+        [1, 1, 2, 0, 0, 0],
     ];
     for state in 0..9u8 {
-        for mode in 0..3u8 {
+        for mode in MODES {
             let mut b = Bench::new(8);
             b.desk[2 + 7] = state;
             assert_eq!(b.step(&take(7, 3, mode)), 0);
@@ -647,7 +705,17 @@ fn marks_by_state_and_mode() {
             assert_eq!(b.desk[MARKS..HOLDS], marks);
             let at = frame(7, state);
             assert_eq!(b.desk[DEPTHS + at], 1);
-            assert_eq!(b.desk[HOLDS + 20 * at], 3 + 64 * mode);
+            assert_eq!(b.desk[HOLDS + 20 * at], 3 + 64 * (mode % 3));
+            assert_eq!(b.origins(), if mode < 3 { vec![] } else { vec![20 * at] });
+            // "then or later": records of the core that leave it in this state add none.
+            let after = b.desk.clone();
+            if let Some(kind) = (2..10).find(|&kind| next_state(state, kind) == Some(state)) {
+                assert_eq!(b.step(&event(7, kind)), 0);
+                assert_eq!(b.desk, after);
+            }
+            assert_eq!([b.step(&take(7, 4, TE)), b.step(&release(7, 4))], [0, 0]);
+            marks[4] = expected[state as usize][3];
+            assert_eq!(b.desk[MARKS..HOLDS], marks);
         }
     }
 }
@@ -939,7 +1007,7 @@ fn false_circles() {
 struct Naive {
     k: u8,
     state: [u8; 8],
-    holds: Vec<Vec<(u8, u8)>>, // by frame: (class, mode)
+    holds: Vec<Vec<(u8, u8)>>, // by frame: (class, mode as in the record)
     arrows: Vec<(u8, u8, u8)>, // hold arrows (from, kind, to)
     marks: Vec<(u8, &'static str)>,
 }
@@ -954,8 +1022,8 @@ impl Naive {
         let at = frame(core, self.state[core as usize]);
         match kind {
             TAKE => {
-                for &(older, older_mode) in &self.holds[at] {
-                    let kind = [[2, 2, 1], [8, 8, 4], [8, 8, 4]][older_mode as usize][mode as usize];
+                for &(older, older_mode) in self.holds[at].iter().filter(|_| mode < 3) {
+                    let kind = [[2, 2, 1], [8, 8, 4], [8, 8, 4]][older_mode as usize % 3][mode as usize];
                     self.arrows.push((older, kind, class));
                 }
                 self.holds[at].push((class, mode));
@@ -968,9 +1036,12 @@ impl Naive {
         }
         let state = self.state[core as usize];
         for &(class, mode) in &self.holds[frame(core, state)] {
-            let safe = ["N", "N", "R"][mode as usize];
-            let unsafe_ = ["E", "S", "S"][mode as usize];
+            let safe = ["N", "N", "R", "", "", ""][mode as usize];
+            let unsafe_ = ["E", "S", "S", "E", "S", "S"][mode as usize];
             let names: Vec<&'static str> = match (state, safe, unsafe_) {
+                (4, "", "E") => vec!["hard E"],
+                (4, "", _) => vec!["hard S"],
+                (5..=8, "", _) => vec![],
                 (0, _, "E") => vec!["hard E", "soft E"],
                 (0, _, _) => vec!["hard S", "soft S"],
                 (1, _, "E") => vec!["hard E"],
@@ -998,10 +1069,17 @@ impl Naive {
             desk.push(bits.map(|i| 1u8 << i).sum());
         }
         for holds in &self.holds {
-            let mut bytes: Vec<u8> = holds.iter().map(|&(c, m)| c + 64 * m).collect();
+            let mut bytes: Vec<u8> = holds.iter().map(|&(c, m)| c + 64 * (m % 3)).collect();
             bytes.resize(20, 0);
             desk.extend(bytes);
         }
+        // The origins of all 480 places in a row, then eight to a byte.
+        let mut origins = Vec::new();
+        for holds in &self.holds {
+            origins.extend(holds.iter().map(|h| u8::from(h.1 >= 3)));
+            origins.resize(origins.len() + 20 - holds.len(), 0);
+        }
+        desk.extend(origins.chunks(8).map(|eight| eight.iter().rev().fold(0, |byte, bit| 2 * byte + bit)));
         let mut sheet = Vec::new();
         for from in 0..self.k {
             for to in 0..self.k {
@@ -1019,7 +1097,7 @@ fn random_record(dice: &mut Dice, k: u64, modes: &[u8]) -> Rec {
         0..=6 => take(core, dice.under(k) as u8, modes[dice.under(modes.len() as u64) as usize]),
         7..=11 => release(core, dice.under(k) as u8),
         12 => {
-            let mut r = take(core, dice.under(k + 2) as u8, dice.under(4) as u8);
+            let mut r = take(core, dice.under(k + 2) as u8, dice.under(7) as u8);
             r[dice.under(6) as usize] ^= 1 << dice.under(8);
             r
         }
@@ -1031,9 +1109,18 @@ fn random_record(dice: &mut Dice, k: u64, modes: &[u8]) -> Rec {
 fn random_logs_byte_by_byte() {
     let mut dice = Dice(0xFEED_BEEF_0BAD_F00D);
     let mut seen = [0u64; 12];
-    for round in 0..3_000u64 {
+    let mut tries_moved = 0;
+    for round in 0..7_000u64 {
         let k = 1 + dice.under(if round % 10 == 0 { 64 } else { 6 });
-        let modes: &[u8] = [&[E, NR, R][..], &[R][..], &[R, R, R, R, R, R, NR][..]][round as usize % 3];
+        let modes: &[u8] = [
+            &[E, NR, R][..],
+            &[R],
+            &[R, R, R, R, R, R, NR],
+            &MODES,
+            &[R, TRR],
+            &[R, R, TE, TR, TRR],
+            &[TE, TR, TRR],
+        ][round as usize % 7];
         let mut b = Bench::new(k as usize);
         let mut naive = Naive::new(k as u8);
         for _ in 0..60 {
@@ -1046,6 +1133,7 @@ fn random_logs_byte_by_byte() {
                 continue;
             }
             naive.accept(&r);
+            tries_moved += u64::from(r[3] == RELEASE && !b.origins().is_empty() && b.origins() != before.origins());
             let (desk, sheet) = naive.lie(answer == 1);
             assert_eq!(b.desk, desk);
             assert_eq!(b.sheet, sheet);
@@ -1059,6 +1147,7 @@ fn random_logs_byte_by_byte() {
             }
         }
     }
+    assert!(tries_moved > 1000, "{tries_moved} releases moved a try");
     for answer in [0, 1, 3, 4, 5, 6, 7] {
         assert!(seen[answer] > 100, "answer {answer} came {} times", seen[answer]);
     }
@@ -1075,9 +1164,9 @@ fn balance_of_holds() {
         let mut balance = vec![[0i64; 64]; 24];
         let mut refusals = [0u64; 12];
         for _ in 0..20_000 {
-            let r = random_record(&mut dice, k, &[R]);
+            let r = random_record(&mut dice, k, &[R, R, TRR]);
             // Only takes by recursive reads, also in records of the spoilt sort.
-            if r[3] == TAKE && r[5] < 2 {
+            if r[3] == TAKE && [E, NR, TE, TR].contains(&r[5]) {
                 continue;
             }
             let at = if r[2] < 8 { frame(r[2], b.desk[STATES + r[2] as usize]) } else { 0 };
@@ -1115,7 +1204,7 @@ fn other_cores_records_never_undo_a_fault() {
         let k = 1 + dice.under(5);
         let (mut short, mut long) = (Bench::new(k as usize), Bench::new(k as usize));
         for _ in 0..40 {
-            let mut r = random_record(&mut dice, k, &[E, NR, R, R, R]);
+            let mut r = random_record(&mut dice, k, &[E, NR, R, R, R, TE, TR, TRR]);
             if read_record(&r).is_some() && dice.under(2) == 0 {
                 r[2] = 5;
                 long.step(&r);
@@ -1132,6 +1221,267 @@ fn other_cores_records_never_undo_a_fault() {
             }
         }
     }
+}
+
+// ---------------------------------------------------------------------- tries
+
+#[test]
+fn sizes() {
+    assert_eq!((STATES, DEPTHS, MARKS, HOLDS, ORIGINS, DESK), (2, 10, 34, 98, 578, 638));
+}
+
+#[test]
+fn a_try_byte_by_byte() {
+    // Core 1's task frame is frame 3, its places 60 to 79: bit 4 of byte 585 is the first.
+    let b = Bench::new(4).clean(&[take(1, 0, E), take(1, 1, TR), take(1, 2, R), take(1, 3, TE), take(1, 3, TRR)]);
+    let mut sheet = vec![0; 16];
+    // To the tries of 1 and 3 nothing, from the try of 1 as from a read.
+    sheet[2] = ER;
+    sheet[4 + 2] = SR;
+    assert_eq!(b.sheet, sheet);
+    let mut desk = vec![0; 638];
+    desk[0] = 4;
+    desk[10 + 3] = 5;
+    desk[34..38].copy_from_slice(&[68, 136, 136, 68 + 136]);
+    desk[98 + 60..98 + 65].copy_from_slice(&[0, 1 + 64, 2 + 128, 3, 3 + 128]);
+    desk[585] = 0b1010_0000;
+    desk[586] = 1;
+    assert_eq!(b.desk, desk);
+    // The oldest goes: 61, 63 and 64 move to 60, 62 and 63, the last out of byte 586.
+    let b = b.clean(&[release(1, 0)]);
+    desk[10 + 3] = 4;
+    desk[98 + 60..98 + 65].copy_from_slice(&[1 + 64, 2 + 128, 3, 3 + 128, 0]);
+    desk[585] = 0b1101_0000;
+    desk[586] = 0;
+    assert_eq!((b.desk, b.sheet), (desk, sheet));
+}
+
+#[test]
+fn only_arrows_to_a_try_go() {
+    for older in MODES {
+        for newer in MODES {
+            let mut b = Bench::new(4);
+            b.desk[2] = 3; // no marks
+            let b = b.clean(&[take(0, 1, older), take(0, 2, newer)]);
+            let kind = match (older % 3 == E, newer % 3 == R) {
+                (true, true) => ER,
+                (true, false) => EN,
+                (false, true) => SR,
+                (false, false) => SN,
+            };
+            let mut sheet = vec![0; 16];
+            sheet[4 + 2] = if newer < 3 { kind } else { 0 };
+            assert_eq!(b.sheet, sheet, "{older} then {newer}");
+            assert_eq!(b.desk[98..100], [1 + 64 * (older % 3), 2 + 64 * (newer % 3)]);
+            assert_eq!(b.desk[578], u8::from(older >= 3) + 2 * u8::from(newer >= 3));
+        }
+    }
+}
+
+#[test]
+fn a_try_on_a_held_class() {
+    // Any hold and then a try is clean; a try and then a wait is as before.
+    for older in MODES {
+        for newer in [TE, TR, TRR] {
+            assert_clean(&[take(0, 1, older), take(0, 1, newer)]);
+        }
+    }
+    for (older, newer, fault) in [
+        (TE, E, true), (TE, NR, true), (TE, R, true),
+        (TR, E, true), (TR, NR, true), (TR, R, false),
+        (TRR, E, true), (TRR, NR, true), (TRR, R, false),
+    ] {
+        let records = [take(0, 1, older), take(0, 1, newer)];
+        if fault {
+            assert_fault(&records);
+        } else {
+            assert_clean(&records);
+        }
+    }
+    assert_eq!(program(&log(8, &[take(0, 1, TE), take(0, 1, E)])), "fault at record 2\n1 EN 1 hold\n");
+    // The lock order turned round by a try is clean, until a wait comes after it.
+    assert_clean(&[take(0, 1, E), take(0, 2, E), take(1, 2, E), take(1, 1, TE)]);
+    assert_fault(&[take(0, 1, E), take(0, 2, E), take(1, 2, TE), take(1, 1, E)]);
+    assert_clean(&[take(0, 1, E), take(0, 2, TE), take(1, 2, E), take(1, 1, E)]);
+    assert_fault(&[take(0, 1, E), take(0, 2, TE), take(0, 3, E), take(1, 3, E), take(1, 2, E)]);
+}
+
+#[test]
+fn the_newest_goes_whatever_its_origin() {
+    // Modes and origins differ, so that each hold of the class is another byte or bit.
+    let b = Bench::new(4).clean(&[take(0, 1, E), take(0, 1, TR), take(0, 2, TE), take(0, 1, TRR), take(0, 3, TE)]);
+    assert_eq!((&b.desk[98..104], b.origins()), (&[1, 65, 2, 129, 3, 0][..], vec![1, 2, 3, 4]));
+    let b = b.clean(&[release(0, 1)]);
+    assert_eq!((&b.desk[98..104], b.origins()), (&[1, 65, 2, 3, 0, 0][..], vec![1, 2, 3]));
+    let b = b.clean(&[release(0, 1)]);
+    assert_eq!((&b.desk[98..104], b.origins()), (&[1, 2, 3, 0, 0, 0][..], vec![1, 2]));
+    let b = b.clean(&[release(0, 1)]);
+    assert_eq!((&b.desk[98..104], b.origins()), (&[2, 3, 0, 0, 0, 0][..], vec![0, 1]));
+    b.refused(&release(0, 1), 5);
+    // A try under a wait of the same class and mode: the wait goes, the try stays.
+    let b = Bench::new(4).clean(&[take(0, 1, TRR), take(0, 1, R), release(0, 1)]);
+    assert_eq!((&b.desk[98..100], b.origins()), (&[129, 0][..], vec![0]));
+    let b = Bench::new(4).clean(&[take(0, 1, R), take(0, 1, TRR), release(0, 1)]);
+    assert_eq!((&b.desk[98..100], b.origins()), (&[129, 0][..], vec![]));
+}
+
+#[test]
+fn a_release_moves_origins_within_its_frame() {
+    // Full task frame of core 0 (places 0 to 19), tries at odd ones, and its neighbour in
+    // byte 580, the soft frame (20 to 39), full of tries; state 5 marks no try.
+    let mut full = Bench::new(32);
+    full.desk[10..12].copy_from_slice(&[20, 20]);
+    for place in 0..20 {
+        full.desk[98 + place] = place as u8;
+        full.desk[118 + place] = place as u8;
+    }
+    full.desk[578..583].copy_from_slice(&[0xAA, 0xAA, 0xFA, 0xFF, 0xFF]);
+    full.desk[2] = 5;
+    assert_eq!(full.unfit(), None);
+    for released in 0..20usize {
+        // In the soft frame: 20 to 38 stay tries, 39 gets 0, the task frame keeps its own.
+        let b = full.clone().clean(&[release(0, released as u8)]);
+        assert_eq!(b.desk[578..584], [0xAA, 0xAA, 0xFA, 0xFF, 0x7F, 0]);
+        assert_eq!(b.desk[11], 19);
+        // In the task frame: state 3, the soft frame empty.
+        let mut task = full.clone();
+        task.desk[2] = 3;
+        task.desk[11] = 0;
+        task.desk[118..138].fill(0);
+        task.desk[580..583].copy_from_slice(&[0x0A, 0, 0]);
+        // The next core's task frame begins in byte 585, where the hard frame ends.
+        task.desk[13] = 20;
+        task.desk[585..588].copy_from_slice(&[0xF0, 0xFF, 0xFF]);
+        let b = task.clone().clean(&[release(0, released as u8)]);
+        let expected: Vec<usize> =
+            (0..20).filter(|p| p % 2 == 1 && *p != released).map(|p| if p > released { p - 1 } else { p }).chain(60..80).collect();
+        assert_eq!(b.origins(), expected, "release of {released}");
+        assert_eq!(b.desk[98 + 19], 0);
+    }
+    // The hard frame of core 0 (40 to 59) next to the task frame of core 1 (60 to 79).
+    let mut hard = Bench::new(32);
+    hard.desk[2] = 6;
+    hard.desk[12] = 20;
+    hard.desk[13] = 1;
+    for place in 40..60 {
+        hard.desk[98 + place] = place as u8 - 40;
+    }
+    hard.desk[583..586].copy_from_slice(&[0xFF, 0xFF, 0x1F]);
+    let b = hard.clean(&[release(0, 0)]);
+    assert_eq!(b.desk[583..586], [0xFF, 0xFF, 0x17]);
+}
+
+#[test]
+fn every_place_has_its_bit() {
+    // A try at each place of each frame sets that bit alone, its release clears it alone.
+    for at in 0..24usize {
+        for depth in 0..20usize {
+            let (core, state) = (at / 3, [3, 5, 6][at % 3]);
+            let mut b = Bench::new(2);
+            b.desk[2 + core] = state;
+            b.desk[10 + at] = depth as u8;
+            b.desk[98 + 20 * at..98 + 20 * at + depth].fill(128);
+            let place = 20 * at + depth;
+            let before = b.desk.clone();
+            assert_eq!(b.step(&take(core as u8, 1, TRR)), 0);
+            let mut after = before.clone();
+            if state > 4 && depth > 0 {
+                after[34] = [32, 2][at % 3 - 1];
+            }
+            let gone = after.clone();
+            after[10 + at] += 1;
+            after[98 + place] = 129;
+            after[578 + place / 8] = 1 << (place % 8);
+            assert_eq!(b.desk, after);
+            assert_eq!(b.step(&release(core as u8, 1)), 0);
+            assert_eq!(b.desk, gone);
+        }
+    }
+}
+
+#[test]
+fn no_safe_mark_then_or_later() {
+    // A try in a handler, then records of the core that mark again.
+    for (enter, nothing_more) in [(ENTER_HARD, 0), (ENTER_SOFT, 4)] {
+        let b = Bench::new(8).clean(&[event(0, enter), take(0, 3, TE)]);
+        assert_eq!(b.desk[34 + 3], nothing_more);
+        let b = b.clean(&[take(0, 4, R), release(0, 4), take(0, 5, TR), release(0, 5)]);
+        assert_eq!(b.desk[34 + 3], nothing_more);
+        assert_eq!(b.origins().len(), 1);
+    }
+    let b = Bench::new(8).clean(&[event(0, ENTER_SOFT), take(0, 3, TRR), event(0, HARD_OFF), event(0, HARD_ON)]);
+    assert_eq!(b.desk[34 + 3], 8);
+    // The handler interrupted and come back to.
+    let b = b.clean(&[event(0, ENTER_HARD), take(0, 2, TE), release(0, 2), event(0, EXIT_HARD)]);
+    assert_eq!(b.desk[34..42], [0, 0, 0, 8, 0, 0, 0, 0]);
+    // On a desk that didn't come from opening, the bit decides alone.
+    let mut b = Bench::new(8);
+    b.desk[2] = 6;
+    b.desk[12] = 2;
+    b.desk[98 + 40..98 + 42].copy_from_slice(&[6, 7]);
+    b.desk[583] = 2;
+    let b = b.clean(&[take(0, 5, TE)]);
+    assert_eq!(b.desk[34..42], [0, 0, 0, 0, 0, 0, 1, 0]);
+    // No hard-safe mark, so no fault with a task that holds the class.
+    assert_clean(&[take(0, 3, E), release(0, 3), event(0, ENTER_HARD), take(0, 3, TE), release(0, 3)]);
+    assert_clean(&[take(0, 6, E), release(0, 6), event(0, ENTER_SOFT), take(0, 6, TE), event(0, HARD_OFF)]);
+}
+
+#[test]
+fn unsafe_marks_of_a_try_stay() {
+    // Held over a hard on and a soft on.
+    let b = Bench::new(8).clean(&[event(0, SOFT_OFF), event(0, HARD_OFF), take(0, 3, TE), take(0, 4, TR)]);
+    assert_eq!(b.desk[34..42], [0; 8]);
+    let b = b.clean(&[event(0, HARD_ON)]);
+    assert_eq!(b.desk[37..39], [4, 8]);
+    let b = b.clean(&[event(0, SOFT_ON)]);
+    assert_eq!(b.desk[37..39], [68, 136]);
+    assert_fault(&[event(0, HARD_OFF), take(0, 3, TE), event(1, ENTER_HARD), take(1, 3, E), event(0, HARD_ON)]);
+    assert_fault(&[take(0, 3, TE), release(0, 3), event(0, ENTER_HARD), take(0, 3, E)]);
+    assert_fault(&[event(0, ENTER_SOFT), take(0, 3, TE), event(1, ENTER_HARD), take(1, 3, R)]);
+    // In a soft handler with hard off no mark, with hard on hard-unsafe alone.
+    let b = Bench::new(8).clean(&[event(0, ENTER_SOFT), event(0, HARD_OFF), take(0, 3, TR)]);
+    assert_eq!(b.desk[37], 0);
+    assert_eq!(b.clean(&[event(0, HARD_ON)]).desk[37], 8);
+}
+
+#[test]
+fn marks_are_by_class_and_origin_by_hold() {
+    // In a hard handler: a try and a wait of one class, in both orders, and other modes.
+    for (first, second, mark) in
+        [(R, TE, 2), (R, TRR, 2), (NR, TE, 1), (E, TRR, 1), (TRR, R, 2), (TR, R, 2)]
+    {
+        let b = Bench::new(8).clean(&[event(0, ENTER_HARD), take(0, 3, first)]);
+        let alone = if first < 3 { mark } else { 0 };
+        assert_eq!(b.desk[37], alone);
+        let b = b.clean(&[take(0, 3, second)]);
+        assert_eq!(b.desk[37], mark, "{first} and {second}");
+        assert_eq!(b.origins(), [if first < 3 { 41 } else { 40 }]);
+    }
+    // The wait is in another frame, or on another core: the try has no part in it.
+    let b = Bench::new(8).clean(&[event(0, ENTER_SOFT), take(0, 3, R), event(0, ENTER_HARD), take(0, 3, TRR)]);
+    assert_eq!(b.desk[37], 32 + 8);
+    let b = Bench::new(8).clean(&[event(0, HARD_OFF), take(0, 3, E), event(1, ENTER_HARD), take(1, 3, TE)]);
+    assert_eq!(b.desk[37], 0);
+}
+
+#[test]
+fn tries_at_full_depth() {
+    let mut records = vec![take(0, 0, TE); 20];
+    let b = Bench::new(8).clean(&records);
+    assert_eq!(b.desk[578..581], [255, 255, 15]);
+    assert!(b.sheet.iter().all(|&x| x == 0));
+    records.push(take(0, 0, TE));
+    assert_eq!(judge(8, &records), (21, 8));
+    records[20] = take(0, 0, 6);
+    assert_eq!(judge(8, &records), (21, 3));
+    records[20] = take(0, 8, TE);
+    assert_eq!(judge(8, &records), (21, 4));
+    // Exits with a try standing, releases of what a try doesn't hold here.
+    assert_eq!(judge(8, &[event(0, ENTER_HARD), take(0, 0, TE), event(0, EXIT_HARD)]), (3, 7));
+    assert_eq!(judge(8, &[take(0, 0, TE), event(0, ENTER_HARD), release(0, 0)]), (3, 5));
+    assert_eq!(judge(8, &[take(0, 0, TE), [0x4C, 0x4B, 0, RELEASE, 0, TE]]), (2, 3));
+    assert_eq!(judge(8, &[take(0, 0, TE), release(0, 0), release(0, 0)]), (3, 5));
 }
 
 // ----------------------------------------------------------------------- time

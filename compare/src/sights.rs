@@ -1,0 +1,287 @@
+//! Sights: calls of such a sort that a wrong version of some rule would show there. A run must have met each of them.
+
+use crate::drawing::FRAME;
+use crate::run::Call;
+use reference::{CLAUSES, DEEPEST, DEPTHS, DESK, FRAMES, HOLDS, MARKS, ORIGINS, STATES};
+use std::ops::{Range, RangeInclusive};
+
+/// The clause of "Unfit" about origins.
+pub const ORIGIN: &str = "origin where no hold stands";
+
+/// A call with the desk before and after it.
+pub struct Look<'a> {
+    pub call: &'a Call,
+    pub before: &'a [u8],
+    pub after: &'a [u8],
+    pub answer: u8,
+    /// With answer 11: the first clause of "Unfit" that is violated.
+    pub clause: Option<&'static str>,
+}
+
+fn is_try(desk: &[u8], frame: usize, place: usize) -> bool {
+    let bit = DEEPEST * frame + place;
+    desk[ORIGINS + bit / 8] >> (bit % 8) & 1 == 1
+}
+
+fn depth(desk: &[u8], frame: usize) -> usize {
+    usize::from(desk[DEPTHS + frame])
+}
+
+fn hold(desk: &[u8], frame: usize, place: usize) -> u8 {
+    desk[HOLDS + DEEPEST * frame + place]
+}
+
+fn tries(desk: &[u8], frame: usize) -> impl DoubleEndedIterator<Item = usize> + '_ {
+    (0..depth(desk, frame)).filter(move |&place| is_try(desk, frame, place))
+}
+
+fn waits(desk: &[u8], frame: usize) -> impl DoubleEndedIterator<Item = usize> + '_ {
+    (0..depth(desk, frame)).filter(move |&place| !is_try(desk, frame, place))
+}
+
+fn has_origins(desk: &[u8]) -> bool {
+    desk.len() >= DESK && desk[ORIGINS..DESK].iter().any(|&b| b != 0)
+}
+
+const TRIES: RangeInclusive<u8> = 3..=5;
+
+impl Look<'_> {
+    /// Core, kind, class and mode of a record of six bytes with the right signature.
+    fn record(&self) -> Option<(u8, u8, u8, u8)> {
+        let Call::Step(record) = self.call else { return None };
+        let &[0x4C, 0x4B, core @ 0..=7, kind @ 0..=9, class, mode] = record.slice() else { return None };
+        Some((core, kind, class, mode))
+    }
+    /// The same if it was accepted, and has this kind.
+    fn accepted(&self, wanted: u8) -> Option<(u8, u8)> {
+        self.record().filter(|r| self.answer < 2 && r.1 == wanted).map(|(_, _, class, mode)| (class, mode))
+    }
+    fn core(&self) -> usize {
+        self.record().map_or(0, |r| usize::from(r.0))
+    }
+    /// The core's state and frame before an accepted record.
+    fn state(&self) -> u8 {
+        self.before[STATES + self.core()]
+    }
+    fn frame(&self) -> usize {
+        3 * self.core() + FRAME[usize::from(self.state())]
+    }
+    fn state_after(&self) -> u8 {
+        self.after[STATES + self.core()]
+    }
+    fn frame_after(&self) -> usize {
+        3 * self.core() + FRAME[usize::from(self.state_after())]
+    }
+    fn tries_mode(&self, mode: u8) -> bool {
+        self.accepted(0).is_some_and(|r| r.1 == mode)
+    }
+    fn tries(&self) -> bool {
+        self.accepted(0).is_some_and(|r| TRIES.contains(&r.1))
+    }
+    fn tries_in(&self, state: u8) -> bool {
+        self.tries() && self.state() == state
+    }
+    fn waits(&self) -> bool {
+        self.accepted(0).is_some_and(|r| r.1 < 3)
+    }
+    /// The place of the held lock that an accepted release removes.
+    fn released(&self) -> Option<usize> {
+        let (class, _) = self.accepted(1)?;
+        (0..depth(self.before, self.frame())).rev().find(|&p| hold(self.before, self.frame(), p) % 64 == class)
+    }
+    /// The same, where this holds of the desk before, the frame and the place.
+    fn release(&self, such: impl Fn(&[u8], usize, usize) -> bool) -> bool {
+        self.released().is_some_and(|place| such(self.before, self.frame(), place))
+    }
+    /// A record after which a try stands that stood before, in a handler, on a class that lacks the safe mark which it
+    /// would get if it had waited.
+    fn passes_over(&self, states: &[u8]) -> bool {
+        let Some((_, kind, ..)) = self.record().filter(|_| self.answer < 2) else { return false };
+        let (state, frame, desk) = (self.state_after(), self.frame_after(), self.after);
+        let old = depth(desk, frame) - usize::from(kind == 0);
+        let unmarked = |place: usize| {
+            let lock = hold(desk, frame, place);
+            let safe = (if lock / 64 == 2 { 2 } else { 1 }) << if state < 6 { 4 } else { 0 };
+            desk[MARKS + usize::from(lock % 64)] & safe == 0
+        };
+        states.contains(&state) && tries(desk, frame).any(|place| place < old && unmarked(place))
+    }
+    /// An acquire in a handler after which its class is held by a try and by a wait for which this holds.
+    fn both_ways(&self, such: impl Fn(u8, u8) -> bool) -> bool {
+        let Some((class, _)) = self.accepted(0).filter(|_| self.state() > 3) else { return false };
+        let (desk, frame) = (self.after, self.frame());
+        let of_class = |&place: &usize| hold(desk, frame, place) % 64 == class;
+        tries(desk, frame).filter(of_class).any(|t| {
+            waits(desk, frame).filter(of_class).any(|w| such(hold(desk, frame, t) / 64, hold(desk, frame, w) / 64))
+        })
+    }
+    fn clause(&self, name: &str) -> bool {
+        self.answer == 11 && self.clause == Some(name)
+    }
+    /// Refused for nothing but an origin, and this holds of the frame and of a place past its depth with one.
+    fn origin(&self, such: impl Fn(usize, usize) -> bool) -> bool {
+        let desk = self.before;
+        self.clause(ORIGIN)
+            && (0..FRAMES).any(|f| (depth(desk, f)..DEEPEST).any(|p| is_try(desk, f, p) && such(f, p)))
+    }
+    /// Refused for nothing but the desk's length.
+    fn short(&self, lens: Range<usize>) -> bool {
+        let whole = || {
+            let mut desk = self.before.to_vec();
+            desk.resize(DESK, 0);
+            desk
+        };
+        let fit = |desk: &[u8]| reference::unfit(desk, &[0; 64 * 64], None).is_none();
+        self.clause(CLAUSES[0]) && lens.contains(&self.before.len()) && fit(&whole())
+    }
+    /// An opening refused with a good K and a desk of such a length.
+    fn opens(&self, lens: Range<usize>) -> bool {
+        matches!(self.call, Call::Open(1..=64)) && self.answer == 2 && lens.contains(&self.before.len())
+    }
+    fn refused(&self, answer: u8, such: impl Fn(u8, u8, u8) -> bool) -> bool {
+        self.answer == answer && self.record().is_some_and(|(_, kind, class, mode)| such(kind, class, mode))
+    }
+    fn classes(&self) -> u8 {
+        self.before[0]
+    }
+}
+
+pub struct Sight {
+    pub name: &'static str,
+    /// The least number in 100,000 random cases.
+    pub least: u64,
+    pub met: fn(&Look) -> bool,
+}
+
+const fn sight(name: &'static str, least: u64, met: fn(&Look) -> bool) -> Sight {
+    Sight { name, least, met }
+}
+
+pub const SIGHTS: &[Sight] = &[
+    // Acquires.
+    sight("try of an exclusive lock", 27_000, |l| l.tries_mode(3)),
+    sight("try of a read", 16_000, |l| l.tries_mode(4)),
+    sight("try of a recursive read", 32_000, |l| l.tries_mode(5)),
+    sight("try over a held lock that waited", 19_000, |l| l.tries() && waits(l.before, l.frame()).next().is_some()),
+    sight("try over a try", 50_000, |l| l.tries() && tries(l.before, l.frame()).next().is_some()),
+    sight("acquire over a try", 15_000, |l| l.waits() && tries(l.before, l.frame()).next().is_some()),
+    sight("acquire over an exclusive try", 4900, |l| {
+        l.waits() && tries(l.before, l.frame()).any(|p| hold(l.before, l.frame(), p) < 64)
+    }),
+    // Usage marks.
+    sight("try in a task, marked", 36_000, |l| l.tries() && l.state() < 2),
+    sight("exclusive try marked unsafe", 16_000, |l| l.tries_mode(3) && [0, 1, 4].contains(&l.state())),
+    sight("try in state 4", 9000, |l| l.tries_in(4)),
+    sight("try in state 5", 3900, |l| l.tries_in(5)),
+    sight("try in state 6", 7100, |l| l.tries_in(6)),
+    sight("try in state 7", 2600, |l| l.tries_in(7)),
+    sight("try in state 8", 4100, |l| l.tries_in(8)),
+    sight("try held over a hard on", 2900, |l| {
+        l.accepted(2).is_some() && [2, 3, 5].contains(&l.state()) && tries(l.before, l.frame()).next().is_some()
+    }),
+    sight("try held over a soft on", 850, |l| {
+        l.accepted(4).is_some() && l.state() == 1 && tries(l.before, l.frame()).next().is_some()
+    }),
+    sight("event over a held try", 24_000, |l| {
+        l.record().is_some_and(|r| l.answer < 2 && r.1 > 1) && tries(l.after, l.frame_after()).next().is_some()
+    }),
+    sight("record after a try in a soft handler", 18_000, |l| l.passes_over(&[4, 5])),
+    sight("record after a try in a hard handler", 18_000, |l| l.passes_over(&[6, 7, 8])),
+    sight("event after a try in a handler", 4800, |l| {
+        l.record().is_some_and(|r| r.1 > 1) && l.passes_over(&[4, 5, 6, 7, 8])
+    }),
+    sight("try and wait of one class in a handler", 3500, |l| l.both_ways(|_, _| true)),
+    sight("try and wait of one class and one letter in a handler", 3100, |l| {
+        l.both_ways(|t, w| (t == 2) == (w == 2))
+    }),
+    sight("try and wait of one class and two letters in a handler", 680, |l| {
+        l.both_ways(|t, w| (t == 2) != (w == 2))
+    }),
+    // Releases.
+    sight("release of a try", 56_000, |l| l.release(is_try)),
+    sight("release below a try", 28_000, |l| l.release(|desk, f, p| tries(desk, f).any(|t| t > p))),
+    sight("release between a try and a wait above it", 15_000, |l| {
+        l.release(|desk, f, p| (p..depth(desk, f) - 1).any(|q| is_try(desk, f, q) != is_try(desk, f, q + 1)))
+    }),
+    sight("release that moves an origin to the byte before", 7200, |l| {
+        l.release(|desk, f, p| tries(desk, f).any(|t| t > p && (DEEPEST * f + t) % 8 == 0))
+    }),
+    sight("release with a try on top", 56_000, |l| l.release(|desk, f, _| is_try(desk, f, depth(desk, f) - 1))),
+    sight("release in a full frame, a try first in the next", 390, |l| {
+        l.release(|desk, f, _| depth(desk, f) == DEEPEST && f + 1 < FRAMES && is_try(desk, f + 1, 0))
+    }),
+    sight("release in a frame not full, a try first in the next", 4000, |l| {
+        l.release(|desk, f, _| depth(desk, f) < DEEPEST && f + 1 < FRAMES && is_try(desk, f + 1, 0))
+    }),
+    sight("release with a try in a later frame", 49_000, |l| {
+        l.release(|desk, f, _| (f + 1..FRAMES).any(|g| tries(desk, g).next().is_some()))
+    }),
+    sight("release of a try over a wait of its class", 5300, |l| {
+        l.release(|desk, f, p| {
+            is_try(desk, f, p) && waits(desk, f).any(|w| hold(desk, f, w) % 64 == hold(desk, f, p) % 64)
+        })
+    }),
+    sight("release of a wait over a try of its class", 3400, |l| {
+        l.release(|desk, f, p| {
+            !is_try(desk, f, p) && tries(desk, f).any(|t| hold(desk, f, t) % 64 == hold(desk, f, p) % 64)
+        })
+    }),
+    sight("release where the class is held in two modes", 16_000, |l| {
+        l.release(|desk, f, p| {
+            let lock = hold(desk, f, p);
+            (0..p).any(|q| hold(desk, f, q) % 64 == lock % 64 && hold(desk, f, q) != lock)
+        })
+    }),
+    // Refusals.
+    sight("try in a full frame", 2900, |l| l.refused(8, |_, _, mode| TRIES.contains(&mode))),
+    sight("try of class K or more", 640, |l| l.refused(4, |_, _, mode| TRIES.contains(&mode))),
+    sight("acquire with mode 6", 200, |l| l.refused(3, |kind, class, mode| kind == 0 && mode == 6 && class < l.classes())),
+    sight("acquire with a mode over 6", 310, |l| l.refused(3, |kind, _, mode| kind == 0 && mode > 6)),
+    sight("acquire with mode 6 and class K or more", 320, |l| {
+        l.refused(3, |kind, class, mode| kind == 0 && mode == 6 && class >= l.classes())
+    }),
+    sight("release with a try's mode", 110, |l| l.refused(3, |kind, _, mode| kind == 1 && TRIES.contains(&mode))),
+    sight("event with a try's mode", 100, |l| {
+        l.refused(3, |kind, class, mode| kind > 1 && class == 0 && TRIES.contains(&mode))
+    }),
+    // The fit test.
+    sight("call on a fit desk with a try", 300_000, |l| l.answer < 10 && has_origins(l.before)),
+    sight("origin right past the depth", 750, |l| l.origin(|f, p| p == depth(l.before, f))),
+    sight("origin in an empty frame", 1900, |l| l.origin(|f, _| depth(l.before, f) == 0)),
+    sight("origin in a byte of two frames", 480, |l| {
+        l.origin(|f, p| {
+            let byte = (DEEPEST * f + p) / 8;
+            byte != DEEPEST * f / 8 && byte == DEEPEST * (f + 1) / 8
+        })
+    }),
+    sight("origin at the last place of the last frame", 660, |l| l.origin(|f, p| (f, p) == (FRAMES - 1, DEEPEST - 1))),
+    sight("hold byte of 192 or more with an origin", 960, |l| {
+        let mut places = (0..FRAMES).flat_map(|f| (0..depth(l.before, f)).map(move |p| (f, p)));
+        l.clause("hold mode 3") && places.any(|(f, p)| hold(l.before, f, p) > 191 && is_try(l.before, f, p))
+    }),
+    sight("call on a desk a byte short of the origins", 340, |l| l.short(ORIGINS - 1..ORIGINS)),
+    sight("call on a desk without the origins", 320, |l| l.short(ORIGINS..ORIGINS + 1)),
+    sight("call on a desk with part of the origins", 850, |l| l.short(ORIGINS + 1..DESK)),
+    sight("call on a desk a byte short", 490, |l| l.short(DESK - 1..DESK)),
+    sight("call on a desk a byte longer", 21_000, |l| l.answer < 10 && l.before.len() == DESK + 1),
+    // Opening.
+    sight("opening of a desk a byte short of the origins", 98, |l| l.opens(ORIGINS - 1..ORIGINS)),
+    sight("opening of a desk without the origins", 100, |l| l.opens(ORIGINS..ORIGINS + 1)),
+    sight("opening of a desk with part of the origins", 230, |l| l.opens(ORIGINS + 1..DESK)),
+    sight("opening of a desk a byte short", 130, |l| l.opens(DESK - 1..DESK)),
+    sight("opening of a desk a byte longer", 280, |l| {
+        matches!(l.call, Call::Open(_)) && l.answer == 0 && l.before.len() == DESK + 1
+    }),
+    sight("opening over origins", 4400, |l| matches!(l.call, Call::Open(_)) && l.answer == 0 && has_origins(l.before)),
+];
+
+/// The sights that a call is, bit by bit.
+pub fn of(look: &Look) -> u64 {
+    const { assert!(SIGHTS.len() <= 64) };
+    SIGHTS.iter().enumerate().fold(0, |met, (i, sight)| met | u64::from((sight.met)(look)) << i)
+}
+
+/// The bit of a sight by name.
+pub fn named(name: &str) -> usize {
+    SIGHTS.iter().position(|s| s.name == name).unwrap_or_else(|| panic!("no sight is named {name}"))
+}
