@@ -1,9 +1,9 @@
 -- The fit test and the rules: fit buffers encode a valid state, and buffers that encode a valid state are fit. Assumes nothing.
 use mathlib.Core.Path.{_≡_, refl, sym, ap, ap₂, _∙_, subst, subst₂, fun-ext}
 use mathlib.Core.Bool.{Bool, true, false, cond, _&&_, true≢false}
-use mathlib.Core.List.{List, [], _∷_, map}
+use mathlib.Core.List.{List, [], map}
 use Prim.Native.Nat.{ℕ, zero, suc, _+_, _*_, _/_, _%_, _^_, _≤_, _<_}
-use native.Mathlib.Nat.{not-suc-le-zero, le-of-suc-le-suc, zero-div}
+use native.Mathlib.Nat.{not-suc-le-zero, zero-div}
 use native.Mathlib.Decide.{decLt}
 use native.Mathlib.Omega.{arith}
 use lib.Dec.{ltb, eqb}
@@ -14,9 +14,9 @@ use Rattle.words.specs.Bits.{bit, flag}
 use Rattle.words.specs.Pack.{pack}
 use Rattle.words.proofs.Words.{bit-shift}
 use Rattle.words.proofs.Packs.{flag-back, flag-le, pack-lt, pack-ext, pack-bits}
-use Rattle.rules.specs.Limits.{coreCount, maxClasses, maxDepth, heldModes, modeCount}
+use Rattle.rules.specs.Limits.{coreCount, maxClasses, maxDepth, heldModes}
 use Rattle.rules.specs.Context.{CoreState, Frame, soft, hard}
-use Rattle.rules.specs.HeldLocks.{First, E, S, HeldLock, isTry, heldAs, Core, freshCore}
+use Rattle.rules.specs.HeldLocks.{First, E, S, HeldLock, heldAs, Core, freshCore}
 use Rattle.rules.specs.Marks.{Marks, Level, hardIrq, softIrq, Usage, unsafe, markBit}
 use Rattle.rules.specs.Graph.{Kind, kindBit, Dependencies, Graph}
 use Rattle.rules.specs.Decision.{tabulate}
@@ -25,6 +25,7 @@ use Rattle.rules.proofs.Booleans.{and-cases, and-both}
 use Rattle.rules.proofs.Closure.{length-tabulate, getD-tabulate}
 use Rattle.layout.proofs.Flags.{markFlags, kindFlags, mark-packed, kind-packed, mark-digit, kind-digit}
 use Rattle.layout.proofs.Buffers.{cell-inside}
+use Rattle.layout.proofs.Held.{mode-back, value-at}
 use Rattle.layout.specs.Layout.{framesPerCore, frameCount, marksAt, originsAt, originBits, deskSize, sheetSize, frameNumber, classesOf, closedOf, depthOf, markOf, heldOf, originBit, originOf, kindsOf, AreBytes}
 use Rattle.layout.specs.Encoding.{markByte, kindByte, heldByte, heldByteAt, heldOrigin, originAt, DeskBytes, SheetBytes, Encodes}
 use Rattle.layout.specs.Fit.{fits}
@@ -235,19 +236,6 @@ flag-mono false b h = omega arith
 not-true-false : (b : Bool) → (b ≡ true → ⊥) → b ≡ false
 not-true-false true h = absurd (h refl)
 not-true-false false h = refl
-
-value-at : (say : HeldLock → ℕ) (hs : List HeldLock) (p : ℕ) (d : HeldLock) → p < length hs → getD (map say hs) p 0 ≡ say (getD hs p d)
-value-at say [] p d l = absurd (not-suc-le-zero l)
-value-at say (h ∷ hs) zero d l = refl
-value-at say (h ∷ hs) (suc p) d l = value-at say hs p d (le-of-suc-le-suc l)
-
--- A mode below modeCount, from that in which the lock is held and its origin.
-mode-back : (mode : ℕ) → mode < modeCount → heldAs mode + heldModes * flag (isTry mode) ≡ mode
-mode-back mode l =
-    elim (decLt mode heldModes) [
-      | yes h ↦ rw (lt-leb heldModes mode h) (omega arith)
-      | no h ↦ rw (le-leb heldModes mode (omega arith)) (omega arith)
-    ]
 
 module _ (desk sheet : List ℕ) (some : 1 ≤ classesOf desk) (few : classesOf desk ≤ maxClasses)
     (s : State) (v : Valid (classesOf desk) s) (e : Encodes (classesOf desk) s desk sheet) where

@@ -1,9 +1,8 @@
 -- The origin bits, tested byte by byte. Assumes nothing.
-use mathlib.Core.Path.{_≡_, refl, sym, ap, _∙_, subst}
+use mathlib.Core.Path.{_≡_, refl, sym, subst}
 use mathlib.Core.Bool.{Bool, true, false}
 use mathlib.Core.List.{List}
-use Prim.Native.Nat.{ℕ, _+_, _*_, _/_, _%_, _^_, _<_}
-use native.Mathlib.Nat.{zero-div}
+use Prim.Native.Nat.{ℕ, _+_, _*_, _/_, _%_}
 use native.Mathlib.Omega.{arith}
 use lib.Dec.{ltb}
 use lib.ListN.{getD}
@@ -11,6 +10,7 @@ use borrow.Author.Tests.{eqb-true, eq-eqb, ne-eqb}
 use Rattle.rules.specs.Limits.{maxDepth}
 use Rattle.layout.specs.Layout.{originsAt, originBits, originBytes, depthOf, originBit}
 use Rattle.layout.specs.Fit.{allBelow, originFits}
+use Rattle.layout.proofs.Held.{zero-bit}
 use Rattle.fit.specs.Empty.{noTryIn, byteFits}
 use Rattle.fit.proofs.AllBelow.{all-at, all-of}
 
@@ -25,7 +25,7 @@ module _ (desk : List ℕ) where
 
   -- The bits of a byte that is 0.
   zero-fits : (i : ℕ) → getD desk (originsAt + i / 8) 0 ≡ 0 → originFits desk i ≡ true
-  zero-fits i e = sym (origin-none i (ap (λ (x : ℕ). x / 2 ^ (i % 8) % 2) e ∙ rw (zero-div (2 ^ (i % 8))) refl))
+  zero-fits i e = sym (origin-none i (zero-bit desk i e))
 
   pub byte-none : (b : ℕ) → getD desk (originsAt + b) 0 ≡ 0 → true ≡ byteFits desk b
   unfolding byteFits

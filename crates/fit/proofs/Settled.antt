@@ -36,8 +36,8 @@ same-byte w v l h e =
 
 module _ (K : ℕ) (is-closed : Bool) (cores : ℕ → Core) (marks : Marks) (x y : List ℕ)
     (a : DeskBytes K is-closed cores marks x) (b : DeskBytes K is-closed cores marks y) where
-  same-bits : (k : ℕ) → k < originBits → originBit x k ≡ originBit y k
-  same-bits = by-origin (λ k. originBit x k ≡ originBit y k) (λ i f p l h q. a .origins i f p l h q ∙ sym (b .origins i f p l h q))
+  same-origins : (k : ℕ) → k < originBits → originBit x k ≡ originBit y k
+  same-origins = by-origin (λ k. originBit x k ≡ originBit y k) (λ i f p l h q. a .origins i f p l h q ∙ sym (b .origins i f p l h q))
 
   same-places : AtPlaces (λ j. getD x j 0 ≡ getD y j 0)
   same-places =
@@ -53,7 +53,7 @@ module _ (K : ℕ) (is-closed : Bool) (cores : ℕ → Core) (marks : Marks) (x 
             (λ t h.
             let e : (8 * k + t) / 8 ≡ k = omega arith in
             let m : (8 * k + t) % 8 ≡ t = omega arith in
-            rw (e, m) at (same-bits (8 * k + t) (omega arith)));
+            rw (e, m) at (same-origins (8 * k + t) (omega arith)));
       }
 
   pub settled-desk : length x ≡ length y → ((j : ℕ) → deskSize ≤ j → getD x j 0 ≡ getD y j 0) → x ≡ y

@@ -1,2 +1,3 @@
 pub mod Flags
 pub mod Buffers
+pub mod Held

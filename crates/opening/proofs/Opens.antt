@@ -1,9 +1,8 @@
 -- What opening leaves encodes the state in which every run starts, and no byte past the stated sizes is changed. Assumes nothing.
-use mathlib.Core.Path.{_≡_, refl, ap, _∙_}
+use mathlib.Core.Path.{_≡_, _∙_}
 use mathlib.Core.Bool.{true}
 use mathlib.Core.List.{List}
-use Prim.Native.Nat.{ℕ, _+_, _-_, _*_, _/_, _%_, _^_, _≤_, _<_}
-use native.Mathlib.Nat.{zero-div}
+use Prim.Native.Nat.{ℕ, _+_, _-_, _*_, _/_, _≤_, _<_}
 use native.Mathlib.Omega.{arith}
 use lib.Dec.{leb}
 use lib.ListN.{length, getD, drop, replicate, length-append, length-drop, length-replicate, length-set, getD-replicate, List·getD-append}
@@ -13,6 +12,7 @@ use Rattle.rules.specs.Limits.{maxDepth}
 use Rattle.rules.specs.Run.{start}
 use Rattle.rules.proofs.Booleans.{and-cases}
 use Rattle.layout.proofs.Buffers.{cell-inside}
+use Rattle.layout.proofs.Held.{zero-bit}
 use Rattle.layout.specs.Layout.{classesAt, closedAt, statesAt, depthsAt, marksAt, heldAt, originsAt, deskSize, sheetSize, frameNumber, KeepsPast}
 use Rattle.layout.specs.Encoding.{markByte, kindByte, DeskBytes, SheetBytes, Encodes}
 use Rattle.layout.specs.Fit.{classesFit}
@@ -61,7 +61,7 @@ module _ (K : ℕ) (desk : List ℕ) (long : deskSize ≤ length desk) where
         held = λ i f p l h q. desk-below (heldAt + maxDepth * frameNumber i f + p) (omega arith) (omega arith);
         origins = λ i f p l h q.
             let k = maxDepth * frameNumber i f + p in
-            ap (λ (x : ℕ). x / 2 ^ (k % 8) % 2) (desk-below (originsAt + k / 8) (omega arith) (omega arith)) ∙ rw (zero-div (2 ^ (k % 8))) refl;
+            zero-bit (openedDesk K desk) k (desk-below (originsAt + k / 8) (omega arith) (omega arith));
         eight = λ b l. rw (desk-below (originsAt + b) (omega arith) (omega arith)) (omega arith);
       }
 

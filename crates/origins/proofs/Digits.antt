@@ -12,7 +12,7 @@ use lib.Pow.{shl-exact, pow-lt}
 use lib.Seq.{getD-set-same, getD-set-other}
 use Rattle.words.specs.Bits.{bit}
 use Rattle.words.proofs.Words.{bit-shift, bit-two, bit-cases, bit-or, bit-and, bit-not, bit-zero, bit-one, bit-other}
-use Rattle.layout.specs.Layout.{originsAt, originBits, deskSize, originBit}
+use Rattle.layout.specs.Layout.{originsAt, originBits, deskSize}
 use Rattle.origins.specs.Origins.{DigitPut, OriginPut}
 
 module _ (j : ℕ) (l : j < 8) where

@@ -1,4 +1,4 @@
--- The table of examples holds of the rules, and the cycle that document 01 prints for P2 is one. Both by computation. Assumes nothing.
+-- The tables of examples hold of the rules, and the cycle that document 01 prints for P2 is one. Both by computation. Assumes nothing.
 use mathlib.Core.Path.{_≡_, refl}
 use mathlib.Core.Bool.{true, false}
 use mathlib.Core.List.{[], _∷_, map}
@@ -12,11 +12,15 @@ use Rattle.rules.specs.Graph.{dependency}
 use Rattle.rules.specs.KindNames.{EN}
 use Rattle.rules.specs.Cycle.{Cycle}
 use Rattle.rules.specs.Run.{start, answers, run, graphAt}
-use Rattle.rules.specs.Examples.{exclusive, read, recursive, tryExclusive, lockOf, DrawnCase, drawnCase, drawnCases, MarkCase, markCase, markCases, Example, p2Cycle, table, example, p2, p6, allClean, endsWith, faultAt, takes, frees, does, says}
+use Rattle.rules.specs.Examples.{exclusive, read, recursive, tryExclusive, lockOf, DrawnCase, drawnCase, drawnCases, MarkCase, markCase, markCases, Example, p2Cycle, table, tries, example, p2, p6, allClean, endsWith, faultAt, takes, frees, does, says}
 
 pub table-holds : map (λ (e : Example). answers 8 start (e .log)) table ≡ map (λ (e : Example). e .given) table
 unfolding table example p2 p6 allClean endsWith faultAt takes frees does says isMalformed refusal dependency cyclic
 table-holds = refl
+
+pub tries-hold : map (λ (e : Example). answers 4 start (e .log)) tries ≡ map (λ (e : Example). e .given) tries
+unfolding tries example allClean endsWith faultAt takes frees does says isMalformed refusal dependency cyclic
+tries-hold = refl
 
 of-two : (P : ℕ → Type 0) → P 0 → P 1 → (i : ℕ) → i < 2 → P i
 of-two P a b zero l = a
@@ -41,11 +45,11 @@ p2-cycle =
     }
 
 -- Rules that show in no answer, or in few: no dependency crosses frames, a try is marked unsafe and not safe, a release takes the newest.
-pub draws : map (λ (e : DrawnCase). run 8 start (e .log) .graph .locks (e .from) (e .to) EN) drawnCases ≡ map (λ (e : DrawnCase). e .drawn) drawnCases
+pub draws : map (λ (e : DrawnCase). run 5 start (e .log) .graph .locks (e .from) (e .to) EN) drawnCases ≡ map (λ (e : DrawnCase). e .drawn) drawnCases
 unfolding drawnCases drawnCase takes does says isMalformed refusal dependency cyclic
 draws = refl
 
-pub marks : map (λ (e : MarkCase). run 8 start (e .log) .graph .marks (e .class) (e .level) (e .usage)) markCases ≡ map (λ (e : MarkCase). e .set) markCases
+pub marks : map (λ (e : MarkCase). run 4 start (e .log) .graph .marks (e .class) (e .level) (e .usage)) markCases ≡ map (λ (e : MarkCase). e .set) markCases
 unfolding markCases markCase takes does says isMalformed refusal dependency cyclic
 marks = refl
 

@@ -1,4 +1,4 @@
--- Document 01, "Logs for the bench": P1 to P12 with their variants and the refusal logs, as one table under one claim.
+-- Document 01, "Logs for the bench": P1 to P12 with their variants and the refusal logs, as one table under one claim; request a in another.
 use mathlib.Core.Bool.{Bool, true, false}
 use mathlib.Core.List.{List, [], _∷_, _++_}
 use Prim.Native.Nat.{ℕ, _+_, pred}
@@ -123,8 +123,13 @@ table =
     -- refusals that meet: 10 before 3, 3 before 4, 4 before 5
     ∷ example (takes 0 0 exclusive ∷ takes 0 0 exclusive ∷ [] ∷ takes 0 9 exclusive ∷ []) (0 ∷ 1 ∷ 10 ∷ 10 ∷ [])
     ∷ example (takes 0 8 6 ∷ takes 8 8 exclusive ∷ takes 0 8 exclusive ∷ frees 0 8 ∷ frees 0 7 ∷ []) (3 ∷ 3 ∷ 4 ∷ 4 ∷ 5 ∷ [])
-    -- ---- Request a. No dependency to a try, even of its own class; one from it, by the mode in which it is held
-    ∷ example (takes 0 1 exclusive ∷ takes 0 1 tryExclusive ∷ []) (allClean 2)
+    ∷ []
+
+-- Request a, over four classes: what a try draws and marks, and what is refused.
+unfoldable pub tries : List Example
+tries =
+    -- no dependency to a try, even of its own class; one from it, by the mode in which it is held
+    example (takes 0 1 exclusive ∷ takes 0 1 tryExclusive ∷ []) (allClean 2)
     ∷ example (takes 0 1 tryExclusive ∷ takes 0 1 exclusive ∷ []) (faultAt 2)
     ∷ example (takes 0 0 tryRead ∷ takes 0 0 recursive ∷ []) (allClean 2)
     ∷ example (takes 0 0 tryRecursive ∷ takes 0 0 read ∷ []) (faultAt 2)
@@ -132,10 +137,12 @@ table =
     ∷ example (takes 0 1 exclusive ∷ takes 0 2 tryExclusive ∷ takes 1 2 exclusive ∷ takes 1 1 exclusive ∷ []) (allClean 4)
     ∷ example (takes 0 1 tryExclusive ∷ takes 0 2 exclusive ∷ takes 1 2 exclusive ∷ takes 1 1 exclusive ∷ []) (faultAt 4)
     -- P10 by a try in the handler: clean, "then or later"; by a try in the task: fault
-    ∷ example (takes 0 3 exclusive ∷ frees 0 3 ∷ does 0 enterHard ∷ takes 0 3 tryExclusive ∷ takes 0 4 exclusive ∷ []) (allClean 5)
+    ∷ example (takes 0 3 exclusive ∷ frees 0 3 ∷ does 0 enterHard ∷ takes 0 3 tryExclusive ∷ takes 0 2 exclusive ∷ []) (allClean 5)
     ∷ example (takes 0 3 tryExclusive ∷ frees 0 3 ∷ does 0 enterHard ∷ takes 0 3 exclusive ∷ []) (faultAt 4)
     -- a try held over a hard on becomes hard-unsafe
-    ∷ example (does 0 enterHard ∷ takes 0 4 exclusive ∷ frees 0 4 ∷ does 0 exitHard ∷ does 0 hardOff ∷ takes 0 4 tryExclusive ∷ does 0 hardOn ∷ []) (faultAt 7)
+    ∷ example
+    (does 0 enterHard ∷ takes 0 2 exclusive ∷ frees 0 2 ∷ does 0 exitHard ∷ does 0 hardOff ∷ takes 0 2 tryExclusive ∷ does 0 hardOn ∷ [])
+    (faultAt 7)
     -- marks are by class: another lock of it that is no try marks it safe; the try alone does not
     ∷ example
     (does 0 enterHard ∷ takes 0 3 tryRecursive ∷ takes 0 3 recursive ∷ frees 0 3 ∷ frees 0 3 ∷ does 0 exitHard ∷ takes 0 3 exclusive ∷ [])
@@ -143,8 +150,8 @@ table =
     ∷ example (does 0 enterHard ∷ takes 0 3 tryRecursive ∷ frees 0 3 ∷ does 0 exitHard ∷ takes 0 3 exclusive ∷ []) (allClean 5)
     -- a release takes the newest, here a try: 1R stays, and 1 SN 2 after 2 ER 1 is weak
     ∷ example (takes 0 1 recursive ∷ takes 0 1 tryExclusive ∷ frees 0 1 ∷ takes 0 2 exclusive ∷ takes 1 2 exclusive ∷ takes 1 1 recursive ∷ []) (allClean 6)
-    -- a try of class K; mode 6; a release of a try with its mode, and with mode 0
-    ∷ example (takes 0 8 tryExclusive ∷ takes 0 1 6 ∷ takes 0 1 tryExclusive ∷ says 0 1 1 tryExclusive ∷ frees 0 1 ∷ []) (4 ∷ 3 ∷ 0 ∷ 3 ∷ 0 ∷ [])
+    -- a try of class K; mode 6, before 4; a release of a try with its mode, and with mode 0
+    ∷ example (takes 0 4 tryExclusive ∷ takes 0 4 6 ∷ takes 0 1 tryExclusive ∷ says 0 1 1 tryExclusive ∷ frees 0 1 ∷ []) (4 ∷ 3 ∷ 0 ∷ 3 ∷ 0 ∷ [])
     ∷ []
 
 -- ---- What is drawn, where no answer from opening shows it.

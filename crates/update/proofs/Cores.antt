@@ -16,8 +16,8 @@ use Rattle.rules.specs.HeldLocks.{HeldLock, Core, withCurrent, withState}
 use Rattle.rules.specs.Marks.{Marks}
 use Rattle.layout.specs.Layout.{framesPerCore, closedAt, statesAt, depthsAt, marksAt, heldAt, originsAt, frameNumber, depthOf, heldOf, originOf}
 use Rattle.layout.specs.Encoding.{heldByteAt, originAt, DeskBytes}
+use Rattle.layout.proofs.Held.{same-bits}
 use Rattle.update.specs.Update.{FrameBytes, KeepsElse, MarkBytes, KeepsUnmarked}
-use Rattle.update.proofs.Frames.{same-bits}
 
 -- The cores with one of them changed, as a step of the rules leaves them.
 abbrev pub changed : (ℕ → Core) → ℕ → Core → ℕ → Core

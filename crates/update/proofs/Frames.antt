@@ -2,20 +2,19 @@
 use mathlib.Core.Path.{_≡_, refl, sym, ap, _∙_}
 use mathlib.Core.List.{List, [], _∷_, _++_, map}
 use mathlib.Core.Logic.{_⊎_, inl, inr, ⊎-elim}
-use Prim.Native.Nat.{ℕ, zero, suc, _+_, _*_, _-_, _/_, _%_, _^_, _<_, _≤_}
+use Prim.Native.Nat.{ℕ, zero, suc, _+_, _*_, _-_, _/_, _%_, _<_, _≤_}
 use native.Mathlib.Nat.{le-of-suc-le-suc, not-suc-le-zero}
 use native.Mathlib.Decide.{ℕ-discrete, decLt}
 use native.Mathlib.Omega.{arith}
 use lib.ListN.{length, getD, set, length-set, length-append}
 use lib.Seq.{getD-set-same, getD-set-other}
-use borrow.Author.Tests.{le-leb, lt-leb}
-use Rattle.words.specs.Bits.{flag}
 use Rattle.rules.specs.Limits.{maxDepth, heldModes, modeCount}
-use Rattle.rules.specs.HeldLocks.{HeldLock, isTry}
-use Rattle.layout.specs.Layout.{frameCount, originsAt, originBits, originBytes, deskSize, depthsAt, heldAt, depthOf, heldOf, originBit, originOf}
+use Rattle.rules.specs.HeldLocks.{HeldLock}
+use Rattle.layout.specs.Layout.{frameCount, originsAt, deskSize, depthsAt, heldAt, depthOf, heldOf, originBit, originOf}
 use Rattle.layout.specs.Encoding.{heldByte, heldOrigin, EightBits}
+use Rattle.layout.proofs.Held.{mode-origin, same-bits}
 use Rattle.origins.specs.Origins.{OriginPut}
-use Rattle.update.specs.Update.{FrameBytes, Pushed, removeAt, OriginsMoved, Removed}
+use Rattle.update.specs.Update.{Pushed, removeAt, OriginsMoved, Removed}
 
 -- ---- What the places of a frame say, f being what a byte or a bit says of its lock: with one lock more, and with the lock at place q gone.
 
@@ -73,19 +72,7 @@ module _ (f : HeldLock → ℕ) where
         behind lo (no h) (yes z) = rw z (freed ∙ sym (at-past hs (suc last) (omega arith)))
         behind lo (no h) (no z) = kept p l (inr (omega arith)) ∙ is p l ∙ at-past hs p (omega arith) ∙ sym (at-past hs (suc p) (omega arith))
 
--- Bits of equal bytes are equal.
-pub same-bits : (x y : List ℕ) → ((j : ℕ) → originsAt ≤ j → getD x j 0 ≡ getD y j 0) → (k : ℕ) → originBit x k ≡ originBit y k
-same-bits x y e k = ap (λ (b : ℕ). b / 2 ^ (k % 8) % 2) (e (originsAt + k / 8) (omega arith))
-
 -- ---- A lock is held.
-
--- The origin bit of a mode.
-try-digit : (mode : ℕ) → mode < modeCount → mode / heldModes ≡ flag (isTry mode)
-try-digit mode l =
-    elim (decLt mode heldModes) [
-      | yes h ↦ rw (lt-leb heldModes mode h) (omega arith)
-      | no h ↦ rw (le-leb heldModes mode (omega arith)) (omega arith)
-    ]
 
 module _ (desk : List ℕ) (n : ℕ) (long : deskSize ≤ length desk) (inside : n < frameCount) (room : depthOf desk n < maxDepth) where
   pub push-law : (put : List ℕ) (class mode : ℕ) → mode < modeCount → OriginPut desk (maxDepth * n + depthOf desk n) (mode / heldModes) put
@@ -119,7 +106,7 @@ module _ (desk : List ℕ) (n : ℕ) (long : deskSize ≤ length desk) (inside :
                   ∙ getD-set-same put (heldAt + maxDepth * n + depthOf desk n) v 0 (omega (arith, P .long))))
                   (λ p l ne. other (heldAt + maxDepth * n + p) (omega arith) (λ e. ne (omega arith)) ∙ P .else (heldAt + maxDepth * n + p) (omega arith));
               origins = with-more heldOrigin hs (originOf desk n) (λ p. originOf after n p) (F .origins) h
-                  (rw (← d) (bits i ∙ P .there ∙ try-digit mode lm))
+                  (rw (← d) (bits i ∙ P .there ∙ mode-origin mode lm))
                   (λ p l ne. bits (maxDepth * n + p) ∙ P .others (maxDepth * n + p) (λ e. ne (omega arith)));
             };
       }

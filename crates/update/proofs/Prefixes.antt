@@ -1,18 +1,17 @@
 -- The locks held at the first places of a frame. Assumes nothing.
 use mathlib.Core.Path.{_≡_, refl, sym, ap, _∙_}
 use mathlib.Core.Bool.{Bool, _&&_, _||_, or-false, or-assoc}
-use mathlib.Core.List.{List, [], _∷_, map}
+use mathlib.Core.List.{List, [], _∷_}
 use Prim.Native.Nat.{ℕ, zero, suc, _+_, _*_, _%_, _/_, _<_}
 use native.Mathlib.Nat.{le-of-suc-le-suc, not-suc-le-zero}
-use native.Mathlib.Decide.{decLt}
 use native.Mathlib.Omega.{arith}
 use lib.Dec.{eqb}
 use lib.ListN.{length, getD, take}
-use borrow.Author.Tests.{le-leb, lt-leb}
 use Rattle.rules.specs.Limits.{maxDepth, heldModes}
 use Rattle.rules.specs.HeldLocks.{HeldLock, heldAs, someHeld}
 use Rattle.layout.specs.Layout.{heldOf, originOf}
 use Rattle.layout.specs.Encoding.{heldByte, heldOrigin}
+use Rattle.layout.proofs.Held.{mode-back, value-at}
 use Rattle.update.specs.Update.{FrameBytes, SmallLocks}
 
 pub unheld : HeldLock
@@ -31,12 +30,6 @@ pub all-places : (hs : List HeldLock) → take (length hs) hs ≡ hs
 all-places [] = refl
 all-places (h ∷ hs) = ap {B = List HeldLock} (λ (l : List HeldLock). h ∷ l) (all-places hs)
 
--- What a byte or a bit says of the lock at a place.
-value-at : (f : HeldLock → ℕ) (hs : List HeldLock) (p : ℕ) → p < length hs → getD (map f hs) p 0 ≡ f (getD hs p unheld)
-value-at f [] p l = absurd (not-suc-le-zero l)
-value-at f (h ∷ hs) zero l = refl
-value-at f (h ∷ hs) (suc p) l = value-at f hs p (le-of-suc-le-suc l)
-
 -- The byte of a held lock gives its class and the mode in which it is held; with the origin bit, the mode of its acquire.
 pub record Lock (desk : List ℕ) (n p : ℕ) (h : HeldLock) : Type 0 where
   pub class : heldOf desk n p % 64 ≡ h .class
@@ -48,14 +41,9 @@ pub lock-at : (desk : List ℕ) (n : ℕ) (hs : List HeldLock) → FrameBytes de
 unfolding unheld
 lock-at desk n hs F small p l m =
     let h = getD hs p unheld in
-    let e : heldOf desk n p ≡ heldByte h = F .held p m ∙ value-at heldByte hs p l in
-    let o : originOf desk n p ≡ heldOrigin h = F .origins p m ∙ value-at heldOrigin hs p l in
+    let e : heldOf desk n p ≡ heldByte h = F .held p m ∙ value-at heldByte hs p unheld l in
+    let o : originOf desk n p ≡ heldOrigin h = F .origins p m ∙ value-at heldOrigin hs p unheld l in
     let s = small p unheld l in
     let c = s .class in
-    let by-origin : heldAs (h .mode) + heldModes * heldOrigin h ≡ h .mode =
-    elim (decLt (h .mode) heldModes) [
-      | yes t ↦ rw (lt-leb heldModes (h .mode) t) (omega arith)
-      | no t ↦ let k = s .mode in rw (le-leb heldModes (h .mode) (omega arith)) (omega arith)
-    ] in
     let held-as : heldOf desk n p / 64 ≡ heldAs (h .mode) = rw e (omega arith) in
-    record { class = rw e (omega arith); held-as = held-as; mode = rw (held-as, o) by-origin }
+    record { class = rw e (omega arith); held-as = held-as; mode = rw (held-as, o) (mode-back (h .mode) (s .mode)) }

@@ -2,7 +2,7 @@
 use mathlib.Core.Path.{_≡_}
 use mathlib.Core.Bool.{true}
 use mathlib.Core.List.{List}
-use Prim.Native.Nat.{ℕ, _<_}
+use Prim.Native.Nat.{ℕ}
 use Rattle.layout.specs.Layout.{deskSize, AreBytes}
 use Rattle.layout.specs.Fit.{fits}
 use Rattle.layout.specs.Decoding.{view}

@@ -1,7 +1,6 @@
-use Prim.Native.Nat.{ℕ, _≤_, _<_, _-_}
+use Prim.Native.Nat.{ℕ, _≤_, _-_}
 use native.Mathlib.Omega.{arith}
 use mathlib.Core.Path.{_≡_, _∙_, subst}
-use Rattle.rules.specs.Limits.{maxDepth}
 use Rattle.update.proofs.Frames.{OriginsMoving, origins-start, origins-step, origins-done}
 use Rattle.update.proofs.move_origins.Statement.{statement}
 use Rattle.update.proofs.move_origins.Tie as tie

@@ -5,7 +5,6 @@ use Rattle.fit.proofs.Facts.{facts}
 use Rattle.rules.proofs.Formed.{well-formed}
 use Rattle.validator.proofs.Fitness.{fit-cored}
 use Rattle.validator.proofs.Outcomes.{unfit-buffers, unfit-slip, is-closed, is-malformed, is-refused, conclude-ready, is-validated}
-use Prim.Native.Nat.{_+_}
 use borrow.Author.Needs.{needs}
 use Rattle.validator.proofs.step.Statement.{statement}
 use Rattle.validator.proofs.step.Tie as tie
