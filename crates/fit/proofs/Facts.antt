@@ -12,7 +12,7 @@ use borrow.Author.Tests.{ltb-true, leb-true, eqb-true, lt-ltb, le-ltb, le-leb, e
 use Rattle.rules.specs.Limits.{coreCount, maxClasses, maxDepth, heldModes}
 use Rattle.rules.specs.Context.{hardOverSoft, soft, hard, mayHoldSoft, mayHoldHard}
 use Rattle.rules.proofs.Booleans.{or-cases, or-left, or-right, and-cases, and-both}
-use Rattle.layout.specs.Layout.{frameCount, originBits, deskSize, sheetSize, frameNumber, classesOf, closedOf, stateOf, depthOf, markOf, heldOf, originBit}
+use Rattle.layout.specs.Layout.{frameCount, placeCount, deskSize, sheetSize, frameNumber, classesOf, closedOf, stateOf, depthOf, markOf, heldOf, originBit}
 use Rattle.layout.specs.Fit.{allBelow, classesFit, coreFits, heldFits, frameFits, originFits, markFits, kindsFit, fits}
 use Rattle.fit.proofs.AllBelow.{all-at, all-of}
 
@@ -40,7 +40,7 @@ pub record Facts (desk sheet : List ℕ) : Type 0 where
   pub closed : closedOf desk ≤ 1
   pub cores : (i : ℕ) → i < coreCount → CoreFacts desk i
   pub frames : (n : ℕ) → n < frameCount → FrameFacts (classesOf desk) desk n
-  pub origins : (i : ℕ) → i < originBits → depthOf desk (i / maxDepth) ≤ i % maxDepth → originBit desk i ≡ 0
+  pub origins : (i : ℕ) → i < placeCount → depthOf desk (i / maxDepth) ≤ i % maxDepth → originBit desk i ≡ 0
   pub marks : (c : ℕ) → c < maxClasses → MarkFacts (classesOf desk) desk c
   pub kinds : (j : ℕ) → j < sheetSize (classesOf desk) → getD sheet j 0 ≤ 15
 
@@ -102,9 +102,9 @@ module _ (K : ℕ) (desk : List ℕ) (n : ℕ) where
       ]))
 
 module _ (desk : List ℕ) (i : ℕ) where
-  origin-fact : originFits desk i ≡ true → depthOf desk (i / maxDepth) ≤ i % maxDepth → originBit desk i ≡ 0
+  origin-zero : originFits desk i ≡ true → depthOf desk (i / maxDepth) ≤ i % maxDepth → originBit desk i ≡ 0
   unfolding originFits
-  origin-fact e h =
+  origin-zero e h =
       ⊎-elim (λ z. eqb-true _ _ z) (λ z. absurd (let l = ltb-true (i % maxDepth) (depthOf desk (i / maxDepth)) z in omega arith))
       (or-cases (eqb (originBit desk i) 0) (ltb (i % maxDepth) (depthOf desk (i / maxDepth))) e)
 
@@ -150,7 +150,7 @@ module _ (desk sheet : List ℕ) where
       let f = and-cases (leb (closedOf desk) 1) _ (d .1) in
       let g = and-cases (allBelow coreCount (coreFits desk)) _ (f .1) in
       let h = and-cases (allBelow frameCount (frameFits K desk)) _ (g .1) in
-      let o = and-cases (allBelow originBits (originFits desk)) _ (h .1) in
+      let o = and-cases (allBelow placeCount (originFits desk)) _ (h .1) in
       let m = and-cases (allBelow maxClasses (markFits K desk)) _ (o .1) in
       record {
         long = leb-true _ _ (a .0);
@@ -160,7 +160,7 @@ module _ (desk sheet : List ℕ) where
         closed = leb-true _ _ (f .0);
         cores = λ i l. core-facts desk i (all-at coreCount (coreFits desk) (g .0) i l);
         frames = λ n l. frame-facts K desk n (all-at frameCount (frameFits K desk) (h .0) n l);
-        origins = λ i l. origin-fact desk i (all-at originBits (originFits desk) (o .0) i l);
+        origins = λ i l. origin-zero desk i (all-at placeCount (originFits desk) (o .0) i l);
         marks = λ c l. mark-facts K desk c (all-at maxClasses (markFits K desk) (m .0) c l);
         kinds = λ j l. leb-true _ _ (all-at (sheetSize K) (kindsFit sheet) (m .1) j l);
       }
@@ -174,6 +174,6 @@ module _ (desk sheet : List ℕ) where
       (and-both (le-leb _ _ (f .closed))
       (and-both (all-of coreCount (coreFits desk) (λ i l. core-fits desk i (f .cores i l)))
       (and-both (all-of frameCount (frameFits (classesOf desk) desk) (λ n l. frame-fits _ desk n (f .frames n l)))
-      (and-both (all-of originBits (originFits desk) (λ i l. origin-fits desk i (f .origins i l)))
+      (and-both (all-of placeCount (originFits desk) (λ i l. origin-fits desk i (f .origins i l)))
       (and-both (all-of maxClasses (markFits (classesOf desk) desk) (λ c l. mark-fits _ desk c (f .marks c l)))
       (all-of (sheetSize (classesOf desk)) (kindsFit sheet) (λ j l. le-leb _ _ (f .kinds j l))))))))))

@@ -25,8 +25,8 @@ use Rattle.rules.proofs.Booleans.{and-cases, and-both}
 use Rattle.rules.proofs.Closure.{length-tabulate, getD-tabulate}
 use Rattle.layout.proofs.Flags.{markFlags, kindFlags, mark-packed, kind-packed, mark-digit, kind-digit}
 use Rattle.layout.proofs.Buffers.{cell-inside}
-use Rattle.layout.proofs.Held.{mode-back, value-at}
-use Rattle.layout.specs.Layout.{framesPerCore, frameCount, marksAt, originsAt, originBits, deskSize, sheetSize, frameNumber, classesOf, closedOf, depthOf, markOf, heldOf, originBit, originOf, kindsOf, AreBytes}
+use Rattle.layout.proofs.Held.{unheld, mode-back, value-at}
+use Rattle.layout.specs.Layout.{framesPerCore, frameCount, marksAt, originsAt, placeCount, deskSize, sheetSize, frameNumber, classesOf, closedOf, depthOf, markOf, heldOf, originBit, originOf, kindsOf, AreBytes}
 use Rattle.layout.specs.Encoding.{markByte, kindByte, heldByte, heldByteAt, heldOrigin, originAt, DeskBytes, SheetBytes, Encodes}
 use Rattle.layout.specs.Fit.{fits}
 use Rattle.validity.specs.Valid.{ValidLock, ValidLocks, ValidCore, Valid}
@@ -34,12 +34,9 @@ use Rattle.layout.specs.Decoding.{heldLockOf, heldLocks, viewCore, viewMarks, v
 use Rattle.fit.proofs.Places.{AtPlaces, by-frame, by-place, by-origin, by-pair}
 use Rattle.fit.proofs.Facts.{CoreFacts, FrameFacts, MarkFacts, Facts, facts, fits-of}
 
--- The lock at place p of frame n, and no lock.
+-- The lock at place p of frame n.
 abbrev lockAt : List ℕ → ℕ → ℕ → HeldLock
 lockAt desk n p = heldLockOf (heldOf desk n p) (originOf desk n p)
-
-abbrev none-held : HeldLock
-none-held = heldLockOf 0 0
 
 -- The origin bit of a byte and a bit taken for a lock.
 origin-back : (byte origin : ℕ) → byte / 64 < heldModes → origin < 2 → origin ≡ heldOrigin (heldLockOf byte origin)
@@ -75,13 +72,13 @@ module _ (desk sheet : List ℕ) (f : Facts desk sheet) where
   depth-view n = sym (length-tabulate (depthOf desk n) (lockAt desk n))
 
   -- What a byte or a bit says of the lock at a place, v being its value there.
-  value-view : (say : HeldLock → ℕ) → say none-held ≡ 0 → (v n p : ℕ) → (p < depthOf desk n → v ≡ say (lockAt desk n p)) → (depthOf desk n ≤ p → v ≡ 0)
+  value-view : (say : HeldLock → ℕ) → say unheld ≡ 0 → (v n p : ℕ) → (p < depthOf desk n → v ≡ say (lockAt desk n p)) → (depthOf desk n ≤ p → v ≡ 0)
       → v ≡ getD (map say (heldLocks desk n)) p 0
   value-view say z v n p held unused =
       elim (decLt p (depthOf desk n)) [
         | yes q ↦ held q
-            ∙ ap say (sym (getD-tabulate (depthOf desk n) (lockAt desk n) none-held p q))
-            ∙ sym (List·getD-map say (heldLocks desk n) p none-held)
+            ∙ ap say (sym (getD-tabulate (depthOf desk n) (lockAt desk n) unheld p q))
+            ∙ sym (List·getD-map say (heldLocks desk n) p unheld)
             ∙ ap (λ (d : ℕ). getD (map say (heldLocks desk n)) p d) z
         | no q ↦ unused (omega arith)
             ∙ sym (List·getD-eq-default (map say (heldLocks desk n)) 0 (rw (length-map (heldLocks desk n) say, ← depth-view n) (omega arith)))
@@ -255,10 +252,10 @@ module _ (desk sheet : List ℕ) (some : 1 ≤ classesOf desk) (few : classesOf 
       let hs = s .cores i .held g in
       let depth : depthOf desk n ≡ length hs = e .in-desk .depths i g l h in
       let small : length hs ≤ maxDepth = v .cores i .depths g in
-      let lock : (p : ℕ) → p < depthOf desk n → (heldOf desk n p ≡ heldByte (getD hs p none-held)) =
-      λ p q. e .in-desk .held i g p l h (omega arith) ∙ value-at heldByte hs p none-held (omega arith) in
-      let good : (p : ℕ) → p < depthOf desk n → ValidLock (classesOf desk) (getD hs p none-held) =
-      λ p q. v .cores i .locks g p none-held (omega arith) in
+      let lock : (p : ℕ) → p < depthOf desk n → (heldOf desk n p ≡ heldByte (getD hs p unheld)) =
+      λ p q. e .in-desk .held i g p l h (omega arith) ∙ value-at heldByte hs p unheld (omega arith) in
+      let good : (p : ℕ) → p < depthOf desk n → ValidLock (classesOf desk) (getD hs p unheld) =
+      λ p q. v .cores i .locks g p unheld (omega arith) in
       record {
         depth = omega arith;
         class = λ p q. let a = lock p q in let b = good p q in omega arith;
@@ -267,7 +264,7 @@ module _ (desk sheet : List ℕ) (some : 1 ≤ classesOf desk) (few : classesOf 
             ∙ List·getD-eq-default (map heldByte hs) 0 (rw (length-map hs heldByte, ← depth) r);
       }
 
-  origin-fact : (k : ℕ) → k < originBits → depthOf desk (k / maxDepth) ≤ k % maxDepth → originBit desk k ≡ 0
+  origin-fact : (k : ℕ) → k < placeCount → depthOf desk (k / maxDepth) ≤ k % maxDepth → originBit desk k ≡ 0
   origin-fact =
       by-origin (λ k. depthOf desk (k / maxDepth) ≤ k % maxDepth → originBit desk k ≡ 0)
       (λ i g p l h q r.
@@ -309,20 +306,20 @@ module _ (desk sheet : List ℕ) (some : 1 ≤ classesOf desk) (few : classesOf 
       let hs = s .cores i .held g in
       let depth : depthOf desk n ≡ length hs = e .in-desk .depths i g l h in
       let long : length (heldLocks desk n) ≡ depthOf desk n = length-tabulate (depthOf desk n) (lockAt desk n) in
-      ext-getD none-held (heldLocks desk n) hs (long ∙ depth)
+      ext-getD unheld (heldLocks desk n) hs (long ∙ depth)
       (λ p q.
       let k : p < depthOf desk n = rw long at q in
       let small : length hs ≤ maxDepth = v .cores i .depths g in
-      let good = v .cores i .locks g p none-held (omega arith) in
-      let byte : heldOf desk n p ≡ heldByte (getD hs p none-held) =
-      e .in-desk .held i g p l h (omega arith) ∙ value-at heldByte hs p none-held (omega arith) in
-      let origin : originOf desk n p ≡ heldOrigin (getD hs p none-held) =
-      e .in-desk .origins i g p l h (omega arith) ∙ value-at heldOrigin hs p none-held (omega arith) in
-      let held-mode : heldOf desk n p / 64 ≡ heldAs (getD hs p none-held .mode) = omega arith in
-      getD-tabulate (depthOf desk n) (lockAt desk n) none-held p k
+      let good = v .cores i .locks g p unheld (omega arith) in
+      let byte : heldOf desk n p ≡ heldByte (getD hs p unheld) =
+      e .in-desk .held i g p l h (omega arith) ∙ value-at heldByte hs p unheld (omega arith) in
+      let origin : originOf desk n p ≡ heldOrigin (getD hs p unheld) =
+      e .in-desk .origins i g p l h (omega arith) ∙ value-at heldOrigin hs p unheld (omega arith) in
+      let held-mode : heldOf desk n p / 64 ≡ heldAs (getD hs p unheld .mode) = omega arith in
+      getD-tabulate (depthOf desk n) (lockAt desk n) unheld p k
       ∙ ap₂ (λ (c m : ℕ). record { class = c; mode = m })
-      (let w : heldOf desk n p % 64 ≡ getD hs p none-held .class = omega arith in w)
-      (let w : heldOf desk n p / 64 + heldModes * originOf desk n p ≡ getD hs p none-held .mode = rw (held-mode, origin) (mode-back _ (good .mode)) in w))
+      (let w : heldOf desk n p % 64 ≡ getD hs p unheld .class = omega arith in w)
+      (let w : heldOf desk n p / 64 + heldModes * originOf desk n p ≡ getD hs p unheld .mode = rw (held-mode, origin) (mode-back _ (good .mode)) in w))
 
   core-is : (i : ℕ) → cond (ltb i coreCount) (viewCore desk i) freshCore ≡ s .cores i
   core-is i =

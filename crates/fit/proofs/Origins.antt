@@ -8,7 +8,7 @@ use lib.Dec.{ltb}
 use lib.ListN.{getD}
 use borrow.Author.Tests.{eqb-true, eq-eqb, ne-eqb}
 use Rattle.rules.specs.Limits.{maxDepth}
-use Rattle.layout.specs.Layout.{originsAt, originBits, originBytes, depthOf, originBit}
+use Rattle.layout.specs.Layout.{originsAt, placeCount, originBytes, depthOf, originBit}
 use Rattle.layout.specs.Fit.{allBelow, originFits}
 use Rattle.layout.proofs.Held.{zero-bit}
 use Rattle.fit.specs.Empty.{noTryIn, byteFits}
@@ -33,23 +33,23 @@ module _ (desk : List ℕ) where
       sym (all-of 8 (λ j. originFits desk (8 * b + j))
       (λ j l. let q : (8 * b + j) / 8 ≡ b = omega arith in zero-fits (8 * b + j) (rw q e)))
 
-  pub none-at-all : allBelow originBytes (noTryIn desk) ≡ true → true ≡ allBelow originBits (originFits desk)
+  pub none-at-all : allBelow originBytes (noTryIn desk) ≡ true → true ≡ allBelow placeCount (originFits desk)
   none-at-all h =
-      sym (all-of originBits (originFits desk) (λ i l. zero-fits i (eqb-true _ _ (all-at originBytes (noTryIn desk) h (i / 8) (omega arith)))))
+      sym (all-of placeCount (originFits desk) (λ i l. zero-fits i (eqb-true _ _ (all-at originBytes (noTryIn desk) h (i / 8) (omega arith)))))
 
   same-truth : (a b : Bool) → (a ≡ true → b ≡ true) → (b ≡ true → a ≡ true) → a ≡ b
   same-truth true b f g = sym (f refl)
   same-truth false true f g = g refl
   same-truth false false f g = refl
 
-  pub by-bytes : allBelow originBytes (byteFits desk) ≡ allBelow originBits (originFits desk)
+  pub by-bytes : allBelow originBytes (byteFits desk) ≡ allBelow placeCount (originFits desk)
   unfolding byteFits
   by-bytes =
       same-truth _ _
-      (λ h. all-of originBits (originFits desk)
+      (λ h. all-of placeCount (originFits desk)
       (λ i l.
       let e : 8 * (i / 8) + i % 8 ≡ i = omega arith in
       subst (λ (k : ℕ). originFits desk k ≡ true) e
       (all-at 8 (λ j. originFits desk (8 * (i / 8) + j)) (all-at originBytes (byteFits desk) h (i / 8) (omega arith)) (i % 8) (omega arith))))
       (λ h. all-of originBytes (byteFits desk)
-      (λ b l. all-of 8 (λ j. originFits desk (8 * b + j)) (λ j m. all-at originBits (originFits desk) h (8 * b + j) (omega arith))))
+      (λ b l. all-of 8 (λ j. originFits desk (8 * b + j)) (λ j m. all-at placeCount (originFits desk) h (8 * b + j) (omega arith))))

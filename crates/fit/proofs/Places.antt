@@ -6,7 +6,7 @@ use native.Mathlib.Decide.{decLt}
 use native.Mathlib.Omega.{arith}
 use Rattle.rules.specs.Limits.{coreCount, maxClasses, maxDepth}
 use Rattle.rules.specs.Context.{Frame}
-use Rattle.layout.specs.Layout.{framesPerCore, frameCount, classesAt, closedAt, statesAt, depthsAt, marksAt, heldAt, originsAt, originBits, originBytes, deskSize, sheetSize, frameNumber}
+use Rattle.layout.specs.Layout.{framesPerCore, frameCount, classesAt, closedAt, statesAt, depthsAt, marksAt, heldAt, originsAt, placeCount, originBytes, deskSize, sheetSize, frameNumber}
 
 -- Every frame is one of a core's.
 pub by-frame : (P : ℕ → Type 0) → ((i : ℕ) (f : Frame) → i < coreCount → f < framesPerCore → P (frameNumber i f))
@@ -58,7 +58,7 @@ by-place P a j l =
 
 -- Every origin bit is that of a place of a frame.
 pub by-origin : (P : ℕ → Type 0) → ((i : ℕ) (f : Frame) (p : ℕ) → i < coreCount → f < framesPerCore → p < maxDepth → P (maxDepth * frameNumber i f + p))
-    → (k : ℕ) → k < originBits → P k
+    → (k : ℕ) → k < placeCount → P k
 by-origin P a k l =
     let e : maxDepth * (k / maxDepth) + k % maxDepth ≡ k = omega arith in
     subst P e (by-frame (λ n. P (maxDepth * n + k % maxDepth)) (λ i f h g. a i f (k % maxDepth) h g (omega arith)) (k / maxDepth) (omega arith))

@@ -11,7 +11,7 @@ use Rattle.words.proofs.Words.{bits-same, bit-shift, bit-high}
 use Rattle.rules.specs.HeldLocks.{Core}
 use Rattle.rules.specs.Marks.{Marks}
 use Rattle.rules.specs.Graph.{Dependencies}
-use Rattle.layout.specs.Layout.{originsAt, originBits, deskSize, sheetSize, originBit, KeepsPast}
+use Rattle.layout.specs.Layout.{originsAt, placeCount, deskSize, sheetSize, originBit, KeepsPast}
 use Rattle.layout.specs.Encoding.{DeskBytes, SheetBytes}
 use Rattle.fit.proofs.Places.{AtPlaces, by-place, by-origin, by-pair}
 
@@ -36,7 +36,7 @@ same-byte w v l h e =
 
 module _ (K : ℕ) (is-closed : Bool) (cores : ℕ → Core) (marks : Marks) (x y : List ℕ)
     (a : DeskBytes K is-closed cores marks x) (b : DeskBytes K is-closed cores marks y) where
-  same-origins : (k : ℕ) → k < originBits → originBit x k ≡ originBit y k
+  same-origins : (k : ℕ) → k < placeCount → originBit x k ≡ originBit y k
   same-origins = by-origin (λ k. originBit x k ≡ originBit y k) (λ i f p l h q. a .origins i f p l h q ∙ sym (b .origins i f p l h q))
 
   same-places : AtPlaces (λ j. getD x j 0 ≡ getD y j 0)

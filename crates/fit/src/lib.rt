@@ -6,7 +6,7 @@ ghost use lib.Dec.{leb, eqb};
 ghost use Rattle.rules.specs.Context.{mayHoldSoft, mayHoldHard};
 ghost use lib.ListN.{length};
 ghost use Rattle.rules.specs.Limits.{coreCount, maxClasses, maxDepth};
-ghost use Rattle.layout.specs.Layout.{frameCount, originBits, originBytes, deskSize};
+ghost use Rattle.layout.specs.Layout.{frameCount, placeCount, originBytes, deskSize};
 ghost use Rattle.fit.specs.Empty.{emptyAt, noTryIn, byteFits};
 ghost use Rattle.layout.specs.Fit.{allBelow, coreFits, heldFits, frameFits, originFits, markFits, kindsFit};
 use context::CoreState;
@@ -176,7 +176,7 @@ fn no_tries(desk: &[u8]) -> bool
 }
 
 fn origin_fits(desk: &[u8], i: usize) -> bool
-    requires { ⌜ (i < originBits) × (deskSize ≤ length (now desk)) ⌝ }
+    requires { ⌜ (i < placeCount) × (deskSize ≤ length (now desk)) ⌝ }
     ensures { λ r. ⌜ r ≡ originFits (now (desk .entry)) i ⌝ }
 {
     if origin(desk, i) == 0 {
@@ -221,7 +221,7 @@ fn bytes_fit(desk: &[u8]) -> bool
 
 fn origins_fit(desk: &[u8]) -> bool
     requires { ⌜ deskSize ≤ length (now desk) ⌝ }
-    ensures { λ r. ⌜ r ≡ allBelow originBits (originFits (now (desk .entry))) ⌝ }
+    ensures { λ r. ⌜ r ≡ allBelow placeCount (originFits (now (desk .entry))) ⌝ }
 {
     if no_tries(desk) {
         return true;

@@ -23,6 +23,10 @@ mode-origin mode l =
 pub mode-back : (mode : ℕ) → mode < modeCount → heldAs mode + heldModes * flag (isTry mode) ≡ mode
 mode-back mode l = let o = mode-origin mode l in omega arith
 
+-- A lock past the end of a list.
+abbrev pub unheld : HeldLock
+unheld = record { class = 0; mode = 0 }
+
 -- What a byte or a bit says of the lock at a place.
 pub value-at : (say : HeldLock → ℕ) (hs : List HeldLock) (p : ℕ) (d : HeldLock) → p < length hs → getD (map say hs) p 0 ≡ say (getD hs p d)
 value-at say [] p d l = absurd (not-suc-le-zero l)

@@ -8,7 +8,7 @@ use Rattle.rules.specs.Limits.{coreCount, maxClasses, maxDepth, heldModes}
 use Rattle.rules.specs.Context.{hardOverSoft, soft, hard, mayHoldSoft, mayHoldHard}
 use Rattle.rules.specs.HeldLocks.{First, E, S}
 use Rattle.rules.specs.Marks.{Level, hardIrq, softIrq, unsafe, markBit}
-use Rattle.layout.specs.Layout.{frameCount, originBits, deskSize, sheetSize, slipSize, frameNumber, classesOf, closedOf, stateOf, depthOf, markOf, heldOf, originBit}
+use Rattle.layout.specs.Layout.{frameCount, placeCount, deskSize, sheetSize, slipSize, frameNumber, classesOf, closedOf, stateOf, depthOf, markOf, heldOf, originBit}
 
 -- The test holds of every number below n.
 unfoldable pub allBelow : ℕ → (ℕ → Bool) → Bool
@@ -62,7 +62,7 @@ fits desk sheet =
     && (leb (closedOf desk) 1
     && (allBelow coreCount (coreFits desk)
     && (allBelow frameCount (frameFits (classesOf desk) desk)
-    && (allBelow originBits (originFits desk)
+    && (allBelow placeCount (originFits desk)
     && (allBelow maxClasses (markFits (classesOf desk) desk)
     && allBelow (sheetSize (classesOf desk)) (kindsFit sheet))))))))
 

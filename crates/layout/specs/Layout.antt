@@ -32,15 +32,15 @@ marksAt = depthsAt + frameCount
 abbrev pub heldAt : ℕ
 heldAt = marksAt + maxClasses
 
--- "The holds need an origin": a bit for each place of a held lock.
-abbrev pub originsAt : ℕ
-originsAt = heldAt + maxDepth * frameCount
+-- The places for held locks: each has a byte and, since "the holds need an origin", a bit.
+abbrev pub placeCount : ℕ
+placeCount = maxDepth * frameCount
 
-abbrev pub originBits : ℕ
-originBits = maxDepth * frameCount
+abbrev pub originsAt : ℕ
+originsAt = heldAt + placeCount
 
 abbrev pub originBytes : ℕ
-originBytes = originBits / 8
+originBytes = placeCount / 8
 
 abbrev pub deskSize : ℕ
 deskSize = originsAt + originBytes

@@ -27,10 +27,12 @@ pub const MARKS_AT: usize = DEPTHS_AT + FRAMES;
 
 pub const HELD_AT: usize = MARKS_AT + MAX_CLASSES;
 
-// A bit for each place of a held lock, eight to a byte, the lowest first: 1 for a try.
-pub const ORIGINS_AT: usize = HELD_AT + MAX_DEPTH * FRAMES;
+// The places for held locks. Each has a byte and an origin bit, 1 for a try; the bits eight to a byte, the lowest first.
+const PLACES: usize = MAX_DEPTH * FRAMES;
 
-pub const ORIGIN_BYTES: usize = MAX_DEPTH * FRAMES / 8;
+pub const ORIGINS_AT: usize = HELD_AT + PLACES;
+
+pub const ORIGIN_BYTES: usize = PLACES / 8;
 
 pub const DESK_SIZE: usize = ORIGINS_AT + ORIGIN_BYTES;
 

@@ -12,7 +12,7 @@ use lib.Pow.{shl-exact, pow-lt}
 use lib.Seq.{getD-set-same, getD-set-other}
 use Rattle.words.specs.Bits.{bit}
 use Rattle.words.proofs.Words.{bit-shift, bit-two, bit-cases, bit-or, bit-and, bit-not, bit-zero, bit-one, bit-other}
-use Rattle.layout.specs.Layout.{originsAt, originBits, deskSize}
+use Rattle.layout.specs.Layout.{originsAt, placeCount, deskSize}
 use Rattle.origins.specs.Origins.{DigitPut, OriginPut}
 
 module _ (j : ℕ) (l : j < 8) where
@@ -52,7 +52,7 @@ module _ (j : ℕ) (l : j < 8) where
       }
 
 -- The byte of bit i is written.
-pub origin-put : (desk : List ℕ) (i d r : ℕ) → deskSize ≤ length desk → i < originBits → DigitPut (getD desk (originsAt + i / 8) 0) (i % 8) d r
+pub origin-put : (desk : List ℕ) (i d r : ℕ) → deskSize ≤ length desk → i < placeCount → DigitPut (getD desk (originsAt + i / 8) 0) (i % 8) d r
     → OriginPut desk i d (set desk (originsAt + i / 8) r)
 origin-put desk i d r long l p =
     record {

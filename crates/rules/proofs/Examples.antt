@@ -49,9 +49,9 @@ pub draws : map (λ (e : DrawnCase). run 5 start (e .log) .graph .locks (e .from
 unfolding drawnCases drawnCase takes does says isMalformed refusal dependency cyclic
 draws = refl
 
-pub marks : map (λ (e : MarkCase). run 4 start (e .log) .graph .marks (e .class) (e .level) (e .usage)) markCases ≡ map (λ (e : MarkCase). e .set) markCases
+pub marks-hold : map (λ (e : MarkCase). run 4 start (e .log) .graph .marks (e .class) (e .level) (e .usage)) markCases ≡ map (λ (e : MarkCase). e .set) markCases
 unfolding markCases markCase takes does says isMalformed refusal dependency cyclic
-marks = refl
+marks-hold = refl
 
 pub newest-released : releaseNewest 0 (lockOf 0 read ∷ lockOf 1 exclusive ∷ lockOf 0 recursive ∷ []) ≡ lockOf 0 read ∷ lockOf 1 exclusive ∷ []
 newest-released = refl

@@ -44,8 +44,8 @@ strayByte zero c m = false
 strayByte (suc zero) c m = not (eqb m 0)
 strayByte (suc (suc k)) c m = not (eqb c 0 && eqb m 0)
 
--- Refusal 3: "not six bytes, wrong mark, core over 7, kind over 9, mode over 2, or a byte that should be 0"; by request
--- a "refusal 3 begins at mode 6".
+-- Refusal 3: "not six bytes, wrong mark, core over 7, kind over 9, mode over 2, or a byte that should be 0"; request a:
+-- "refusal 3 begins at mode 6".
 unfoldable pub isMalformed : Bytes → Bool
 isMalformed r =
     not (eqb (length r) 6)

@@ -19,39 +19,39 @@ use Rattle.update.specs.Update.{Pushed, removeAt, OriginsMoved, Removed}
 -- ---- What the places of a frame say, f being what a byte or a bit says of its lock: with one lock more, and with the lock at place q gone.
 
 module _ (f : HeldLock → ℕ) where
-  abbrev at : List HeldLock → ℕ → ℕ
-  at hs p = getD (map f hs) p 0
+  abbrev said : List HeldLock → ℕ → ℕ
+  said hs p = getD (map f hs) p 0
 
-  at-inside : (hs : List HeldLock) (h : HeldLock) (p : ℕ) → (p ≡ length hs → ⊥) → at (hs ++ (h ∷ [])) p ≡ at hs p
+  at-inside : (hs : List HeldLock) (h : HeldLock) (p : ℕ) → (p ≡ length hs → ⊥) → said (hs ++ (h ∷ [])) p ≡ said hs p
   at-inside [] h zero n = absurd (n refl)
   at-inside [] h (suc p) n = refl
   at-inside (x ∷ hs) h zero n = refl
   at-inside (x ∷ hs) h (suc p) n = at-inside hs h p (λ e. n (ap suc e))
 
-  at-last : (hs : List HeldLock) (h : HeldLock) → at (hs ++ (h ∷ [])) (length hs) ≡ f h
+  at-last : (hs : List HeldLock) (h : HeldLock) → said (hs ++ (h ∷ [])) (length hs) ≡ f h
   at-last [] h = refl
   at-last (x ∷ hs) h = at-last hs h
 
-  at-below : (q : ℕ) (hs : List HeldLock) (p : ℕ) → p < q → at (removeAt q hs) p ≡ at hs p
+  at-below : (q : ℕ) (hs : List HeldLock) (p : ℕ) → p < q → said (removeAt q hs) p ≡ said hs p
   at-below q [] p l = refl
   at-below zero (h ∷ hs) p l = absurd (not-suc-le-zero l)
   at-below (suc q) (h ∷ hs) zero l = refl
   at-below (suc q) (h ∷ hs) (suc p) l = at-below q hs p (le-of-suc-le-suc l)
 
-  at-above : (q : ℕ) (hs : List HeldLock) (p : ℕ) → q ≤ p → at (removeAt q hs) p ≡ at hs (suc p)
+  at-above : (q : ℕ) (hs : List HeldLock) (p : ℕ) → q ≤ p → said (removeAt q hs) p ≡ said hs (suc p)
   at-above q [] p l = refl
   at-above zero (h ∷ hs) p l = refl
   at-above (suc q) (h ∷ hs) zero l = absurd (not-suc-le-zero l)
   at-above (suc q) (h ∷ hs) (suc p) l = at-above q hs p (le-of-suc-le-suc l)
 
-  at-past : (hs : List HeldLock) (p : ℕ) → length hs ≤ p → at hs p ≡ 0
+  at-past : (hs : List HeldLock) (p : ℕ) → length hs ≤ p → said hs p ≡ 0
   at-past [] p l = refl
   at-past (h ∷ hs) zero l = absurd (not-suc-le-zero l)
   at-past (h ∷ hs) (suc p) l = at-past hs p (le-of-suc-le-suc l)
 
-  module _ (hs : List HeldLock) (before after : ℕ → ℕ) (is : (p : ℕ) → p < maxDepth → before p ≡ at hs p) where
+  module _ (hs : List HeldLock) (before after : ℕ → ℕ) (is : (p : ℕ) → p < maxDepth → before p ≡ said hs p) where
     with-more : (h : HeldLock) → after (length hs) ≡ f h → ((p : ℕ) → p < maxDepth → (p ≡ length hs → ⊥) → after p ≡ before p)
-        → (p : ℕ) → p < maxDepth → after p ≡ at (hs ++ (h ∷ [])) p
+        → (p : ℕ) → p < maxDepth → after p ≡ said (hs ++ (h ∷ [])) p
     with-more h there else p l =
         elim (ℕ-discrete p (length hs)) [
           | yes e ↦ rw e (there ∙ sym (at-last hs h))
@@ -59,7 +59,7 @@ module _ (f : HeldLock → ℕ) where
         ]
 
     with-less : (q last : ℕ) → suc last ≡ length hs → length hs ≤ maxDepth → ((p : ℕ) → q ≤ p → p < last → after p ≡ before (suc p)) → after last ≡ 0
-        → ((p : ℕ) → p < maxDepth → (p < q) ⊎ (last < p) → after p ≡ before p) → (p : ℕ) → p < maxDepth → after p ≡ at (removeAt q hs) p
+        → ((p : ℕ) → p < maxDepth → (p < q) ⊎ (last < p) → after p ≡ before p) → (p : ℕ) → p < maxDepth → after p ≡ said (removeAt q hs) p
     with-less q last e few moved freed kept p l =
         elim (decLt p q) [
           | yes h ↦ kept p l (inl h) ∙ is p l ∙ sym (at-below q hs p h)
@@ -67,7 +67,7 @@ module _ (f : HeldLock → ℕ) where
         ]
       where
         -- Places from q on say what the place behind them did, and past the last lock that is nothing.
-        behind : q ≤ p → Dec (p < last) → Dec (p ≡ last) → after p ≡ at hs (suc p)
+        behind : q ≤ p → Dec (p < last) → Dec (p ≡ last) → after p ≡ said hs (suc p)
         behind lo (yes h) z = moved p lo h ∙ is (suc p) (omega arith)
         behind lo (no h) (yes z) = rw z (freed ∙ sym (at-past hs (suc last) (omega arith)))
         behind lo (no h) (no z) = kept p l (inr (omega arith)) ∙ is p l ∙ at-past hs p (omega arith) ∙ sym (at-past hs (suc p) (omega arith))

@@ -11,11 +11,8 @@ use Rattle.rules.specs.Limits.{maxDepth, heldModes}
 use Rattle.rules.specs.HeldLocks.{HeldLock, heldAs, someHeld}
 use Rattle.layout.specs.Layout.{heldOf, originOf}
 use Rattle.layout.specs.Encoding.{heldByte, heldOrigin}
-use Rattle.layout.proofs.Held.{mode-back, value-at}
+use Rattle.layout.proofs.Held.{unheld, mode-back, value-at}
 use Rattle.update.specs.Update.{FrameBytes, SmallLocks}
-
-pub unheld : HeldLock
-unheld = record { class = 0; mode = 0 }
 
 -- One place more.
 pub one-more : (c : ℕ) (test : HeldLock → Bool) (hs : List HeldLock) (p : ℕ) → p < length hs
@@ -38,7 +35,6 @@ pub record Lock (desk : List ℕ) (n p : ℕ) (h : HeldLock) : Type 0 where
 
 pub lock-at : (desk : List ℕ) (n : ℕ) (hs : List HeldLock) → FrameBytes desk n hs → SmallLocks hs → (p : ℕ) → p < length hs → p < maxDepth
     → Lock desk n p (getD hs p unheld)
-unfolding unheld
 lock-at desk n hs F small p l m =
     let h = getD hs p unheld in
     let e : heldOf desk n p ≡ heldByte h = F .held p m ∙ value-at heldByte hs p unheld l in

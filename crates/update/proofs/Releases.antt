@@ -13,8 +13,9 @@ use borrow.Author.Tests.{eq-eqb, ne-eqb}
 use Rattle.rules.specs.Limits.{maxDepth}
 use Rattle.rules.specs.HeldLocks.{HeldLock, isHeld, releaseNewest}
 use Rattle.layout.specs.Layout.{heldOf, depthOf}
+use Rattle.layout.proofs.Held.{unheld}
 use Rattle.update.specs.Update.{FrameBytes, SmallLocks, lastBelow, newestOf, removeAt}
-use Rattle.update.proofs.Prefixes.{unheld, lock-at}
+use Rattle.update.proofs.Prefixes.{lock-at}
 
 -- What `lastBelow` finds.
 data LastBelow (test : ℕ → Bool) (d : ℕ) : ℕ → Type 0 where

@@ -9,7 +9,7 @@ use lib.ListN.{length}
 use borrow.Author.Needs.{needs}
 use borrow.Author.Tests.{le-leb, lt-leb, not-true, not-false}
 use Rattle.rules.specs.Limits.{coreCount, maxClasses}
-use Rattle.layout.specs.Layout.{frameCount, originBits, deskSize, sheetSize, classesAt, classesOf, closedOf}
+use Rattle.layout.specs.Layout.{frameCount, placeCount, deskSize, sheetSize, classesAt, classesOf, closedOf}
 use Rattle.layout.specs.Fit.{allBelow, coreFits, frameFits, originFits, markFits, kindsFit, fits}
 use Rattle.fit.proofs.fits.Statement.{statement}
 use Rattle.fit.proofs.fits.Tie as tie
@@ -50,12 +50,12 @@ module _ (desk sheet : List ℕ) where
               bad-frame h = rw (le-leb _ _ long, le-leb _ _ some, le-leb _ _ few, le-leb _ _ square, le-leb _ _ flag, cores, h)
 
               module _ (frames : allBelow frameCount (frameFits (classesOf desk) desk) ≡ true) where
-                bad-origin : allBelow originBits (originFits desk) ≡ false → false ≡ fits desk sheet
+                bad-origin : allBelow placeCount (originFits desk) ≡ false → false ≡ fits desk sheet
                 unfolding fits
                 bad-origin h =
                     rw (le-leb _ _ long, le-leb _ _ some, le-leb _ _ few, le-leb _ _ square, le-leb _ _ flag, cores, frames, h)
 
-                module _ (origins : allBelow originBits (originFits desk) ≡ true) where
+                module _ (origins : allBelow placeCount (originFits desk) ≡ true) where
                   bad-mark : allBelow maxClasses (markFits (classesOf desk) desk) ≡ false → false ≡ fits desk sheet
                   unfolding fits
                   bad-mark h =
