@@ -1,7 +1,8 @@
-//! Links libplungerowl.a from the folder that PLUNGEROWL_LIB_DIR names, and makes the planted judges: one module each,
-//! the reference's source with the edits of plants.rs.
+//! Links libplungerowl.a from the folder that PLUNGEROWL_LIB_DIR names, and makes the planted judges: the reference's
+//! source, and below it a module for each, with the sections that an edit of plants.rs changes.
 mod plants;
 
+use std::collections::HashSet;
 use std::path::{Path, PathBuf};
 
 const REFERENCE: &str = "../reference/src/lib.rs";
@@ -33,22 +34,85 @@ fn edit(source: &str, plant: &str, old: &str, new: &str) -> String {
     source.replacen(old, new, 1)
 }
 
+/// A line that begins so begins a section.
+const RULE: &str = "// ------";
+
+fn sections(source: &str) -> Vec<String> {
+    let mut sections = vec![String::new()];
+    for line in source.split_inclusive('\n') {
+        if line.starts_with(RULE) {
+            sections.push(String::new());
+        }
+        sections.last_mut().unwrap().push_str(line);
+    }
+    sections
+}
+
+/// The words of a section's code: not of its comments and strings.
+fn words(section: &str) -> HashSet<&str> {
+    let code = section.lines().map(|line| line.split("//").next().unwrap_or(""));
+    let code = code.flat_map(|line| line.split('"').step_by(2));
+    code.flat_map(|code| code.split(|c: char| c != '_' && !c.is_alphanumeric())).collect()
+}
+
+/// The names that a section gives.
+fn names(section: &str) -> Vec<&str> {
+    let items = section.lines().filter_map(|line| {
+        let mut words = line.strip_prefix("pub ").unwrap_or(line).split(|c: char| c != '_' && !c.is_alphanumeric());
+        let item = ["fn", "const", "static", "struct", "enum", "type"].contains(&words.next()?);
+        words.next().filter(|_| item)
+    });
+    items.collect()
+}
+
+/// Which sections are changed by edits of these, as they or what they call are edited.
+fn changed(sections: &[String], mut changed: Vec<bool>) -> Vec<bool> {
+    loop {
+        let more = (0..sections.len()).find(|&at| {
+            let words = words(&sections[at]);
+            let calls = |other: &usize| names(&sections[*other]).iter().any(|name| words.contains(name));
+            !changed[at] && (0..sections.len()).filter(|&other| changed[other]).any(|other| calls(&other))
+        });
+        match more {
+            Some(at) => changed[at] = true,
+            None => return changed,
+        }
+    }
+}
+
+/// The calls of a judge, as in src/judges.rs.
+const CALLS: [&str; 7] = ["open", "step", "ask", "feed_start", "feed", "feed_end", "whole_log"];
+
 fn plant(out: &Path) {
     let reference = std::fs::read_to_string(REFERENCE).expect(REFERENCE);
     let reference = edit(&reference, "judges have no tests", "#[cfg(test)]\nmod tests;\n", "");
+    let program = reference.find("\npub fn run_log").and_then(|at| reference[..at].rfind(RULE));
+    let reference = &reference[..program.expect("the program's section is the last")];
+    let whole = sections(reference);
     let (mut modules, mut table) = (String::new(), String::new());
     for plants::Plant { name, wrong, sights, breaks, edits } in plants::PLANTS {
         assert!(!edits.is_empty(), "planted {name}: no edit");
-        let source = edits.iter().fold(reference.clone(), |source, (old, new)| edit(&source, name, old, new));
+        let source = edits.iter().fold(reference.to_string(), |source, (old, new)| edit(&source, name, old, new));
+        let edited = sections(&source);
+        let differ: Vec<bool> = edited.iter().zip(&whole).map(|(new, old)| new != old).collect();
+        // The last section is the feed's.
+        let of_feed = differ.iter().position(|differ| *differ) == Some(whole.len() - 1);
+        let changed = changed(&edited, differ);
+        let mut text = String::from("pub use super::*;\n");
+        text.extend(edited.into_iter().zip(changed).filter(|(_, changed)| *changed).map(|(section, _)| section));
         let path = out.join(format!("{name}.rs"));
-        std::fs::write(&path, source).expect("OUT_DIR can be written");
-        let module = name.replace('-', "_");
-        modules += &format!("#[allow(dead_code)]\n#[path = {path:?}]\nmod plant_{module};\n");
+        std::fs::write(&path, text).expect("OUT_DIR can be written");
+        let module = format!("plant_{}", name.replace('-', "_"));
+        modules += &format!("#[path = {path:?}]\npub mod {module};\n");
+        let calls = CALLS.map(|call| format!("{call}: judge::{module}::{call}")).join(", ");
         table += &format!(
-            "    Plant {{ name: {name:?}, wrong: {wrong:?}, sights: &{sights:?}, breaks: {breaks:?}, \
-             judge: Judge {{ open: plant_{module}::open, step: plant_{module}::step, ask: plant_{module}::ask }} }},\n"
+            "    Plant {{ name: {name:?}, wrong: {wrong:?}, sights: &{sights:?}, breaks: {breaks:?}, of_feed: {of_feed}, judge: Judge {{ {calls} }} }},\n"
         );
     }
-    let text = format!("{modules}\npub const PLANTS: &[Plant] = &[\n{table}];\n");
+    let path = out.join("judge.rs");
+    std::fs::write(&path, format!("{reference}\n{modules}")).expect("OUT_DIR can be written");
+    let text = format!(
+        "#[allow(dead_code, unused_imports)]\n#[path = {path:?}]\nmod judge;\n\npub const PLANTS: &[Plant] = &[\n{table}];\n"
+    );
     std::fs::write(out.join("planted.rs"), text).expect("OUT_DIR can be written");
 }

@@ -6,8 +6,9 @@ pub struct Plant {
     pub wrong: &'static str,
     /// Sights (see src/sights.rs): the call that shows it to be wrong must be one of them, where any are named.
     pub sights: &'static [&'static str],
-    /// The part of demand 3's claim (see src/claim.rs) that it breaks while it stands in the place of every judge, so
-    /// that no two of them differ; None if it is only tried in the library's place.
+    /// The part of demand 3's claim (see src/claim.rs) or of the feed's promise (see src/feeds.rs) that it breaks while
+    /// it stands in the place of every judge, so that no two of them differ; None if it is only tried in the library's
+    /// place.
     pub breaks: Option<&'static str>,
     /// Text of reference/src/lib.rs, and what stands there instead.
     pub edits: &'static [(&'static str, &'static str)],
@@ -27,6 +28,50 @@ const fn breaks(part: &'static str, plant: Plant) -> Plant {
 
 const ONLY_WITH_PATH: &str = "a fault only with a closed strong path";
 const ONLY_WITH_FAULT: &str = "a closed strong path only with a fault";
+
+const OVER_ANOTHER_CUT: &str = "the same over another cut";
+const AS_THE_WHOLE_LOG: &str = "as the whole log";
+const AS_SINGLE_STEPS: &str = "as single steps";
+
+/// Where a feed's piece is taken, and where its end is.
+const PIECE: &str = "    for &byte in piece {";
+const END: &str = "    if held.answer == 0 && (!held.opened || !held.loose.is_empty()) {";
+const PUSH: &str = "        held.loose.push(byte);";
+const AFTER_PIECE: &str = "            held.judge(desk, sheet, slip);
+        }
+    }
+    held.write(feed);";
+const AFTER_END: &str = "        held.judge(desk, sheet, slip);
+    }
+    held.write(feed);";
+const HEADER_JUDGED: &str = "self.opened = self.answer == 0;";
+const STOPS: &str = "        if held.answer != 0 {
+            break;";
+
+const ENDS_IN_HEADER: [&str; 3] =
+    ["end over 1 byte of the header", "end over 2 bytes of the header", "end over 3 bytes of the header"];
+const ENDS_WITH_3: [&str; 5] = [
+    "end over 1 loose byte, 3",
+    "end over 2 loose bytes, 3",
+    "end over 3 loose bytes, 3",
+    "end over 4 loose bytes, 3",
+    "end over 5 loose bytes, 3",
+];
+const ENDS_WITH_10: [&str; 5] = [
+    "end over 1 loose byte, 10",
+    "end over 2 loose bytes, 10",
+    "end over 3 loose bytes, 10",
+    "end over 4 loose bytes, 10",
+    "end over 5 loose bytes, 10",
+];
+const ENDS_WITH_11: [&str; 5] = [
+    "end over 1 loose byte, 11",
+    "end over 2 loose bytes, 11",
+    "end over 3 loose bytes, 11",
+    "end over 4 loose bytes, 11",
+    "end over 5 loose bytes, 11",
+];
+const ENDS_WITH_0: [&str; 2] = ["end right after the header", "end between records"];
 
 /// Where a try shows that it never waited.
 const IN_HANDLERS: [&str; 7] = [
@@ -745,5 +790,476 @@ pub const PLANTS: &[Plant] = &[
         "k-cut",
         "K is cut to a byte: 264 is 8",
         &[("    if k < 1 || k > MAX_K as u64 {", "    let k = k % 256;\n    if k < 1 || k > MAX_K as u64 {")],
+    ),
+    // The feed: the header.
+    plant(
+        "header-early",
+        "desk and sheet are opened at the header's third byte too",
+        &[(
+            PUSH,
+            "        held.loose.push(byte);
+        if !held.opened && held.loose.len() == 3 {
+            open(1, desk, sheet);
+        }",
+        )],
+    ),
+    shown(
+        &["wrong byte of a header that isn't complete"],
+        plant(
+            "header-at-once",
+            "a wrong first byte of the header is refused when it comes",
+            &[(
+                PUSH,
+                "        held.loose.push(byte);
+        if !held.opened && held.loose[0] != 0x4C {
+            held.judge(desk, sheet, slip);
+            continue;
+        }",
+            )],
+        ),
+    ),
+    shown(
+        &["header with a wrong first byte"],
+        plant("header-first-byte", "the header's first byte is not looked at", &[("[0x4C, 0x48, 0x01, k] =>", "[_, 0x48, 0x01, k] =>")]),
+    ),
+    shown(
+        &["header with a wrong second byte"],
+        plant("header-second-byte", "the header's second byte is not looked at", &[("[0x4C, 0x48, 0x01, k] =>", "[0x4C, _, 0x01, k] =>")]),
+    ),
+    breaks(
+        AS_THE_WHOLE_LOG,
+        shown(
+            &["header with a wrong third byte"],
+            plant("header-third-byte", "the header's third byte is not looked at", &[("[0x4C, 0x48, 0x01, k] =>", "[0x4C, 0x48, _, k] =>")]),
+        ),
+    ),
+    shown(
+        &["header with K over 64", "header that opens"],
+        plant("header-k-cut", "the header's K is cut to six bits", &[("open(u64::from(k), desk, sheet),", "open(u64::from(k % 64), desk, sheet),")]),
+    ),
+    shown(
+        &["header with a short desk", "header with a short sheet"],
+        plant(
+            "header-short-11",
+            "a desk or sheet too short for the header is answered with 11",
+            &[(
+                "=> open(u64::from(k), desk, sheet),",
+                "=> match open(u64::from(k), desk, sheet) {
+                    2 if k >= 1 && usize::from(k) <= MAX_K => 11,
+                    answer => answer,
+                },",
+            )],
+        ),
+    ),
+    plant(
+        "header-needs-slip",
+        "a slip too short is refused with the header",
+        &[("[0x4C, 0x48, 0x01, k] =>", "[0x4C, 0x48, 0x01, k] if slip.len() < slip_len(usize::from(k)) => 2,\n                [0x4C, 0x48, 0x01, k] =>")],
+    ),
+    plant("header-refused-opened", "a refused header counts as opened", &[(HEADER_JUDGED, "self.opened = true;")]),
+    plant(
+        "header-refused-1",
+        "a refused header has the number 1",
+        &[(HEADER_JUDGED, "self.opened = self.answer == 0;\n            self.number = u64::from(!self.opened);")],
+    ),
+    plant(
+        "header-counted",
+        "the header counts as a record",
+        &[(HEADER_JUDGED, "self.opened = self.answer == 0;\n            self.number = u64::from(self.opened);")],
+    ),
+    // The feed: pieces.
+    shown(
+        &["wrong byte of a record that isn't complete"],
+        plant(
+            "record-at-once",
+            "a wrong first byte of a record is refused when it comes",
+            &[(
+                PUSH,
+                "        held.loose.push(byte);
+        if held.opened && held.loose[0] != 0x4C {
+            held.judge(desk, sheet, slip);
+            continue;
+        }",
+            )],
+        ),
+    ),
+    breaks(
+        OVER_ANOTHER_CUT,
+        plant(
+            "loose-dropped",
+            "what is not complete at a piece's end is dropped",
+            &[(AFTER_PIECE, "            held.judge(desk, sheet, slip);\n        }\n    }\n    held.loose.clear();\n    held.write(feed);")],
+        ),
+    ),
+    shown(
+        &["piece that leaves 5 loose bytes of a record", "empty piece over loose bytes"],
+        plant(
+            "loose-four",
+            "at most four loose bytes are kept",
+            &[(AFTER_PIECE, "            held.judge(desk, sheet, slip);\n        }\n    }\n    held.loose.truncate(4);\n    held.write(feed);")],
+        ),
+    ),
+    shown(
+        &["piece within the header", "piece within a record"],
+        plant(
+            "loose-of-last",
+            "of what is cut twice only the last piece's bytes are kept",
+            &[(
+                PIECE,
+                "    if !piece.is_empty() && held.loose.len() + piece.len() < whole_item(held.opened) {
+        held.loose.clear();
+    }
+    for &byte in piece {",
+            )],
+        ),
+    ),
+    plant(
+        "loose-left",
+        "the places of loose bytes that are used no more keep them",
+        &[("        feed[..FEED].fill(0);\n        feed[STANDING]", "        feed[STANDING]")],
+    ),
+    breaks(
+        OVER_ANOTHER_CUT,
+        shown(
+            &["empty piece before the header", "empty piece over loose bytes"],
+            plant(
+                "empty-ends",
+                "an empty piece is an end",
+                &[(
+                    PIECE,
+                    "    if piece.is_empty() && held.answer == 0 && (!held.opened || !held.loose.is_empty()) {
+        held.judge(desk, sheet, slip);
+    }
+    for &byte in piece {",
+                )],
+            ),
+        ),
+    ),
+    shown(
+        &["piece of more than 65,535 bytes"],
+        plant("piece-16-bits", "a piece's length is cut to 16 bits", &[("in piece {", "in &piece[..piece.len() % 65536] {")]),
+    ),
+    // The feed: stops.
+    shown(
+        &[
+            "header refused, and bytes behind it",
+            "record that stops, and loose bytes behind it",
+            "record that stops, and a record behind it",
+        ],
+        plant(
+            "stop-later",
+            "what follows the record that stops is looked at in the same piece",
+            &[
+                (PIECE, "    let stopped = held.answer != 0;\n    for &byte in piece {"),
+                (STOPS, "        if stopped {\n            break;"),
+            ],
+        ),
+    ),
+    shown(
+        &[
+            "header refused, and bytes behind it",
+            "record that stops, and loose bytes behind it",
+            "record that stops, and a record behind it",
+            "piece after a stop",
+        ],
+        plant(
+            "stop-keeps",
+            "what follows the record that stops is kept",
+            &[(STOPS, "        if held.answer != 0 {\n            held.loose.push(byte);\n            if held.loose.len() == 3 {\n                break;\n            }\n            continue;")],
+        ),
+    ),
+    shown(
+        &["piece after a stop"],
+        plant(
+            "stop-for-a-piece",
+            "the next piece goes on after a stop",
+            &[(PIECE, "    if !piece.is_empty() {\n        held.answer = 0;\n    }\n    for &byte in piece {")],
+        ),
+    ),
+    shown(
+        &["piece after a stop", "empty piece after a stop"],
+        plant(
+            "stop-10",
+            "a piece after a stop is answered with 10",
+            &[(PIECE, "    if held.answer != 0 {\n        *record = held.number;\n        return 10;\n    }\n    for &byte in piece {")],
+        ),
+    ),
+    shown(
+        &["empty piece after a stop"],
+        plant(
+            "stop-empty-0",
+            "an empty piece after a stop is answered with 0",
+            &[(PIECE, "    if piece.is_empty() {\n        *record = held.number;\n        return 0;\n    }\n    for &byte in piece {")],
+        ),
+    ),
+    shown(
+        &["piece after a stop", "empty piece after a stop"],
+        plant(
+            "stop-counts",
+            "a piece after a stop is counted",
+            &[(PIECE, "    if held.opened && held.answer != 0 {\n        held.number = held.number.saturating_add(1);\n    }\n    for &byte in piece {")],
+        ),
+    ),
+    breaks(
+        AS_SINGLE_STEPS,
+        plant(
+            "stop-other-cycle",
+            "a fault in a feed shows another true cycle than the step, if there is one",
+            &[
+                ("self.answer = step(desk, sheet, slip, &self.loose);", "self.answer = step_apart(desk, sheet, slip, &self.loose);"),
+                ("let answer = step(desk, sheet, slip, record);", "let answer = step_apart(desk, sheet, slip, record);"),
+                (
+                    "/// A fresh feed, 16 zeros.",
+                    "fn step_apart(desk: &mut [u8], sheet: &mut [u8], slip: &mut [u8], record: &[u8]) -> u8 {
+    let answer = step(desk, sheet, slip, record);
+    if answer == 1 {
+        let arrows = (0..usize::from(slip[0])).flat_map(|i| [ER, EN, SR, SN].map(move |kind| (i, kind)));
+        for (i, kind, source) in arrows.flat_map(|(i, kind)| [0, 1, 2].map(move |source| (i, kind, source))) {
+            let old = [slip[2 + 3 * i], slip[3 + 3 * i]];
+            slip[2 + 3 * i..4 + 3 * i].copy_from_slice(&[kind, source]);
+            if old != [kind, source] && true_circle(desk, sheet, slip) {
+                break;
+            }
+            slip[2 + 3 * i..4 + 3 * i].copy_from_slice(&old);
+        }
+    }
+    answer
+}
+
+/// A fresh feed, 16 zeros.",
+                ),
+            ],
+        ),
+    ),
+    // The feed: the number.
+    shown(
+        &[
+            "number that reaches 2 to the 64 less 1",
+            "number that stays at 2 to the 64 less 1",
+            "end over loose bytes, the number at the top",
+        ],
+        plant("number-wraps", "the number goes from 2 to the 64 less 1 to 0", &[("self.number.saturating_add(1)", "self.number.wrapping_add(1)")]),
+    ),
+    plant(
+        "number-32-bits",
+        "the number has 32 bits",
+        &[("self.number.saturating_add(1)", "self.number.wrapping_add(1) & 0xFFFF_FFFF")],
+    ),
+    plant(
+        "number-high-first",
+        "the number has its high byte first",
+        &[
+            ("feed[NUMBER..FEED].iter().rev().fold(0,", "feed[NUMBER..FEED].iter().fold(0,"),
+            ("&self.number.to_le_bytes()", "&self.number.to_be_bytes()"),
+        ],
+    ),
+    plant(
+        "number-before",
+        "a refused record has the number of the one before",
+        &[(
+            "self.answer = step(desk, sheet, slip, &self.loose);",
+            "self.answer = step(desk, sheet, slip, &self.loose);\n            self.number -= u64::from(self.answer > 1);",
+        )],
+    ),
+    // The feed: ends.
+    shown(
+        &["end without a byte"],
+        plant("end-empty-0", "an end without a byte is answered with 0", &[(END, "    if held.answer == 0 && !held.loose.is_empty() {")]),
+    ),
+    shown(
+        &ENDS_IN_HEADER,
+        plant(
+            "end-short-header-0",
+            "an end over part of the header is answered with 0",
+            &[(END, "    if held.answer == 0 && held.opened != held.loose.is_empty() {")],
+        ),
+    ),
+    plant(
+        "end-header-3",
+        "an end before the header is complete is answered with 3",
+        &[(AFTER_END, "        held.judge(desk, sheet, slip);\n        held.answer = 3;\n    }\n    held.write(feed);")],
+    ),
+    shown(
+        &ENDS_WITH_0,
+        plant("end-step", "an end between records is a step with an empty record", &[(END, "    if held.answer == 0 {")]),
+    ),
+    shown(
+        &["end between records, the desk closed"],
+        plant(
+            "end-closed-10",
+            "an end between records is answered with 10 if the desk is closed",
+            &[(END, "    if held.answer == 0 && (!held.opened || !held.loose.is_empty() || desk.get(1) == Some(&1)) {")],
+        ),
+    ),
+    shown(
+        &ENDS_WITH_0,
+        plant(
+            "end-for-good",
+            "after an end that answers 0 a header must follow",
+            &[(
+                END,
+                "    if held.answer == 0 && held.opened && held.loose.is_empty() {
+        *record = held.number;
+        return feed_start(feed);
+    }
+    if held.answer == 0 && (!held.opened || !held.loose.is_empty()) {",
+            )],
+        ),
+    ),
+    plant(
+        "end-forgotten",
+        "an end's refusal is not kept",
+        &[(AFTER_END, "        held.judge(desk, sheet, slip);\n    }")],
+    ),
+    shown(
+        &ENDS_WITH_10,
+        plant(
+            "end-10",
+            "an end over loose bytes is answered with 3 before 10",
+            &[(AFTER_END, "        held.judge(desk, sheet, slip);\n        if held.answer == 10 {\n            held.answer = 3;\n        }\n    }\n    held.write(feed);")],
+        ),
+    ),
+    shown(
+        &ENDS_WITH_11,
+        plant(
+            "end-11",
+            "an end over loose bytes is answered with 3 before 11",
+            &[(AFTER_END, "        held.judge(desk, sheet, slip);\n        if held.answer == 11 {\n            held.answer = 3;\n        }\n    }\n    held.write(feed);")],
+        ),
+    ),
+    plant(
+        "end-number",
+        "an end over loose bytes has the number of the last record",
+        &[(AFTER_END, "        held.judge(desk, sheet, slip);\n        held.number -= u64::from(held.opened);\n    }\n    held.write(feed);")],
+    ),
+    shown(
+        &ENDS_WITH_3,
+        plant(
+            "end-fills-up",
+            "an end fills up a record with zeros",
+            &[(
+                END,
+                "    if held.opened && !held.loose.is_empty() {
+        held.loose.resize(RECORD, 0);
+    }
+    if held.answer == 0 && (!held.opened || !held.loose.is_empty()) {",
+            )],
+        ),
+    ),
+    shown(
+        &["end after a stop"],
+        plant(
+            "end-stop-0",
+            "an end after a stop is answered with 0",
+            &[(END, "    if held.answer != 0 {\n        *record = held.number;\n        return 0;\n    }\n    if held.answer == 0 && (!held.opened || !held.loose.is_empty()) {")],
+        ),
+    ),
+    // The feed's fit test.
+    plant(
+        "feed-short-2",
+        "a feed too short is answered with 2",
+        &[(
+            "else {\n        return 11;\n    };\n    for &byte in piece {",
+            "else {\n        return if feed.len() < FEED { 2 } else { 11 };\n    };\n    for &byte in piece {",
+        )],
+    ),
+    plant(
+        "feed-unfit-record",
+        "the record number is not written at a piece for an unfit feed",
+        &[(
+            "    *record = 0;
+    let Some(mut held) = Feed::read(feed) else {
+        return 11;
+    };
+    for &byte in piece {",
+            "    let Some(mut held) = Feed::read(feed) else {
+        return 11;
+    };
+    for &byte in piece {",
+        )],
+    ),
+    plant(
+        "feed-unfit-end-record",
+        "the record number is not written at an end for an unfit feed",
+        &[(
+            "    *record = 0;
+    let Some(mut held) = Feed::read(feed) else {
+        return 11;
+    };
+    if held.answer == 0",
+            "    let Some(mut held) = Feed::read(feed) else {
+        return 11;
+    };
+    if held.answer == 0",
+        )],
+    ),
+    plant(
+        "feed-unfit-started",
+        "an unfit feed is started anew",
+        &[(
+            "else {\n        return 11;\n    };\n    for &byte in piece {",
+            "else {\n        feed_start(feed);\n        return 11;\n    };\n    for &byte in piece {",
+        )],
+    ),
+    plant("feed-opened-2", "the feed's byte 1 may be 2", &[("if feed[OPENED] > 1 {", "if feed[OPENED] > 2 {")]),
+    plant(
+        "feed-loose-5",
+        "five loose bytes are fit before the header too",
+        &[
+            ("if kept >= whole_item(opened) {", "if kept > LOOSE {"),
+            ("if held.loose.len() == whole_item(held.opened) {", "if held.loose.len() >= whole_item(held.opened) {"),
+        ],
+    ),
+    plant(
+        "feed-unused-first",
+        "the first unused loose byte is not looked at",
+        &[("feed[KEEP + kept..NUMBER].iter().any(", "feed[KEEP + kept..NUMBER].iter().skip(1).any(")],
+    ),
+    plant(
+        "feed-unused-last",
+        "the last unused loose byte is not looked at",
+        &[("feed[KEEP + kept..NUMBER].iter().any(", "feed[KEEP + kept..NUMBER].iter().rev().skip(1).any(")],
+    ),
+    plant("feed-loose-standing", "loose bytes may stand beside an answer", &[("if answer != 0 && kept != 0 {", "if answer == 1 && kept != 0 {")]),
+    plant("feed-early-10", "10 is fit before opening", &[("answer != 0 && answer != 2 {", "answer != 0 && answer != 2 && answer != 10 {")]),
+    plant("feed-early-number", "a number is fit before opening", &[("if !opened && !at_0 {", "if !opened && answer != 0 && !at_0 {")]),
+    plant("feed-late-2", "2 is fit after opening", &[("![0, 1, 3, 4,", "![0, 1, 2, 3, 4,")]),
+    plant("feed-late-9", "9 is fit after opening", &[("7, 8, 10, 11].contains(&answer)", "7, 8, 9, 10, 11].contains(&answer)")]),
+    plant("feed-late-12", "12 is fit after opening", &[("7, 8, 10, 11].contains(&answer)", "7, 8, 10, 11, 12].contains(&answer)")]),
+    plant("feed-late-10", "10 is unfit, which no start leads to", &[("7, 8, 10, 11].contains(&answer)", "7, 8, 11].contains(&answer)")]),
+    plant(
+        "feed-answer-at-0",
+        "an answer but 1 is fit at record 0 after opening",
+        &[("if opened && answer != 0 && at_0 {", "if opened && answer == 1 && at_0 {")],
+    ),
+    plant(
+        "feed-number-byte",
+        "the number's last byte is not looked at",
+        &[("feed[NUMBER..FEED].iter().all(|&b| b == 0)", "feed[NUMBER..FEED - 1].iter().all(|&b| b == 0)")],
+    ),
+    // The feed's start.
+    shown(
+        &["start of a feed a byte short"],
+        plant(
+            "start-short",
+            "a feed a byte short is started",
+            &[(
+                "    if feed.len() < FEED {\n        return 2;\n    }\n    feed[..FEED].fill(0);",
+                "    if feed.len() < FEED - 1 {\n        return 2;\n    }\n    let end = feed.len().min(FEED);\n    feed[..end].fill(0);",
+            )],
+        ),
+    ),
+    plant("start-11", "a start of a short feed is answered with 11", &[("    if feed.len() < FEED {\n        return 2;", "    if feed.len() < FEED {\n        return 11;")]),
+    shown(
+        &["start of a longer feed"],
+        plant(
+            "start-past",
+            "a start clears a byte past the feed's size",
+            &[("\n    feed[..FEED].fill(0);\n    0\n", "\n    let end = feed.len().min(FEED + 1);\n    feed[..end].fill(0);\n    0\n")],
+        ),
+    ),
+    shown(
+        &["start over a used feed"],
+        plant("start-number", "a start leaves the number", &[("\n    feed[..FEED].fill(0);\n    0\n", "\n    feed[..NUMBER].fill(0);\n    0\n")]),
     ),
 ];

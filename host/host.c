@@ -1,31 +1,41 @@
 /*
  * host.c - validate a lock log through libplungerowl.a.
  *
- * Usage: host [LOG]      (standard input without LOG)
+ * Usage: host [-p BYTES] [LOG]      (standard input without LOG)
  *
- * Prints what the program prints (docs/FORMATS.md, "The program") and, after a
- * clean or faulted log, one line "class C reaches N: i j k" for each class from
- * which a strong path leads to something.
+ * Feeds the log as it comes, a read a piece, up to the first answer but 0; a
+ * read asks for BYTES bytes, 1 to 1048576, or 4096 without -p. Prints what the
+ * program prints (docs/FORMATS.md, "The program") and, after a clean or faulted
+ * log, one line "class C reaches N: i j k" for each class from which a strong
+ * path leads to something.
  *
  * Exit status: 0 the whole output was written, whatever it says; 2 trouble with
  * usage, input, output or memory; 3 the library broke its promises (guard
  * bytes, answers).
  */
+#define _POSIX_C_SOURCE 200809L
+#include <errno.h>
+#include <fcntl.h>
 #include <inttypes.h>
 #include <stdint.h>
 #include <stdio.h>
 #include <stdlib.h>
+#include <string.h>
+#include <unistd.h>
 
 #include "guarded.h"
 #include "plungerowl.h"
 
 enum { STATUS_OK = 0, STATUS_TROUBLE = 2, STATUS_LIBRARY = 3 };
+enum { PIECE_SIZE = 4096, MOST_PIECE_SIZE = 1 << 20 };
 
+/* K is known with the header only: sheet and slip are for the most classes. */
 struct buffers {
-    unsigned classes;
+    struct guarded feed;
     struct guarded desk;
     struct guarded sheet;
     struct guarded slip;
+    struct guarded piece;
 };
 
 static void quit(int status, const char *message)
@@ -35,47 +45,66 @@ static void quit(int status, const char *message)
     exit(status);
 }
 
-static void make_buffers(struct buffers *b, unsigned classes)
+static void make_buffers(struct buffers *b, size_t piece_size)
 {
-    b->classes = classes;
-    if (!guarded_make(&b->desk, PLUNGEROWL_DESK_SIZE, 0xEE)
+    const unsigned classes = PLUNGEROWL_MAX_CLASSES;
+
+    if (!guarded_make(&b->feed, PLUNGEROWL_FEED_SIZE, 0xEE)
+        || !guarded_make(&b->desk, PLUNGEROWL_DESK_SIZE, 0xEE)
         || !guarded_make(&b->sheet, PLUNGEROWL_SHEET_SIZE(classes), 0xEE)
-        || !guarded_make(&b->slip, PLUNGEROWL_SLIP_SIZE(classes), 0xEE))
+        || !guarded_make(&b->slip, PLUNGEROWL_SLIP_SIZE(classes), 0xEE)
+        || !guarded_make(&b->piece, piece_size, 0xEE))
         quit(STATUS_TROUBLE, "out of memory");
 }
 
 static void free_buffers(struct buffers *b)
 {
+    guarded_free(&b->feed);
     guarded_free(&b->desk);
     guarded_free(&b->sheet);
     guarded_free(&b->slip);
+    guarded_free(&b->piece);
 }
 
 static void check_guards(const struct buffers *b)
 {
+    if (!guarded_intact(&b->feed))
+        quit(STATUS_LIBRARY, "bytes around the feed were changed");
     if (!guarded_intact(&b->desk))
         quit(STATUS_LIBRARY, "bytes around the desk were changed");
     if (!guarded_intact(&b->sheet))
         quit(STATUS_LIBRARY, "bytes around the sheet were changed");
     if (!guarded_intact(&b->slip))
         quit(STATUS_LIBRARY, "bytes around the slip were changed");
+    if (!guarded_intact(&b->piece))
+        quit(STATUS_LIBRARY, "bytes around the piece were changed");
 }
 
-static unsigned open_buffers(struct buffers *b)
+static void start_feed(struct buffers *b)
 {
-    unsigned answer = plungerowl_open(b->classes, b->desk.bytes, b->desk.size,
-                                      b->sheet.bytes, b->sheet.size);
+    if (plungerowl_feed_start(b->feed.bytes, b->feed.size) != PLUNGEROWL_OK)
+        quit(STATUS_LIBRARY, "the feed was refused");
+    check_guards(b);
+}
+
+/* Feed the first bytes of the piece. */
+static unsigned feed_piece(struct buffers *b, size_t length, uint64_t *record)
+{
+    unsigned answer = plungerowl_feed(b->feed.bytes, b->feed.size,
+                                      b->desk.bytes, b->desk.size,
+                                      b->sheet.bytes, b->sheet.size,
+                                      b->slip.bytes, b->slip.size,
+                                      b->piece.bytes, length, record);
     check_guards(b);
     return answer;
 }
 
-static unsigned step_buffers(struct buffers *b, const uint8_t *record,
-                             size_t length)
+static unsigned end_feed(struct buffers *b, uint64_t *record)
 {
-    unsigned answer = plungerowl_step(b->desk.bytes, b->desk.size,
-                                      b->sheet.bytes, b->sheet.size,
-                                      b->slip.bytes, b->slip.size,
-                                      record, length);
+    unsigned answer = plungerowl_feed_end(b->feed.bytes, b->feed.size,
+                                          b->desk.bytes, b->desk.size,
+                                          b->sheet.bytes, b->sheet.size,
+                                          b->slip.bytes, b->slip.size, record);
     check_guards(b);
     return answer;
 }
@@ -90,42 +119,30 @@ static unsigned ask_buffers(const struct buffers *b, unsigned class_,
     return answer;
 }
 
-/* Read up to size bytes; fewer only at the end of the input. */
-static size_t read_input(FILE *input, uint8_t *bytes, size_t size)
+/* Read the next piece; its length, 0 at the end of the input. */
+static size_t read_piece(struct buffers *b, int input)
 {
-    size_t length = fread(bytes, 1, size, input);
+    ssize_t length;
 
-    if (ferror(input))
+    do {
+        length = read(input, b->piece.bytes, b->piece.size);
+    } while (length < 0 && errno == EINTR);
+    if (length < 0)
         quit(STATUS_TROUBLE, "the log cannot be read");
-    return length;
+    return (size_t)length;
 }
 
-/* The header's K, or -1 for a short or wrong header. */
-static int read_header(FILE *input)
+/* Feed piece after piece, up to the first answer but 0, or to the end. */
+static unsigned feed_log(struct buffers *b, int input, uint64_t *record)
 {
-    uint8_t header[PLUNGEROWL_HEADER_SIZE];
-
-    if (read_input(input, header, sizeof header) < sizeof header)
-        return -1;
-    if (header[0] != 0x4C || header[1] != 0x48 || header[2] != 0x01)
-        return -1;
-    return header[3];
-}
-
-/* Step through the records up to the first answer but 0. */
-static unsigned validate_records(struct buffers *b, FILE *input,
-                                 uint64_t *records)
-{
-    uint8_t record[PLUNGEROWL_RECORD_SIZE];
     unsigned answer = PLUNGEROWL_OK;
     size_t length;
 
-    *records = 0;
-    while (answer == PLUNGEROWL_OK
-           && (length = read_input(input, record, sizeof record)) > 0) {
-        *records += 1;
-        answer = step_buffers(b, record, length);
-    }
+    start_feed(b);
+    while (answer == PLUNGEROWL_OK && (length = read_piece(b, input)) > 0)
+        answer = feed_piece(b, length, record);
+    if (answer == PLUNGEROWL_OK)
+        answer = end_feed(b, record);
     return answer;
 }
 
@@ -152,13 +169,19 @@ static const char *source_name(unsigned source)
     return "";
 }
 
+/* K of an opened desk. */
+static unsigned classes_of(const struct buffers *b)
+{
+    return b->desk.bytes[0];
+}
+
 static void print_cycle(const struct buffers *b)
 {
     const uint8_t *slip = b->slip.bytes;
     unsigned n = slip[0];
     unsigned i;
 
-    if (n < 1 || n > b->classes)
+    if (n < 1 || n > classes_of(b))
         quit(STATUS_LIBRARY, "the slip has a wrong length");
     for (i = 0; i < n; i++) {
         const uint8_t *entry = slip + 1 + 3 * i;
@@ -180,7 +203,7 @@ static void print_reach_of(const struct buffers *b, unsigned class_)
     if (count == 0)
         return;
     printf("class %u reaches %" PRIu32 ":", class_, count);
-    for (i = 0; i < b->classes; i++)
+    for (i = 0; i < classes_of(b); i++)
         if (word >> i & 1)
             printf(" %u", i);
     printf("\n");
@@ -190,62 +213,59 @@ static void print_reach(const struct buffers *b)
 {
     unsigned class_;
 
-    for (class_ = 0; class_ < b->classes; class_++)
+    for (class_ = 0; class_ < classes_of(b); class_++)
         print_reach_of(b, class_);
 }
 
-static void print_refusal(unsigned answer, uint64_t record)
-{
-    printf("refused %u at record %" PRIu64 "\n", answer, record);
-}
-
-static void validate_opened(struct buffers *b, FILE *input)
-{
-    uint64_t records;
-    unsigned answer = validate_records(b, input, &records);
-
-    if (answer == PLUNGEROWL_OK) {
-        printf("clean, %" PRIu64 " records\n", records);
-        print_reach(b);
-    } else if (answer == PLUNGEROWL_FAULT) {
-        printf("fault at record %" PRIu64 "\n", records);
-        print_cycle(b);
-        print_reach(b);
-    } else {
-        print_refusal(answer, records);
-    }
-}
-
-static void validate_log(FILE *input)
+static void validate_log(int input, size_t piece_size)
 {
     struct buffers b;
-    int classes = read_header(input);
+    uint64_t record = 0;
     unsigned answer;
 
-    if (classes < 0) {
-        print_refusal(PLUNGEROWL_BAD_OPENING, 0);
-        return;
+    make_buffers(&b, piece_size);
+    answer = feed_log(&b, input, &record);
+    if (answer == PLUNGEROWL_OK) {
+        printf("clean, %" PRIu64 " records\n", record);
+        print_reach(&b);
+    } else if (answer == PLUNGEROWL_FAULT) {
+        printf("fault at record %" PRIu64 "\n", record);
+        print_cycle(&b);
+        print_reach(&b);
+    } else {
+        printf("refused %u at record %" PRIu64 "\n", answer, record);
     }
-    make_buffers(&b, (unsigned)classes);
-    answer = open_buffers(&b);
-    if (answer == PLUNGEROWL_OK)
-        validate_opened(&b, input);
-    else
-        print_refusal(answer, 0);
     free_buffers(&b);
+}
+
+static size_t piece_size_of(const char *text)
+{
+    char *end;
+    unsigned long size = strtoul(text, &end, 10);
+
+    if (text[0] < '0' || text[0] > '9' || *end != '\0' || size < 1
+        || size > MOST_PIECE_SIZE)
+        quit(STATUS_TROUBLE, "a piece has 1 to 1048576 bytes");
+    return size;
 }
 
 int main(int argc, char **argv)
 {
-    FILE *input = stdin;
+    size_t piece_size = PIECE_SIZE;
+    int input = STDIN_FILENO;
 
+    if (argc > 2 && strcmp(argv[1], "-p") == 0) {
+        piece_size = piece_size_of(argv[2]);
+        argc -= 2;
+        argv += 2;
+    }
     if (argc > 2)
-        quit(STATUS_TROUBLE, "usage: host [LOG]");
-    if (argc == 2 && (input = fopen(argv[1], "rb")) == NULL)
+        quit(STATUS_TROUBLE, "usage: host [-p BYTES] [LOG]");
+    if (argc == 2 && (input = open(argv[1], O_RDONLY)) < 0)
         quit(STATUS_TROUBLE, "the log cannot be opened");
-    validate_log(input);
-    if (input != stdin)
-        fclose(input);
+    validate_log(input, piece_size);
+    if (input != STDIN_FILENO)
+        close(input);
     if (fflush(stdout) != 0 || ferror(stdout))
         quit(STATUS_TROUBLE, "the output cannot be written");
     return STATUS_OK;

@@ -1,10 +1,14 @@
 /*
  * planted.c - wrong versions of the library, which the selftest must catch.
  *
- * The real calls, renamed to real_open, real_step and real_ask, and around them
- * one mistake: the one whose name is in the environment variable PLANT, or none
- * for "none". host/run_tests reads the list below and tries each plant with the
- * test of the selftest that is meant for it.
+ * The real calls, renamed to real_open and so on, and around them one mistake:
+ * the one whose name is in the environment variable PLANT, or none for "none".
+ * host/run_tests reads the lists below and tries each plant with the test of
+ * the selftest that is meant for it.
+ *
+ * The feed has a second version here, in C over real_open and real_step, with
+ * places for mistakes; the plants of the second list and "feed_right", which
+ * has no mistake, use it.
  */
 #include <stdlib.h>
 #include <string.h>
@@ -116,12 +120,182 @@
     X(ask_reads_behind_sheet, short_buffers, killed) \
     X(ask_desk_without_origins, unfit_lengths, wrong)
 
+#define FEED_PLANTS(X) \
+    X(start_short_by_one, feed_start, wrong) \
+    X(start_short_writes, feed_start, wrong) \
+    X(start_leaves_answer, feed_again, wrong) \
+    X(start_leaves_opened, feed_again, wrong) \
+    X(start_leaves_loose, feed_start, wrong) \
+    X(start_leaves_number, feed_start, wrong) \
+    X(start_clears_all, feed_start, wrong) \
+    X(start_writes_before, feed_start, wrong) \
+    X(feed_fit_short, feed_short, wrong) \
+    X(feed_fit_opened_2, feed_unfit, wrong) \
+    X(feed_fit_opened_255, feed_unfit, wrong) \
+    X(feed_fit_header_count_4, feed_unfit, wrong) \
+    X(feed_fit_header_count_5, feed_unfit, wrong) \
+    X(feed_fit_record_count_6, feed_unfit, wrong) \
+    X(feed_fit_record_count_255, feed_unfit, wrong) \
+    X(feed_fit_unused_first, feed_unfit, wrong) \
+    X(feed_fit_unused_last, feed_unfit, wrong) \
+    X(feed_fit_unused_last_of_header, feed_unfit, wrong) \
+    X(feed_fit_unused_past_the_next, feed_unfit, wrong) \
+    X(feed_fit_answer_with_loose, feed_unfit, wrong) \
+    X(feed_fit_2_with_loose, feed_unfit, wrong) \
+    X(feed_fit_answer_before_opening, feed_unfit, wrong) \
+    X(feed_fit_number_before_opening, feed_unfit, wrong) \
+    X(feed_fit_high_number_before_opening, feed_unfit, wrong) \
+    X(feed_fit_number_with_2, feed_unfit, wrong) \
+    X(feed_fit_2_opened, feed_unfit, wrong) \
+    X(feed_fit_9, feed_unfit, wrong) \
+    X(feed_fit_12, feed_unfit, wrong) \
+    X(feed_fit_255, feed_unfit, wrong) \
+    X(feed_fit_answer_at_0, feed_unfit, wrong) \
+    X(feed_fit_answer_at_0_only_1, feed_unfit, wrong) \
+    X(feed_fit_answer_at_256_refused, feed_unfit, wrong) \
+    X(feed_fit_10_refused, feed_unfit, wrong) \
+    X(feed_fit_11_refused, feed_unfit, wrong) \
+    X(feed_fit_2_refused, feed_header, wrong) \
+    X(feed_fit_5_loose_refused, feed_cuts, wrong) \
+    X(feed_fit_number_0_refused, feed_header, wrong) \
+    X(feed_fit_not_tested_at_end, feed_unfit, wrong) \
+    X(feed_fit_not_tested_for_nothing, feed_unfit, wrong) \
+    X(unfit_feed_as_2, feed_unfit, wrong) \
+    X(unfit_feed_started, feed_unfit, wrong) \
+    X(unfit_feed_stays, feed_unfit, wrong) \
+    X(unfit_feed_record_left, feed_unfit, wrong) \
+    X(unfit_feed_record_of_buffer, feed_unfit, wrong) \
+    X(unfit_feed_record_1, feed_short, wrong) \
+    X(opens_at_first_byte, feed_header, wrong) \
+    X(opens_at_third_byte, feed_header, wrong) \
+    X(opens_with_2, feed_header, wrong) \
+    X(opens_with_the_record, feed_header, wrong) \
+    X(opening_clears_slip, feed_header, wrong) \
+    X(header_byte_by_byte, feed_header, wrong) \
+    X(header_signature_half, feed_header, wrong) \
+    X(header_version_any, feed_header, wrong) \
+    X(header_k_cut, feed_header, wrong) \
+    X(header_k_over_as_64, feed_header, wrong) \
+    X(header_counted, feed_header, wrong) \
+    X(header_2_at_record_1, feed_header, wrong) \
+    X(header_2_opened, feed_header, wrong) \
+    X(header_2_forgotten, feed_stop, wrong) \
+    X(header_2_keeps_loose, feed_cuts, wrong) \
+    X(short_desk_as_11, feed_lengths, wrong) \
+    X(short_sheet_as_11, feed_lengths, wrong) \
+    X(short_slip_as_2, feed_lengths, wrong) \
+    X(short_desk_at_first_byte, feed_lengths, wrong) \
+    X(record_byte_by_byte, feed_record, wrong) \
+    X(record_core_at_once, feed_record, wrong) \
+    X(record_of_five_bytes, feed_record, wrong) \
+    X(follows_stop, feed_stop, wrong) \
+    X(follows_fault, feed_stop, wrong) \
+    X(follows_refusal, feed_stop, wrong) \
+    X(keeps_loose_of_stopping_record, feed_cuts, wrong) \
+    X(keeps_loose_behind_stop, feed_stop, wrong) \
+    X(takes_all_into_loose, feed_stop, wrong) \
+    X(number_off_at_fault, feed_cuts, wrong) \
+    X(number_off_at_refusal, feed_stop, wrong) \
+    X(number_off_at_clean, feed_cuts, wrong) \
+    X(number_of_the_piece, feed_cuts, wrong) \
+    X(loses_fifth_loose, feed_cuts, wrong) \
+    X(loses_third_loose_of_header, feed_cuts, wrong) \
+    X(loose_reversed, feed_end_loose, wrong) \
+    X(loose_places_left, feed_cuts, wrong) \
+    X(loose_count_left, feed_cuts, wrong) \
+    X(loose_dropped_before_4c, feed_record, wrong) \
+    X(loose_in_the_library, feed_two, wrong) \
+    X(empty_piece_resets, feed_between, wrong) \
+    X(empty_piece_drops_loose, feed_between, wrong) \
+    X(empty_piece_says_0, feed_between, wrong) \
+    X(empty_piece_counts, feed_between, wrong) \
+    X(empty_piece_ends, feed_between, wrong) \
+    X(empty_piece_looks_at_desk, feed_not_looked_at, wrong) \
+    X(long_piece_cut_at_255, feed_long, wrong) \
+    X(long_piece_cut_at_4096, feed_long, wrong) \
+    X(long_piece_cut_at_65535, feed_many, wrong) \
+    X(last_byte_lost, feed_cuts, wrong) \
+    X(stopped_says_0, feed_stop, wrong) \
+    X(stopped_says_10, feed_stop, wrong) \
+    X(stopped_counts, feed_stop, wrong) \
+    X(stopped_goes_on, feed_stop, wrong) \
+    X(stopped_starts_at_header, feed_stop, wrong) \
+    X(stopped_empty_says_0, feed_stop, wrong) \
+    X(stopped_looks_at_desk, feed_stop, wrong) \
+    X(stopped_asks_desk_again, feed_other_writer, wrong) \
+    X(stop_by_10_forgotten, feed_other_writer, wrong) \
+    X(stop_by_11_forgotten, feed_other_writer, wrong) \
+    X(number_wraps, feed_number, wrong) \
+    X(number_of_8_bits, feed_many, wrong) \
+    X(number_of_16_bits, feed_many, wrong) \
+    X(number_of_32_bits, feed_number, wrong) \
+    X(number_of_63_bits, feed_number, wrong) \
+    X(number_stays_too_early, feed_number, wrong) \
+    X(number_high_byte_first, feed_cuts, wrong) \
+    X(number_stored_in_4_bytes, feed_number, wrong) \
+    X(record_of_32_bits, feed_number, wrong) \
+    X(record_left_at_clean, feed_cuts, wrong) \
+    X(record_left_when_stopped, feed_stop, wrong) \
+    X(record_left_at_the_end, feed_end, wrong) \
+    X(record_writes_behind, feed_cuts, wrong) \
+    X(feed_writes_past_16, feed_classes, wrong) \
+    X(feed_writes_before, feed_cuts, wrong) \
+    X(feed_writes_slip, feed_cuts, wrong) \
+    X(feed_writes_sheet, feed_cuts, wrong) \
+    X(feed_writes_piece, feed_cuts, wrong) \
+    X(feed_reads_behind_feed, feed_example, killed) \
+    X(feed_reads_before_feed, feed_example, killed) \
+    X(feed_reads_behind_piece, feed_example, killed) \
+    X(feed_reads_before_piece, feed_example, killed) \
+    X(feed_reads_short_feed, feed_short, killed) \
+    X(feed_reads_desk_before_opening, feed_not_looked_at, killed) \
+    X(end_answers_0, feed_end, wrong) \
+    X(end_answers_0_to_five, feed_end, wrong) \
+    X(end_answers_0_to_nothing, feed_end, wrong) \
+    X(end_answers_3_to_short_header, feed_end, wrong) \
+    X(end_answers_2_opened, feed_end, wrong) \
+    X(end_answers_3_for_11, feed_end_order, wrong) \
+    X(end_answers_3_for_10, feed_end_order, wrong) \
+    X(end_answers_10_for_11, feed_end_order, wrong) \
+    X(end_answers_11_without_loose, feed_end_order, wrong) \
+    X(end_answers_10_without_loose, feed_end_order, wrong) \
+    X(end_forgets_2, feed_end, wrong) \
+    X(end_forgets_3, feed_end, wrong) \
+    X(end_forgets_10, feed_end_order, wrong) \
+    X(end_forgets_11, feed_end_order, wrong) \
+    X(end_opens, feed_end, wrong) \
+    X(end_opens_short_header, feed_end, wrong) \
+    X(end_pads_record, feed_end, wrong) \
+    X(end_closes_desk, feed_end, wrong) \
+    X(end_writes_slip, feed_end, wrong) \
+    X(end_writes_past_16, feed_again, wrong) \
+    X(end_keeps_loose, feed_end, wrong) \
+    X(end_keeps_loose_of_header, feed_end, wrong) \
+    X(end_number_not_counted, feed_end, wrong) \
+    X(end_number_two_more, feed_end, wrong) \
+    X(end_number_off_at_clean, feed_end, wrong) \
+    X(end_number_0, feed_end, wrong) \
+    X(end_2_at_record_1, feed_end, wrong) \
+    X(end_number_wraps, feed_number, wrong) \
+    X(end_starts_again, feed_end, wrong) \
+    X(end_stops, feed_end, wrong) \
+    X(end_drops_stop, feed_stop, wrong) \
+    X(end_repeats_as_3, feed_stop, wrong) \
+    X(end_repeats_number_more, feed_stop, wrong) \
+    X(end_reads_behind_feed, feed_end, killed)
+
 #define ENUMERATOR(name, test, how) name,
 #define NAME(name, test, how) #name,
 
-enum plant { PLANTS(ENUMERATOR) none };
-static const char *const names[] = { PLANTS(NAME) "none" };
+enum plant { PLANTS(ENUMERATOR) FEED_PLANTS(ENUMERATOR) feed_right, none };
+static const char *const names[] = { PLANTS(NAME) FEED_PLANTS(NAME)
+                                     "feed_right", "none" };
 
+uint8_t real_feed_start(uint8_t *, size_t);
+uint8_t real_feed(uint8_t *, size_t, uint8_t *, size_t, uint8_t *, size_t,
+                  uint8_t *, size_t, const uint8_t *, size_t, uint64_t *);
+uint8_t real_feed_end(uint8_t *, size_t, uint8_t *, size_t, uint8_t *, size_t,
+                      uint8_t *, size_t, uint64_t *);
 uint8_t real_open(uint64_t, uint8_t *, size_t, uint8_t *, size_t);
 uint8_t real_step(uint8_t *, size_t, uint8_t *, size_t, uint8_t *, size_t,
                   const uint8_t *, size_t);
@@ -722,6 +896,680 @@ uint8_t plungerowl_ask(const uint8_t *desk, size_t desk_len,
         if (answer == PLUNGEROWL_OK && bit_at(desk, PLACES - 1))
             return PLUNGEROWL_UNFIT;
         break;
+    default: break;
+    }
+    return answer;
+}
+
+/* ---------------------------------------------------------------- the feed */
+
+enum { ANSWER_AT = PLUNGEROWL_FEED_ANSWER_AT,
+       OPENED_AT = PLUNGEROWL_FEED_OPENED_AT,
+       COUNT_AT = PLUNGEROWL_FEED_COUNT_AT,
+       LOOSE_AT = PLUNGEROWL_FEED_LOOSE_AT,
+       NUMBER_AT = PLUNGEROWL_FEED_NUMBER_AT, FEED_SIZE = PLUNGEROWL_FEED_SIZE,
+       MOST_LOOSE = PLUNGEROWL_MOST_LOOSE,
+       HEADER_SIZE = PLUNGEROWL_HEADER_SIZE,
+       RECORD_SIZE = PLUNGEROWL_RECORD_SIZE };
+
+static int is_feed_plant(void)
+{
+    return plant() > ask_desk_without_origins && plant() <= feed_right;
+}
+
+/* What a call was lent. */
+struct lent {
+    uint8_t *feed;
+    size_t feed_len;
+    uint8_t *desk;
+    size_t desk_len;
+    uint8_t *sheet;
+    size_t sheet_len;
+    uint8_t *slip;
+    size_t slip_len;
+    uint64_t *record;
+};
+
+/* What is in a feed. */
+struct progress {
+    unsigned answer, opened, count;
+    uint8_t loose[PLUNGEROWL_RECORD_SIZE];
+    uint64_t number;
+};
+
+/* Where byte i of the number is, low byte first. */
+static unsigned number_at(unsigned i)
+{
+    return NUMBER_AT + (plant() == number_high_byte_first ? 7 - i : i);
+}
+
+static struct progress load(const uint8_t *feed)
+{
+    static const struct progress fresh;
+    struct progress p = fresh;
+    unsigned i;
+
+    p.answer = feed[ANSWER_AT];
+    p.opened = feed[OPENED_AT];
+    p.count = feed[COUNT_AT];
+    for (i = 0; i < MOST_LOOSE; i++)
+        p.loose[plant() == loose_reversed ? MOST_LOOSE - 1 - i : i]
+            = feed[LOOSE_AT + i];
+    for (i = 0; i < 8; i++)
+        p.number |= (uint64_t)feed[number_at(i)] << 8 * i;
+    return p;
+}
+
+static void save(uint8_t *feed, const struct progress *p)
+{
+    unsigned i;
+
+    feed[ANSWER_AT] = (uint8_t)p->answer;
+    feed[OPENED_AT] = (uint8_t)p->opened;
+    if (p->count > 0 || plant() != loose_count_left)
+        feed[COUNT_AT] = (uint8_t)p->count;
+    for (i = 0; i < MOST_LOOSE; i++) {
+        unsigned from = plant() == loose_reversed ? MOST_LOOSE - 1 - i : i;
+
+        if (from < p->count)
+            feed[LOOSE_AT + i] = p->loose[from];
+        else if (plant() != loose_places_left)
+            feed[LOOSE_AT + i] = 0;
+    }
+    if (plant() == loses_fifth_loose)
+        feed[LOOSE_AT + 4] = 0;
+    if (plant() == loses_third_loose_of_header && !p->opened)
+        feed[LOOSE_AT + 2] = 0;
+    for (i = 0; i < (plant() == number_stored_in_4_bytes ? 4 : 8); i++)
+        feed[number_at(i)] = (uint8_t)(p->number >> 8 * i);
+}
+
+static int fits_feed(const uint8_t *feed, size_t length)
+{
+    struct progress p;
+    unsigned i;
+
+    if (length < FEED_SIZE)
+        return 0;
+    p = load(feed);
+    if (p.opened > 1
+        || p.count >= (unsigned)(p.opened ? RECORD_SIZE : HEADER_SIZE))
+        return 0;
+    for (i = p.count; i < MOST_LOOSE; i++)
+        if (feed[LOOSE_AT + i] != 0)
+            return 0;
+    if (p.answer != 0 && p.count > 0)
+        return 0;
+    if (!p.opened)
+        return (p.answer == 0 || p.answer == 2) && p.number == 0;
+    return p.answer == 0
+           || (p.number > 0 && p.answer <= 11 && p.answer != 2
+               && p.answer != 9);
+}
+
+/* An unfit feed that a wrong fit test takes: a clause is not seen. */
+static int takes_unfit(const uint8_t *feed, size_t length)
+{
+    struct progress p = load(feed);
+
+    if (plant() == feed_fit_short)
+        return length == FEED_SIZE - 1;
+    if (length < FEED_SIZE)
+        return 0;
+    switch (plant()) {
+    case feed_fit_opened_2: return p.opened == 2;
+    case feed_fit_opened_255: return p.opened == 255;
+    case feed_fit_header_count_4: return p.opened == 0 && p.count == 4;
+    case feed_fit_header_count_5: return p.opened == 0 && p.count == 5;
+    case feed_fit_record_count_6: return p.opened == 1 && p.count == 6;
+    case feed_fit_record_count_255: return p.opened == 1 && p.count == 255;
+    case feed_fit_unused_first: return p.count == 0 && p.loose[0] != 0;
+    case feed_fit_unused_last: return p.opened == 1 && p.loose[4] != 0;
+    case feed_fit_unused_last_of_header:
+        return p.opened == 0 && p.loose[4] != 0;
+    case feed_fit_unused_past_the_next:
+        return p.answer == 0 && p.count < 4 && p.loose[p.count] == 0
+               && p.number <= 1;
+    case feed_fit_answer_with_loose:
+        return p.opened == 1 && p.answer != 0 && p.count > 0;
+    case feed_fit_2_with_loose: return p.answer == 2 && p.count > 0;
+    case feed_fit_answer_before_opening:
+        return p.opened == 0 && p.answer != 0 && p.answer != 2;
+    case feed_fit_number_before_opening:
+        return p.opened == 0 && p.answer == 0 && p.number != 0;
+    case feed_fit_high_number_before_opening:
+        return p.opened == 0 && p.answer == 0 && p.number % 256 == 0;
+    case feed_fit_number_with_2: return p.answer == 2 && p.number != 0;
+    case feed_fit_2_opened: return p.answer == 2 && p.opened == 1;
+    case feed_fit_9: return p.answer == 9 && p.number != 0;
+    case feed_fit_12: return p.answer == 12 && p.number != 0;
+    case feed_fit_255: return p.answer == 255 && p.number != 0;
+    case feed_fit_answer_at_0: return p.opened == 1 && p.number == 0;
+    case feed_fit_answer_at_0_only_1:
+        return p.opened == 1 && p.answer == 1 && p.number == 0;
+    default: return 0;
+    }
+}
+
+/* A fit feed that a wrong fit test refuses. */
+static int refuses_fit(const uint8_t *feed)
+{
+    struct progress p = load(feed);
+
+    switch (plant()) {
+    case feed_fit_answer_at_256_refused:
+        return p.opened == 1 && p.answer != 0 && p.number % 256 == 0;
+    case feed_fit_10_refused: return p.answer == 10;
+    case feed_fit_11_refused: return p.answer == 11;
+    case feed_fit_2_refused: return p.answer == 2;
+    case feed_fit_5_loose_refused: return p.count == 5;
+    case feed_fit_number_0_refused: return p.opened == 1 && p.number == 0;
+    default: return 0;
+    }
+}
+
+/* The answer to an unfit feed. */
+static uint8_t refuse_feed(struct lent *l, uint64_t number)
+{
+    if (plant() == unfit_feed_started)
+        memset(l->feed, 0, l->feed_len < FEED_SIZE ? l->feed_len : FEED_SIZE);
+    if (plant() == unfit_feed_stays && l->feed_len > 0)
+        l->feed[ANSWER_AT] = PLUNGEROWL_UNFIT;
+    if (plant() == feed_reads_short_feed)
+        peek(l->feed + FEED_SIZE - 1);
+    if (plant() != unfit_feed_record_left)
+        *l->record = plant() == unfit_feed_record_of_buffer ? number
+                     : plant() == unfit_feed_record_1;
+    return plant() == unfit_feed_as_2 ? PLUNGEROWL_BAD_OPENING
+                                      : PLUNGEROWL_UNFIT;
+}
+
+static uint64_t one_more(uint64_t number)
+{
+    switch (plant()) {
+    case number_wraps: return number + 1;
+    case number_of_8_bits: return (number + 1) & 0xFF;
+    case number_of_16_bits: return (number + 1) & 0xFFFF;
+    case number_of_32_bits: return (number + 1) & 0xFFFFFFFF;
+    case number_of_63_bits: return (number + 1) & INT64_MAX;
+    case number_stays_too_early:
+        return number < UINT64_MAX - 1 ? number + 1 : number;
+    default: return number < UINT64_MAX ? number + 1 : number;
+    }
+}
+
+static unsigned open_late; /* K of a header whose opening comes too late */
+
+static void judge_header(struct lent *l, struct progress *p)
+{
+    const uint8_t *unit = p->loose;
+    unsigned k = unit[3];
+    int in_range = k >= 1 && k <= PLUNGEROWL_MAX_CLASSES;
+
+    if (unit[0] != 0x4C
+        || (unit[1] != 0x48 && plant() != header_signature_half)
+        || (unit[2] != 1 && plant() != header_version_any))
+        k = 0;
+    if (plant() == header_k_cut)
+        k &= 127;
+    if (plant() == header_k_over_as_64 && k > PLUNGEROWL_MAX_CLASSES)
+        k = PLUNGEROWL_MAX_CLASSES;
+    if (plant() == short_slip_as_2 && l->slip_len < PLUNGEROWL_SLIP_SIZE(k))
+        k = 0;
+    open_late = plant() == opens_with_the_record ? k : 0;
+    p->answer = open_late ? PLUNGEROWL_OK
+                          : real_open(k, l->desk, l->desk_len,
+                                      l->sheet, l->sheet_len);
+    p->opened = p->answer == PLUNGEROWL_OK;
+    p->count = 0;
+    if (p->opened) {
+        if (plant() == opening_clears_slip)
+            memset(l->slip, 0, l->slip_len);
+        if (plant() == header_counted)
+            p->number++;
+        return;
+    }
+    if (in_range && ((plant() == short_desk_as_11 && l->desk_len < DESK_SIZE)
+                     || (plant() == short_sheet_as_11
+                         && l->sheet_len < PLUNGEROWL_SHEET_SIZE(k))))
+        p->answer = PLUNGEROWL_UNFIT;
+    switch (plant()) {
+    case opens_with_2:
+        if (l->desk_len > 0)
+            l->desk[0] = 0;
+        break;
+    case header_2_at_record_1: p->number = 1; break;
+    case header_2_opened: p->opened = 1; break;
+    case header_2_keeps_loose: p->count = HEADER_SIZE - 1; break;
+    default: break;
+    }
+}
+
+static void judge_record(struct lent *l, struct progress *p)
+{
+    p->answer = real_step(l->desk, l->desk_len, l->sheet, l->sheet_len,
+                          l->slip, l->slip_len, p->loose, p->count);
+    p->count = 0;
+    p->number = one_more(p->number);
+    switch (plant()) {
+    case number_off_at_fault: p->number += p->answer == 1; break;
+    case number_off_at_refusal: p->number -= p->answer > 1; break;
+    case keeps_loose_of_stopping_record:
+        if (p->answer != 0)
+            p->count = MOST_LOOSE;
+        break;
+    default: break;
+    }
+}
+
+/* A wrong version does something before header or record is complete. */
+static void judge_early(struct lent *l, struct progress *p)
+{
+    static const uint8_t begins[2][3] = { { 0x4C, 0x48, 1 },
+                                          { 0x4C, 0x4B, 0 } };
+    uint8_t byte = p->loose[p->count - 1];
+
+    if (!p->opened) {
+        if ((plant() == opens_at_first_byte && p->count == 1)
+            || (plant() == opens_at_third_byte && p->count == 3))
+            real_open(1, l->desk, l->desk_len, l->sheet, l->sheet_len);
+        if (plant() == feed_reads_desk_before_opening)
+            peek(l->desk);
+        if (plant() == feed_writes_sheet && l->sheet_len > 0)
+            l->sheet[0] = 0;
+        if ((plant() == header_byte_by_byte && byte != begins[0][p->count - 1])
+            || (plant() == short_desk_at_first_byte
+                && l->desk_len < DESK_SIZE)) {
+            p->answer = PLUNGEROWL_BAD_OPENING;
+            p->count = 0;
+        }
+    } else {
+        if (open_late > 0)
+            real_open(open_late, l->desk, l->desk_len, l->sheet, l->sheet_len);
+        open_late = 0;
+        if ((plant() == record_byte_by_byte && p->count <= 2
+             && byte != begins[1][p->count - 1])
+            || (plant() == record_core_at_once && p->count == 3
+                && byte >= PLUNGEROWL_CORES)
+            || (plant() == record_of_five_bytes && p->count == 5))
+            judge_record(l, p);
+    }
+}
+
+static void take_byte(struct lent *l, struct progress *p, uint8_t byte)
+{
+    p->loose[p->count++] = byte;
+    if (p->count < (unsigned)(p->opened ? RECORD_SIZE : HEADER_SIZE))
+        judge_early(l, p);
+    else if (p->opened)
+        judge_record(l, p);
+    else
+        judge_header(l, p);
+}
+
+/* Whether a wrong version goes on behind an answer but 0. */
+static int follows(const struct progress *p)
+{
+    return plant() == follows_stop
+           || (plant() == follows_fault && p->answer == 1)
+           || (plant() == follows_refusal && p->answer > 2);
+}
+
+static void take_piece(struct lent *l, struct progress *p,
+                       const uint8_t *piece, size_t length)
+{
+    size_t i;
+
+    for (i = 0; i < length; i++) {
+        if (p->answer != 0 && plant() == keeps_loose_behind_stop
+            && p->count < MOST_LOOSE)
+            p->loose[p->count++] = piece[i];
+        else if (p->answer == 0 || follows(p))
+            take_byte(l, p, piece[i]);
+    }
+    if (p->answer != 0 && p->count > 0 && plant() == follows_stop)
+        p->count = 0;
+}
+
+/* A feed that has stopped goes on in a wrong version. */
+static void spoil_stopped(struct lent *l, struct progress *p,
+                          const uint8_t *piece, size_t length)
+{
+    static const struct progress fresh;
+
+    switch (plant()) {
+    case stopped_counts: p->number++; break;
+    case stopped_goes_on: p->answer = p->opened ? 0 : p->answer; break;
+    case stopped_starts_at_header:
+        if (length >= 2 && piece[0] == 0x4C && piece[1] == 0x48)
+            *p = fresh;
+        break;
+    case stopped_looks_at_desk:
+        if (l->desk_len < DESK_SIZE)
+            p->answer = PLUNGEROWL_UNFIT;
+        break;
+    case stopped_asks_desk_again:
+        if (p->answer == 10 && l->desk_len > 1 && l->desk[1] == 0)
+            p->answer = 0;
+        break;
+    case takes_all_into_loose:
+        if (length > 0)
+            p->loose[p->count++] = piece[0];
+        break;
+    default: break;
+    }
+}
+
+/* An empty piece does something in a wrong version. */
+static void spoil_empty(struct lent *l, struct progress *p)
+{
+    static const struct progress fresh;
+
+    switch (plant()) {
+    case empty_piece_resets: *p = fresh; break;
+    case empty_piece_drops_loose: p->count = 0; break;
+    case empty_piece_counts: p->number += p->opened; break;
+    case empty_piece_looks_at_desk:
+        if (p->opened && l->desk_len < DESK_SIZE) {
+            p->answer = PLUNGEROWL_UNFIT;
+            p->number++;
+        }
+        break;
+    default: break;
+    }
+}
+
+/* Loose bytes that the library would keep itself. */
+static void spoil_loose(struct progress *p, int before)
+{
+    static uint8_t kept[PLUNGEROWL_MOST_LOOSE];
+
+    if (plant() != loose_in_the_library)
+        return;
+    if (before)
+        memcpy(p->loose, kept, p->count);
+    else
+        memcpy(kept, p->loose, p->count);
+}
+
+/* Write the record number; the answer. */
+static uint8_t say(struct lent *l, const struct progress *p, int stopped,
+                   size_t length)
+{
+    uint64_t number = p->number;
+    unsigned answer = p->answer;
+
+    if (plant() == number_off_at_clean && p->answer == 0)
+        number++;
+    if (plant() == empty_piece_says_0 && length == 0)
+        number = 0;
+    if (plant() == record_of_32_bits)
+        number &= 0xFFFFFFFF;
+    if (plant() == record_writes_behind)
+        l->record[1] = 0;
+    if (stopped && (plant() == stopped_says_0
+                    || (plant() == stopped_empty_says_0 && length == 0)))
+        answer = 0;
+    if (stopped && plant() == stopped_says_10 && answer == 1)
+        answer = 10;
+    if (!(plant() == record_left_at_clean && p->answer == 0)
+        && !(plant() == record_left_when_stopped && stopped))
+        *l->record = number;
+    return (uint8_t)answer;
+}
+
+/* The refusal at the end, as a wrong version gives it. */
+static void spoil_end(struct lent *l, struct progress *p,
+                      const struct progress *old)
+{
+    switch (plant()) {
+    case end_answers_0: *p = *old; break;
+    case end_answers_0_to_five:
+        if (old->count == 5)
+            *p = *old;
+        break;
+    case end_answers_0_to_nothing:
+        if (!old->opened && old->count == 0)
+            *p = *old;
+        break;
+    case end_answers_3_to_short_header:
+        p->answer = PLUNGEROWL_BAD_RECORD;
+        break;
+    case end_answers_2_opened: p->answer = PLUNGEROWL_BAD_OPENING; break;
+    case end_answers_3_for_11:
+        p->answer = p->answer == 11 ? PLUNGEROWL_BAD_RECORD : p->answer;
+        break;
+    case end_answers_3_for_10:
+        p->answer = p->answer == 10 ? PLUNGEROWL_BAD_RECORD : p->answer;
+        break;
+    case end_answers_10_for_11:
+        if (p->answer == 11 && l->desk_len > 1 && l->desk[1] == 1)
+            p->answer = 10;
+        break;
+    case end_opens:
+        if (!old->opened)
+            real_open(1, l->desk, l->desk_len, l->sheet, l->sheet_len);
+        break;
+    case end_opens_short_header:
+        if (old->count == 3 && !old->opened) {
+            p->answer = real_open(1, l->desk, l->desk_len, l->sheet,
+                                  l->sheet_len);
+            p->opened = p->answer == 0;
+        }
+        break;
+    case end_closes_desk:
+        if (l->desk_len > 1)
+            l->desk[1] = 1;
+        break;
+    case end_writes_slip:
+        if (l->slip_len > 0)
+            l->slip[0] = 0;
+        break;
+    case end_keeps_loose: p->count = old->opened ? old->count : 0; break;
+    case end_keeps_loose_of_header:
+        p->count = old->opened ? 0 : old->count;
+        break;
+    case end_number_not_counted: p->number = old->number; break;
+    case end_number_two_more: p->number += old->opened; break;
+    case end_number_0: p->number = 0; break;
+    case end_2_at_record_1: p->number += !old->opened; break;
+    case end_number_wraps: p->number = old->number + old->opened; break;
+    default: break;
+    }
+}
+
+static void take_end(struct lent *l, struct progress *p)
+{
+    static const struct progress fresh;
+    const struct progress old = *p;
+
+    if (!p->opened) {
+        p->answer = PLUNGEROWL_BAD_OPENING;
+        p->count = 0;
+        spoil_end(l, p, &old);
+    } else if (p->count > 0) {
+        if (plant() == end_pads_record)
+            while (p->count < RECORD_SIZE)
+                p->loose[p->count++] = 0;
+        judge_record(l, p);
+        spoil_end(l, p, &old);
+    } else if (plant() == end_starts_again) {
+        *p = fresh;
+    } else if (plant() == end_stops) {
+        p->answer = PLUNGEROWL_CLOSED;
+    } else if (plant() == end_answers_11_without_loose
+               || plant() == end_answers_10_without_loose) {
+        judge_record(l, p);
+        if (p->answer != (plant() == end_answers_11_without_loose ? 11u : 10u))
+            *p = old;
+    }
+}
+
+/* Whether a wrong version forgets the answer that it has just given. */
+static int forgets(unsigned answer, int ended)
+{
+    switch (plant()) {
+    case header_2_forgotten: return !ended && answer == 2;
+    case stop_by_10_forgotten: return !ended && answer == 10;
+    case stop_by_11_forgotten: return !ended && answer == 11;
+    case end_forgets_2: return ended && answer == 2;
+    case end_forgets_3: return ended && answer == 3;
+    case end_forgets_10: return ended && answer == 10;
+    case end_forgets_11: return ended && answer == 11;
+    default: return 0;
+    }
+}
+
+/* A piece, or the end. */
+static uint8_t feed_or_end(struct lent *l, const uint8_t *piece, size_t length,
+                           int ended)
+{
+    uint8_t feed[PLUNGEROWL_FEED_SIZE] = { 0 };
+    struct progress p, forgotten;
+    uint8_t answer;
+    int stopped, unfit;
+
+    memcpy(feed, l->feed, l->feed_len < FEED_SIZE ? l->feed_len : FEED_SIZE);
+    unfit = !fits_feed(feed, l->feed_len);
+    if (unfit && (takes_unfit(feed, l->feed_len)
+                  || (plant() == feed_fit_not_tested_at_end && ended)
+                  || (plant() == feed_fit_not_tested_for_nothing && !ended
+                      && length == 0))) {
+        *l->record = 0;
+        return PLUNGEROWL_OK;
+    }
+    p = load(feed);
+    if (unfit || refuses_fit(feed))
+        return refuse_feed(l, p.number);
+    stopped = p.answer != 0;
+    if (plant() == number_of_the_piece && !stopped)
+        p.number = 0;
+    if (plant() == loose_dropped_before_4c && length > 0 && piece[0] == 0x4C)
+        p.count = 0;
+    spoil_loose(&p, 1);
+    if (stopped)
+        spoil_stopped(l, &p, piece, length);
+    if (!ended && length == 0)
+        spoil_empty(l, &p);
+    forgotten = p;
+    if (ended || (plant() == empty_piece_ends && length == 0)) {
+        if (!stopped)
+            take_end(l, &p);
+    } else {
+        take_piece(l, &p, piece, length);
+    }
+    spoil_loose(&p, 0);
+    answer = say(l, &p, stopped, length);
+    save(l->feed, !stopped && forgets(p.answer, ended) ? &forgotten : &p);
+    return answer;
+}
+
+uint8_t plungerowl_feed_start(uint8_t *feed, size_t feed_len)
+{
+    uint8_t old[PLUNGEROWL_FEED_SIZE];
+
+    if (!is_feed_plant())
+        return real_feed_start(feed, feed_len);
+    if (plant() == start_short_by_one && feed_len == FEED_SIZE - 1)
+        return PLUNGEROWL_OK;
+    if (feed_len < FEED_SIZE) {
+        if (plant() == start_short_writes && feed_len > 0)
+            feed[0] = 0;
+        return PLUNGEROWL_BAD_OPENING;
+    }
+    memcpy(old, feed, FEED_SIZE);
+    memset(feed, 0, plant() == start_clears_all ? feed_len : FEED_SIZE);
+    switch (plant()) {
+    case start_leaves_answer: feed[ANSWER_AT] = old[ANSWER_AT]; break;
+    case start_leaves_opened: feed[OPENED_AT] = old[OPENED_AT]; break;
+    case start_leaves_loose:
+        memcpy(feed + LOOSE_AT, old + LOOSE_AT, MOST_LOOSE);
+        break;
+    case start_leaves_number:
+        memcpy(feed + NUMBER_AT, old + NUMBER_AT, 8);
+        break;
+    case start_writes_before: feed[-1] = 0; break;
+    default: break;
+    }
+    return PLUNGEROWL_OK;
+}
+
+uint8_t plungerowl_feed(uint8_t *feed, size_t feed_len,
+                        uint8_t *desk, size_t desk_len,
+                        uint8_t *sheet, size_t sheet_len,
+                        uint8_t *slip, size_t slip_len,
+                        const uint8_t *piece, size_t piece_len,
+                        uint64_t *record)
+{
+    struct lent l = { feed, feed_len, desk, desk_len, sheet, sheet_len,
+                      slip, slip_len, record };
+    size_t taken = piece_len;
+    uint8_t answer;
+
+    if (!is_feed_plant())
+        return real_feed(feed, feed_len, desk, desk_len, sheet, sheet_len,
+                         slip, slip_len, piece, piece_len, record);
+    if (plant() == long_piece_cut_at_255)
+        taken &= 255;
+    if (plant() == long_piece_cut_at_4096 && taken > 4096)
+        taken = 4096;
+    if (plant() == long_piece_cut_at_65535)
+        taken &= 65535;
+    if (plant() == last_byte_lost && taken > 1)
+        taken--;
+    answer = feed_or_end(&l, piece, taken, 0);
+    switch (plant()) {
+    case feed_writes_past_16:
+        if (feed_len > FEED_SIZE)
+            feed[FEED_SIZE] = 0;
+        break;
+    case feed_writes_before: feed[-1] = 0; break;
+    case feed_writes_slip:
+        if (slip_len > 0 && answer == PLUNGEROWL_OK)
+            slip[0] = 0;
+        break;
+    case feed_writes_piece:
+        if (piece_len > 0)
+            ((uint8_t *)piece)[0] ^= 1;
+        break;
+    case feed_reads_behind_feed: peek(feed + feed_len); break;
+    case feed_reads_before_feed: peek(feed - 1); break;
+    case feed_reads_behind_piece: peek(piece + piece_len); break;
+    case feed_reads_before_piece: peek(piece - 1); break;
+    default: break;
+    }
+    return answer;
+}
+
+uint8_t plungerowl_feed_end(uint8_t *feed, size_t feed_len,
+                            uint8_t *desk, size_t desk_len,
+                            uint8_t *sheet, size_t sheet_len,
+                            uint8_t *slip, size_t slip_len, uint64_t *record)
+{
+    struct lent l = { feed, feed_len, desk, desk_len, sheet, sheet_len,
+                      slip, slip_len, record };
+    uint64_t old_record = *record;
+    int stopped = feed_len >= FEED_SIZE && feed[ANSWER_AT] != 0;
+    uint8_t answer;
+
+    if (!is_feed_plant())
+        return real_feed_end(feed, feed_len, desk, desk_len, sheet, sheet_len,
+                             slip, slip_len, record);
+    answer = feed_or_end(&l, feed, 0, 1);
+    switch (plant()) {
+    case record_left_at_the_end: *record = old_record; break;
+    case end_writes_past_16:
+        if (feed_len > FEED_SIZE)
+            feed[FEED_SIZE] = 0;
+        break;
+    case end_number_off_at_clean: *record += answer == 0; break;
+    case end_drops_stop:
+        if (stopped)
+            memset(feed, 0, FEED_SIZE);
+        break;
+    case end_repeats_as_3: return stopped ? PLUNGEROWL_BAD_RECORD : answer;
+    case end_repeats_number_more: *record += stopped; break;
+    case end_reads_behind_feed: peek(feed + feed_len); break;
     default: break;
     }
     return answer;

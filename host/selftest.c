@@ -11,8 +11,8 @@
  * Beside the lent buffers stand copies of what should be in them. After every
  * call all bytes are compared with the copies: sizes, tails of longer buffers,
  * and guard bytes. All tests run three times: with guard bytes on both sides of
- * each buffer and record, and with a page that must not even be read right
- * before and right behind them.
+ * each buffer, record and piece, and with a page that must not even be read
+ * right before and right behind them.
  */
 #define _DEFAULT_SOURCE
 #include <inttypes.h>
@@ -38,6 +38,17 @@
 #define FRAMES PLUNGEROWL_FRAMES
 #define DEPTH PLUNGEROWL_MAX_DEPTH
 
+/* And for the feed. */
+#define ANSWER_AT PLUNGEROWL_FEED_ANSWER_AT
+#define OPENED_AT PLUNGEROWL_FEED_OPENED_AT
+#define COUNT_AT PLUNGEROWL_FEED_COUNT_AT
+#define LOOSE_AT PLUNGEROWL_FEED_LOOSE_AT
+#define NUMBER_AT PLUNGEROWL_FEED_NUMBER_AT
+#define FEED_SIZE PLUNGEROWL_FEED_SIZE
+#define MOST_LOOSE PLUNGEROWL_MOST_LOOSE
+#define HEADER_SIZE PLUNGEROWL_HEADER_SIZE
+#define RECORD_SIZE PLUNGEROWL_RECORD_SIZE
+
 #define FILL 0x5A /* what is in the buffers before the first call */
 #define GUARD_WORD UINT64_C(0x123456789ABCDEF0)
 #define GUARD_COUNT 99
@@ -53,6 +64,7 @@ static unsigned long checks;
 static unsigned long failures;
 static int only_first;
 static int open_met[256], step_met[256], ask_met[256];
+static int start_met[256], feed_met[256], end_met[256];
 
 static void check(int right, const char *format, ...)
 {
@@ -430,18 +442,23 @@ static void open_buffers(struct buffers *b, unsigned k, size_t tail)
 }
 
 #define LONGEST_RECORD 12
+#define LONGEST_PIECE 70000
 
-/* A lent buffer for a record of the length, with the bytes in it. */
-static const struct guarded *lent_record(const uint8_t *record, size_t length)
+/* A record or a piece of the length, lent with the bytes in it. */
+static const struct guarded *lent_bytes(const uint8_t *bytes, size_t length)
 {
-    static struct guarded lent[FENCE_BEHIND + 1][LONGEST_RECORD + 1];
-    struct guarded *g = &lent[sides][length];
+    static struct guarded rooms[FENCE_BEHIND + 1], lent;
+    struct guarded *room = &rooms[sides];
 
-    if (g->bytes == NULL)
-        make_lent(g, length);
-    guarded_fill(g, FILL);
-    memcpy(g->bytes, record, length);
-    return g;
+    if (room->bytes == NULL)
+        make_lent(room, LONGEST_PIECE);
+    lent = *room;
+    lent.size = length;
+    if (sides == FENCE_BEHIND)
+        lent.bytes += room->size - length;
+    guarded_fill(&lent, FILL);
+    memcpy(lent.bytes, bytes, length);
+    return &lent;
 }
 
 /* Step with the first bytes of each buffer, and a record of its own. */
@@ -449,7 +466,7 @@ static unsigned call_step(struct buffers *b, size_t desk_len, size_t sheet_len,
                           size_t slip_len, const uint8_t *record, size_t length,
                           const char *what)
 {
-    const struct guarded *lent = lent_record(record, length);
+    const struct guarded *lent = lent_bytes(record, length);
     unsigned is = plungerowl_step(b->desk.bytes, desk_len,
                                   b->sheet.bytes, sheet_len,
                                   b->slip.bytes, slip_len,
@@ -538,6 +555,9 @@ static void test_sizes(void)
     check(PLUNGEROWL_SHEET_SIZE(3 + 5) == 64, "sheet size");
     check(PLUNGEROWL_SLIP_SIZE(3 + 5) == 25, "slip size");
     check(PLUNGEROWL_RECORD_SIZE == 6, "record size");
+    check(ANSWER_AT == 0 && OPENED_AT == 1 && COUNT_AT == 2 && LOOSE_AT == 3
+          && NUMBER_AT == 8 && FEED_SIZE == 16, "places in the feed");
+    check(PLUNGEROWL_MOST_LOOSE == 5, "most loose bytes");
 }
 
 /* The names of plungerowl.h have the numbers of the format. */
@@ -1961,6 +1981,1260 @@ static void test_ask_marks(void)
     free_buffers(&b);
 }
 
+/* --------------------------------------------------------------- the feed */
+
+/* A feed, the buffers that go with it, and what should be in it. The lengths
+ * are those handed over. */
+struct feeding {
+    struct buffers b;
+    struct guarded feed, want_feed;
+    size_t feed_len, desk_len, sheet_len, slip_len;
+};
+
+/* What a call said. */
+struct said {
+    unsigned answer;
+    uint64_t number;
+};
+
+static uint64_t number_in(const uint8_t *feed)
+{
+    uint64_t number = 0;
+    unsigned i;
+
+    for (i = 8; i-- > 0;)
+        number = 256 * number + feed[NUMBER_AT + i];
+    return number;
+}
+
+static void put_number_in(uint8_t *feed, uint64_t number)
+{
+    unsigned i;
+
+    for (i = 0; i < 8; i++, number /= 256)
+        feed[NUMBER_AT + i] = (uint8_t)(number % 256);
+}
+
+/* Write into the feed and into its copy. */
+static void put_feed(struct feeding *f, size_t at, unsigned value)
+{
+    f->feed.bytes[at] = f->want_feed.bytes[at] = (uint8_t)value;
+}
+
+static void put_number(struct feeding *f, uint64_t number)
+{
+    put_number_in(f->feed.bytes, number);
+    put_number_in(f->want_feed.bytes, number);
+}
+
+static void put_whole_feed(struct feeding *f, unsigned answer, unsigned opened,
+                           unsigned count, uint64_t number)
+{
+    unsigned i;
+
+    put_feed(f, ANSWER_AT, answer);
+    put_feed(f, OPENED_AT, opened);
+    put_feed(f, COUNT_AT, count);
+    for (i = 0; i < MOST_LOOSE; i++)
+        put_feed(f, LOOSE_AT + i, 0);
+    put_number(f, number);
+}
+
+/* The fit test of docs/FORMATS.md. */
+static int feed_fits(const uint8_t *feed, size_t length)
+{
+    static const char stands[2][13] = { "x-x---------", "xx-xxxxxx-xx" };
+    unsigned i;
+
+    if (length < FEED_SIZE || feed[OPENED_AT] > 1
+        || feed[COUNT_AT] > (feed[OPENED_AT] == 1 ? MOST_LOOSE
+                                                  : HEADER_SIZE - 1))
+        return 0;
+    for (i = 0; i < MOST_LOOSE; i++)
+        if (i >= feed[COUNT_AT] && feed[LOOSE_AT + i] != 0)
+            return 0;
+    if (feed[ANSWER_AT] > 11
+        || stands[feed[OPENED_AT]][feed[ANSWER_AT]] != 'x')
+        return 0;
+    if (feed[ANSWER_AT] != 0 && feed[COUNT_AT] != 0)
+        return 0;
+    if (feed[OPENED_AT] == 0)
+        return number_in(feed) == 0;
+    return feed[ANSWER_AT] == 0 || number_in(feed) != 0;
+}
+
+/* The header or a record gets its answer: by open and step, on the copies. */
+static void want_unit(struct feeding *f, const uint8_t *unit, size_t size)
+{
+    uint8_t *feed = f->want_feed.bytes;
+    struct buffers *b = &f->b;
+    uint64_t number = number_in(feed);
+    int good = size == HEADER_SIZE && unit[0] == 0x4C && unit[1] == 0x48
+               && unit[2] == 1;
+
+    if (feed[OPENED_AT]) {
+        feed[ANSWER_AT] = plungerowl_step(b->want_desk.bytes, f->desk_len,
+                                          b->want_sheet.bytes, f->sheet_len,
+                                          b->want_slip.bytes, f->slip_len,
+                                          unit, size);
+        put_number_in(feed, number + (number != UINT64_MAX));
+    } else {
+        feed[ANSWER_AT] = plungerowl_open(good ? unit[3] : 0,
+                                          b->want_desk.bytes, f->desk_len,
+                                          b->want_sheet.bytes, f->sheet_len);
+        feed[OPENED_AT] = feed[ANSWER_AT] == 0;
+    }
+    memset(feed + COUNT_AT, 0, 1 + MOST_LOOSE);
+}
+
+/* A byte more of the log. */
+static void want_byte(struct feeding *f, uint8_t byte)
+{
+    uint8_t *feed = f->want_feed.bytes;
+    unsigned count = feed[COUNT_AT];
+    uint8_t unit[RECORD_SIZE];
+
+    if (feed[ANSWER_AT] != 0)
+        return;
+    memcpy(unit, feed + LOOSE_AT, count);
+    unit[count] = byte;
+    if (count + 1 == (feed[OPENED_AT] ? RECORD_SIZE : HEADER_SIZE)) {
+        want_unit(f, unit, count + 1);
+    } else {
+        feed[LOOSE_AT + count] = byte;
+        feed[COUNT_AT]++;
+    }
+}
+
+static void want_end(struct feeding *f)
+{
+    uint8_t *feed = f->want_feed.bytes;
+    uint8_t loose[MOST_LOOSE];
+
+    memcpy(loose, feed + LOOSE_AT, MOST_LOOSE);
+    if (feed[ANSWER_AT] != 0 || (feed[OPENED_AT] && feed[COUNT_AT] == 0))
+        return;
+    if (feed[OPENED_AT]) {
+        want_unit(f, loose, feed[COUNT_AT]);
+    } else {
+        memset(feed + COUNT_AT, 0, 1 + MOST_LOOSE);
+        feed[ANSWER_AT] = 2;
+    }
+}
+
+static unsigned call_feed(struct feeding *f, const uint8_t *piece,
+                          size_t length, uint64_t *record, const char *what)
+{
+    const struct guarded *lent = lent_bytes(piece, length);
+    unsigned is = plungerowl_feed(f->feed.bytes, f->feed_len,
+                                  f->b.desk.bytes, f->desk_len,
+                                  f->b.sheet.bytes, f->sheet_len,
+                                  f->b.slip.bytes, f->slip_len,
+                                  lent->bytes, length, record);
+
+    feed_met[is] = 1;
+    check(memcmp(lent->bytes, piece, length) == 0, "%s: the piece", what);
+    check(guarded_intact(lent), "%s: bytes around the piece", what);
+    return is;
+}
+
+static unsigned call_end(struct feeding *f, uint64_t *record)
+{
+    unsigned is = plungerowl_feed_end(f->feed.bytes, f->feed_len,
+                                      f->b.desk.bytes, f->desk_len,
+                                      f->b.sheet.bytes, f->sheet_len,
+                                      f->b.slip.bytes, f->slip_len, record);
+
+    end_met[is] = 1;
+    return is;
+}
+
+/* Feed a piece, or end for NULL; all is as it should be by open and step. */
+static struct said feed_or_end(struct feeding *f, const uint8_t *piece,
+                               size_t length, const char *what)
+{
+    uint64_t records[3] = { GUARD_WORD, GUARD_WORD, GUARD_WORD };
+    struct said due = { PLUNGEROWL_UNFIT, 0 }, is;
+    size_t i;
+
+    if (feed_fits(f->want_feed.bytes, f->feed_len)) {
+        if (piece == NULL)
+            want_end(f);
+        for (i = 0; i < length; i++)
+            want_byte(f, piece[i]);
+        due.answer = f->want_feed.bytes[ANSWER_AT];
+        due.number = number_in(f->want_feed.bytes);
+    }
+    is.answer = piece == NULL ? call_end(f, &records[1])
+                              : call_feed(f, piece, length, &records[1], what);
+    is.number = records[1];
+    check(is.answer == due.answer, "%s: %s answers %u, not %u", what,
+          piece == NULL ? "end" : "feed", is.answer, due.answer);
+    check(is.number == due.number, "%s: record %" PRIu64 ", not %" PRIu64, what,
+          is.number, due.number);
+    check(records[0] == GUARD_WORD && records[2] == GUARD_WORD,
+          "%s: bytes around the record number", what);
+    check_buffer(&f->feed, &f->want_feed, "feed", what);
+    check_buffers(&f->b, what);
+    return is;
+}
+
+/* What a call said is what is given. */
+static void expect_said(struct said is, unsigned answer, uint64_t number,
+                        const char *what)
+{
+    check(is.answer == answer && is.number == number,
+          "%s: %u at record %" PRIu64 ", not %u at %" PRIu64, what, is.answer,
+          is.number, answer, number);
+}
+
+static void expect_feed(struct feeding *f, const uint8_t *piece, size_t length,
+                        unsigned answer, uint64_t number, const char *what)
+{
+    expect_said(feed_or_end(f, piece, length, what), answer, number, what);
+}
+
+static void expect_end(struct feeding *f, unsigned answer, uint64_t number,
+                       const char *what)
+{
+    expect_said(feed_or_end(f, NULL, 0, what), answer, number, what);
+}
+
+static void expect_start(struct feeding *f, unsigned answer, const char *what)
+{
+    unsigned is = plungerowl_feed_start(f->feed.bytes, f->feed_len);
+
+    start_met[is] = 1;
+    if (answer == 0)
+        memset(f->want_feed.bytes, 0, FEED_SIZE);
+    check(is == answer, "%s: start answers %u, not %u", what, is, answer);
+    check_buffer(&f->feed, &f->want_feed, "feed", what);
+}
+
+/* All bytes as they were made, and a fresh feed. */
+static void start_again(struct feeding *f)
+{
+    struct guarded *all[] = { &f->feed, &f->b.desk, &f->b.sheet, &f->b.slip,
+                              &f->want_feed, &f->b.want_desk, &f->b.want_sheet,
+                              &f->b.want_slip };
+    size_t i;
+
+    for (i = 0; i < sizeof all / sizeof all[0]; i++)
+        guarded_fill(all[i], FILL);
+    expect_start(f, f->feed_len < FEED_SIZE ? 2 : 0, "start");
+}
+
+/* A fresh feed and buffers of the given sizes, for logs of k classes. */
+static void start_sized(struct feeding *f, unsigned k, size_t feed_size,
+                        size_t desk, size_t sheet, size_t slip)
+{
+    make_sized(&f->b, k, desk, sheet, slip);
+    make_lent(&f->feed, feed_size);
+    need(guarded_make(&f->want_feed, feed_size, FILL));
+    f->feed_len = feed_size;
+    f->desk_len = desk;
+    f->sheet_len = sheet;
+    f->slip_len = slip;
+    start_again(f);
+}
+
+static void start_feed(struct feeding *f, unsigned k, size_t tail)
+{
+    start_sized(f, k, FEED_SIZE + tail, PLUNGEROWL_DESK_SIZE + tail,
+                PLUNGEROWL_SHEET_SIZE(k) + tail,
+                PLUNGEROWL_SLIP_SIZE(k) + tail);
+}
+
+static void free_feed(struct feeding *f)
+{
+    free_buffers(&f->b);
+    free_lent(&f->feed);
+    guarded_free(&f->want_feed);
+}
+
+/* The feed's own bytes are the given ones. */
+static void check_feed(const struct feeding *f, const uint8_t *bytes,
+                       const char *what)
+{
+    size_t i;
+
+    for (i = 0; i < FEED_SIZE; i++)
+        check(f->feed.bytes[i] == bytes[i], "%s: feed byte %lu is %02X", what,
+              (unsigned long)i, f->feed.bytes[i]);
+}
+
+/* ------------------------------------------------------------------- logs */
+
+struct log {
+    size_t size;
+    uint8_t bytes[LONGEST_PIECE];
+};
+
+static void log_byte(struct log *log, unsigned byte)
+{
+    need(log->size < sizeof log->bytes);
+    log->bytes[log->size++] = (uint8_t)byte;
+}
+
+static void log_header(struct log *log, unsigned k)
+{
+    log->size = 0;
+    log_byte(log, 0x4C);
+    log_byte(log, 0x48);
+    log_byte(log, 1);
+    log_byte(log, k);
+}
+
+static void log_record(struct log *log, unsigned core, unsigned kind,
+                       unsigned class_, unsigned mode)
+{
+    log_byte(log, 0x4C);
+    log_byte(log, 0x4B);
+    log_byte(log, core);
+    log_byte(log, kind);
+    log_byte(log, class_);
+    log_byte(log, mode);
+}
+
+/* Loose bytes, which no log has as they stand. */
+static void log_loose(struct log *log, unsigned count)
+{
+    unsigned i;
+
+    for (i = 0; i < count; i++)
+        log_byte(log, 0xF1 + i);
+}
+
+static uint64_t seed;
+
+static unsigned below(unsigned n)
+{
+    seed ^= seed << 13;
+    seed ^= seed >> 7;
+    seed ^= seed << 17;
+    return (unsigned)(seed >> 33) % n;
+}
+
+/* Some clean records of a core. Classes are acquired in rising order, the
+ * highest in handlers only. */
+static void log_clean(struct log *log, unsigned core)
+{
+    unsigned low = below(3), high = 3 + below(4);
+
+    switch (below(4)) {
+    case 0:
+        log_record(log, core, ACQUIRE, low, below(MODES));
+        log_record(log, core, ACQUIRE, high, below(MODES));
+        log_record(log, core, RELEASE, low, 0);
+        log_record(log, core, RELEASE, high, 0);
+        break;
+    case 1:
+        log_record(log, core, ENTER_HARD, 0, 0);
+        log_record(log, core, ACQUIRE, 7, below(MODES));
+        log_record(log, core, RELEASE, 7, 0);
+        log_record(log, core, EXIT_HARD, 0, 0);
+        break;
+    case 2:
+        log_record(log, core, ACQUIRE, high, below(MODES));
+        log_record(log, core, ACQUIRE, low, TRY + below(3));
+        log_record(log, core, RELEASE, high, 0);
+        log_record(log, core, RELEASE, low, 0);
+        break;
+    default:
+        log_record(log, core, SOFT_OFF, 0, 0);
+        log_record(log, core, HARD_OFF, 0, 0);
+        log_record(log, core, HARD_ON, 0, 0);
+        log_record(log, core, SOFT_ON, 0, 0);
+        break;
+    }
+}
+
+/* Endings of a log; behind all but the last two stands more. */
+enum { END_FAULT, END_3, END_4, END_5, END_6, END_7, END_8, END_LOOSE,
+       END_CLEAN, ENDINGS };
+
+static void log_ending(struct log *log, unsigned ending)
+{
+    unsigned i;
+
+    switch (ending) {
+    case END_FAULT:
+        log_record(log, 1, ACQUIRE, 1, E);
+        log_record(log, 1, ACQUIRE, 2, E);
+        log_record(log, 2, ACQUIRE, 2, E);
+        log_record(log, 2, ACQUIRE, 1, E);
+        break;
+    case END_3: log_record(log, 0, HARD_ON, 1, 0); break;
+    case END_4: log_record(log, 0, ACQUIRE, 8, E); break;
+    case END_5: log_record(log, 0, RELEASE, 1, 0); break;
+    case END_6: log_record(log, 0, EXIT_SOFT, 0, 0); break;
+    case END_7:
+        log_record(log, 3, ENTER_SOFT, 0, 0);
+        log_record(log, 3, ACQUIRE, 6, TRY + R);
+        log_record(log, 3, EXIT_SOFT, 0, 0);
+        break;
+    case END_8:
+        for (i = 0; i <= DEPTH; i++)
+            log_record(log, 4, ACQUIRE, 6, R);
+        break;
+    case END_LOOSE: log_loose(log, 1 + below(5)); return;
+    default: return;
+    }
+    log_record(log, 0, ACQUIRE, 0, E);
+    log_loose(log, below(8));
+}
+
+/* A log of about so many records; what it ends with. */
+static unsigned make_log(struct log *log, unsigned records, unsigned ending)
+{
+    static const unsigned answers[ENDINGS] = { 1, 3, 4, 5, 6, 7, 8, 3, 0 };
+
+    log_header(log, 8);
+    while (log->size < 6 * (size_t)records)
+        log_clean(log, below(CORES));
+    log_ending(log, ending);
+    return answers[ending];
+}
+
+/* P2 with three classes, and its end. */
+static void make_p2(struct log *log)
+{
+    log_header(log, 3);
+    log_record(log, 0, ACQUIRE, 1, E);
+    log_record(log, 0, ACQUIRE, 2, E);
+    log_record(log, 0, RELEASE, 2, 0);
+    log_record(log, 0, RELEASE, 1, 0);
+    log_record(log, 1, ACQUIRE, 2, E);
+    log_record(log, 1, ACQUIRE, 1, E);
+}
+
+/* --------------------------------------------------------- starting a feed */
+
+static void test_feed_start(void)
+{
+    static const size_t tails[] = { 0, 1, 2, 100 };
+    struct feeding f;
+    size_t i;
+
+    for (i = 0; i < FEED_SIZE; i++) {
+        start_sized(&f, 1, i, 0, 0, 0);
+        free_feed(&f);
+    }
+    for (i = 0; i < sizeof tails / sizeof tails[0]; i++) {
+        start_sized(&f, 1, FEED_SIZE + tails[i], 0, 0, 0);
+        guarded_fill(&f.feed, 0xFF);
+        guarded_fill(&f.want_feed, 0xFF);
+        expect_start(&f, 0, "start over other bytes");
+        free_feed(&f);
+    }
+    start_feed(&f, 1, 0);
+    for (f.feed_len = 0; f.feed_len < FEED_SIZE; f.feed_len++) {
+        guarded_fill(&f.feed, FILL);
+        guarded_fill(&f.want_feed, FILL);
+        expect_start(&f, 2, "start, short feed");
+    }
+    free_feed(&f);
+}
+
+/* A feed that has stopped is started again for the next log. */
+static void test_feed_again(void)
+{
+    static struct log log;
+    struct feeding f;
+
+    make_p2(&log);
+    start_feed(&f, 8, 3);
+    expect_feed(&f, log.bytes, log.size, 1, 6, "first log");
+    expect_start(&f, 0, "start again");
+    expect_end(&f, 2, 0, "end of no log");
+    expect_start(&f, 0, "start again");
+    expect_feed(&f, log.bytes, 10, 0, 1, "second log");
+    expect_start(&f, 0, "start again");
+    log_header(&log, 8);
+    log_record(&log, 7, ACQUIRE, 7, E);
+    expect_feed(&f, log.bytes, log.size, 0, 1, "third log");
+    expect_end(&f, 0, 1, "its end");
+    free_feed(&f);
+}
+
+/* --------------------------------------------------------- header, records */
+
+/* The example of docs/FORMATS.md. */
+static void test_feed_example(void)
+{
+    static const struct {
+        size_t size;
+        unsigned answer, number;
+        uint8_t feed[FEED_SIZE];
+    } rows[] = {
+        { 3, 0, 0, { 0, 0, 3, 0x4C, 0x48, 1 } },
+        { 0, 0, 0, { 0, 0, 3, 0x4C, 0x48, 1 } },
+        { 6, 0, 0, { 0, 1, 5, 0x4C, 0x4B, 0, 0, 1 } },
+        { 3, 0, 1, { 0, 1, 2, 0x4C, 0x4B, 0, 0, 0, 1 } },
+        { 28, 1, 6, { 1, 1, 0, 0, 0, 0, 0, 0, 6 } },
+        { 2, 1, 6, { 1, 1, 0, 0, 0, 0, 0, 0, 6 } }
+    };
+    static struct log log;
+    struct feeding f;
+    size_t i, at = 0;
+
+    make_p2(&log);
+    log_byte(&log, 0x4C);
+    log_byte(&log, 0x4B);
+    start_feed(&f, 3, 0);
+    for (i = 0; i < sizeof rows / sizeof rows[0]; i++) {
+        expect_feed(&f, log.bytes + at, rows[i].size, rows[i].answer,
+                    rows[i].number, "feed example");
+        check_feed(&f, rows[i].feed, "feed example");
+        at += rows[i].size;
+    }
+    expect_end(&f, 1, 6, "feed example, end");
+    check(at == log.size, "feed example: its size");
+    free_feed(&f);
+}
+
+/* Every value of each byte of the header; the fourth byte brings the answer,
+ * also with a wrong first one. */
+static void test_feed_header(void)
+{
+    static struct log log;
+    struct feeding f;
+    unsigned place, value, i;
+
+    start_feed(&f, 64, 0);
+    for (place = 0; place < 4; place++) {
+        for (value = 0; value < 256; value++) {
+            unsigned good;
+
+            log_header(&log, 64);
+            log_record(&log, 0, ACQUIRE, 0, E);
+            good = place == 3 ? value >= 1 && value <= 64
+                              : value == log.bytes[place];
+            log.bytes[place] = (uint8_t)value;
+            start_again(&f);
+            for (i = 0; i < 3; i++)
+                expect_feed(&f, log.bytes + i, 1, 0, 0, "header, byte by byte");
+            expect_feed(&f, log.bytes + 3, 1, good ? 0 : 2, 0, "header");
+            expect_feed(&f, log.bytes + 4, 6, good ? 0 : 2, good,
+                        "a record behind the header");
+            start_again(&f);
+            expect_feed(&f, log.bytes, log.size, good ? 0 : 2, good,
+                        "header and record");
+            expect_end(&f, good ? 0 : 2, good, "header and record, end");
+        }
+    }
+    free_feed(&f);
+}
+
+/* Every value of each byte of a record; the sixth byte brings the answer. */
+static void test_feed_record(void)
+{
+    static struct log log;
+    struct feeding f;
+    unsigned place, value, i;
+
+    start_feed(&f, 8, 0);
+    for (place = 0; place < 6; place++) {
+        for (value = 0; value < 256; value++) {
+            struct said whole, cut;
+
+            log_header(&log, 8);
+            log_record(&log, 2, ACQUIRE, 1, E);
+            log_record(&log, 2, RELEASE, 1, 0);
+            log.bytes[4 + 6 + place] = (uint8_t)value;
+            start_again(&f);
+            whole = feed_or_end(&f, log.bytes, log.size, "two records");
+            start_again(&f);
+            expect_feed(&f, log.bytes, 10, 0, 1, "one record");
+            for (i = 0; i < 5; i++)
+                expect_feed(&f, log.bytes + 10 + i, 1, 0, 1,
+                            "record, byte by byte");
+            cut = feed_or_end(&f, log.bytes + 15, 1, "record");
+            check(cut.number == 2, "record: number");
+            expect_said(cut, whole.answer, whole.number, "record, cut");
+            if (place < 2 && value != log.bytes[4 + place])
+                expect_said(cut, 3, 2, "record, wrong signature");
+        }
+    }
+    free_feed(&f);
+}
+
+/* ------------------------------------------------------------------- cuts */
+
+/* The log in pieces: cut behind byte i where bit i of the mask is 1. */
+static void feed_cut(struct feeding *f, const struct log *log, uint64_t mask,
+                     unsigned answer, uint64_t number, const char *what)
+{
+    struct said last = { 0, 0 };
+    size_t from = 0, to;
+
+    start_again(f);
+    for (to = 1; to <= log->size; to++) {
+        if (to < log->size && !(mask >> (to - 1) & 1))
+            continue;
+        last = feed_or_end(f, log->bytes + from, to - from, what);
+        from = to;
+    }
+    if (last.answer != 0)
+        expect_said(last, answer, number, what);
+    expect_end(f, answer, number, what);
+}
+
+static void feed_all_cuts(struct feeding *f, const struct log *log,
+                          unsigned answer, uint64_t number, const char *what)
+{
+    uint64_t mask;
+
+    for (mask = 0; mask < BIT(log->size - 1); mask++)
+        feed_cut(f, log, mask, answer, number, what);
+}
+
+/* The two longest only with guards on both sides, to save time: 32768 cuts. */
+static void test_feed_cuts(void)
+{
+    static struct log log;
+    struct feeding f;
+
+    start_feed(&f, 2, 0);
+    log_header(&log, 2);
+    log_record(&log, 0, ACQUIRE, 1, E);
+    feed_all_cuts(&f, &log, 0, 1, "cuts, one record");
+    log_record(&log, 0, RELEASE, 1, 0);
+    if (sides == GUARD_BOTH)
+        feed_all_cuts(&f, &log, 0, 2, "cuts, two records");
+
+    log_header(&log, 2);
+    log_record(&log, 0, ACQUIRE, 0, R);
+    log_record(&log, 0, ACQUIRE, 0, r);
+    if (sides == GUARD_BOTH)
+        feed_all_cuts(&f, &log, 1, 2, "cuts, a fault");
+
+    log_header(&log, 2);
+    log_record(&log, 0, RELEASE, 1, 0);
+    log_loose(&log, 4);
+    feed_all_cuts(&f, &log, 5, 1, "cuts, a refusal and more");
+
+    log_header(&log, 2);
+    log_loose(&log, 5);
+    feed_all_cuts(&f, &log, 3, 1, "cuts, loose bytes");
+
+    log_header(&log, 65);
+    log_record(&log, 0, ACQUIRE, 1, E);
+    feed_all_cuts(&f, &log, 2, 0, "cuts, a wrong header and more");
+
+    log.size = 3;
+    feed_all_cuts(&f, &log, 2, 0, "cuts, a short header");
+    free_feed(&f);
+}
+
+/* Empty pieces and end calls wherever they may stand: in front of every byte
+ * empty pieces, between records end calls too. */
+static void test_feed_between(void)
+{
+    static struct log log;
+    struct feeding f;
+    size_t i;
+
+    make_p2(&log);
+    log_loose(&log, 3);
+    start_feed(&f, 3, 0);
+    for (i = 0; i < log.size; i++) {
+        unsigned answer = i >= 40;
+        uint64_t number = i < 10 ? 0 : i < 40 ? (i - 4) / 6 : 6;
+        unsigned j;
+
+        for (j = 0; j < 2; j++)
+            expect_feed(&f, log.bytes, 0, answer, number, "an empty piece");
+        for (j = 0; j < 2; j++)
+            if (i >= 4 && (i % 6 == 4 || i > 40))
+                expect_end(&f, answer, number, "end between records");
+        feed_or_end(&f, log.bytes + i, 1, "a byte");
+    }
+    expect_end(&f, 1, 6, "end behind a fault");
+    free_feed(&f);
+}
+
+/* Long logs of all endings with random cuts, against open and step. */
+static void test_feed_long(void)
+{
+    static const struct {
+        unsigned most, records; /* bytes of a piece, and less; of a log */
+    } cuts[] = { { 2, 200 }, { 3, 300 }, { 8, 1000 }, { 14, 2000 },
+                 { 100, 6000 }, { 5000, 6000 }, { 40000, 6000 } };
+    static struct log log;
+    struct feeding f;
+    unsigned ending, i;
+
+    seed = 20261115;
+    start_feed(&f, 8, 0);
+    for (ending = 0; ending < ENDINGS; ending++) {
+        for (i = 0; i < sizeof cuts / sizeof cuts[0]; i++) {
+            unsigned answer = make_log(&log, cuts[i].records, ending);
+            struct said last = { 0, 0 };
+            size_t at = 0;
+
+            start_again(&f);
+            while (at < log.size) {
+                size_t size = below(cuts[i].most);
+
+                if (size > log.size - at)
+                    size = log.size - at;
+                last = feed_or_end(&f, log.bytes + at, size, "a long log");
+                at += size;
+            }
+            check(last.answer == (ending == END_LOOSE ? 0 : answer),
+                  "a long log: ending %u", ending);
+            last = feed_or_end(&f, NULL, 0, "a long log, end");
+            check(last.answer == answer && last.number >= cuts[i].records,
+                  "a long log, end: ending %u", ending);
+        }
+    }
+    free_feed(&f);
+}
+
+/* More bytes in a piece, and more records, than 16 bits count. */
+static void test_feed_many(void)
+{
+    enum { PAIRS = 5800, PIECES = 6 };
+    static struct log log;
+    struct feeding f;
+    unsigned i;
+
+    start_feed(&f, 1, 0);
+    log_header(&log, 1);
+    expect_feed(&f, log.bytes, log.size, 0, 0, "many records, header");
+    log.size = 0;
+    for (i = 0; i < PAIRS; i++) {
+        log_record(&log, 0, ACQUIRE, 0, E);
+        log_record(&log, 0, RELEASE, 0, 0);
+    }
+    for (i = 1; i <= PIECES; i++)
+        expect_feed(&f, log.bytes, log.size, 0, 2 * PAIRS * (uint64_t)i,
+                    "many records");
+    expect_end(&f, 0, 69600, "many records, end");
+    check(log.size > UINT16_MAX, "many records: a short piece");
+    free_feed(&f);
+}
+
+/* Two feeds in turn, on buffers of their own. */
+static void test_feed_two(void)
+{
+    static struct log logs[2];
+    struct feeding f[2];
+    size_t at[2] = { 0, 0 };
+    unsigned i;
+
+    seed = 7;
+    make_log(&logs[0], 300, END_FAULT);
+    make_log(&logs[1], 300, END_CLEAN);
+    for (i = 0; i < 2; i++)
+        start_feed(&f[i], 8, i);
+    while (at[0] < logs[0].size || at[1] < logs[1].size) {
+        unsigned one = below(2);
+        size_t size = below(10);
+
+        if (size > logs[one].size - at[one])
+            size = logs[one].size - at[one];
+        feed_or_end(&f[one], logs[one].bytes + at[one], size, "two feeds");
+        at[one] += size;
+        check_buffers(&f[1 - one].b, "two feeds, the other");
+        check_buffer(&f[1 - one].feed, &f[1 - one].want_feed, "feed",
+                     "two feeds, the other");
+    }
+    for (i = 0; i < 2; i++) {
+        struct said last = feed_or_end(&f[i], NULL, 0, "two feeds, end");
+
+        check(last.answer == 1 - i, "two feeds: answer %u", last.answer);
+        free_feed(&f[i]);
+    }
+}
+
+/* ------------------------------------------------------ behind an answer */
+
+/* A feed that has stopped repeats its answer and changes nothing, whatever
+ * comes and whatever is lent. */
+static void expect_stopped(struct feeding *f, unsigned answer, uint64_t number,
+                           const char *what)
+{
+    static struct log log;
+    struct feeding other = *f;
+    unsigned i;
+
+    log_header(&log, 2);
+    log_record(&log, 0, ACQUIRE, 1, E);
+    for (i = 0; i < 2; i++) {
+        expect_feed(f, log.bytes, 0, answer, number, what);
+        expect_feed(f, log.bytes, 1, answer, number, what);
+        expect_feed(f, log.bytes + 4, 6, answer, number, what);
+        expect_feed(f, log.bytes, log.size, answer, number, what);
+        expect_end(f, answer, number, what);
+    }
+    other.desk_len = other.sheet_len = other.slip_len = 0;
+    expect_feed(&other, log.bytes, log.size, answer, number, what);
+    expect_end(&other, answer, number, what);
+}
+
+/* Every answer but 0 stops a feed; what follows in the same piece is not looked
+ * at. */
+static void test_feed_stop(void)
+{
+    static struct log log;
+    struct feeding f;
+    unsigned ending;
+    size_t size;
+
+    seed = 99;
+    start_feed(&f, 8, 0);
+    for (ending = 0; ending < END_LOOSE; ending++) {
+        unsigned answer = make_log(&log, 12, ending);
+        struct said whole;
+
+        start_again(&f);
+        whole = feed_or_end(&f, log.bytes, log.size, "stop, whole log");
+        check(whole.answer == answer && whole.number > 0,
+              "stop, ending %u: %u", ending, whole.answer);
+        check(4 + 6 * whole.number < log.size, "stop: nothing follows");
+        expect_stopped(&f, answer, whole.number, "stop, whole log");
+        /* The same where the piece ends with the record, or a little later. */
+        for (size = 4 + 6 * (size_t)whole.number; size < log.size; size++) {
+            start_again(&f);
+            expect_feed(&f, log.bytes, size, answer, whole.number, "stop");
+            expect_feed(&f, log.bytes + size, log.size - size, answer,
+                        whole.number, "stop, the rest");
+        }
+    }
+    start_again(&f);
+    log_header(&log, 0);
+    log_record(&log, 0, ACQUIRE, 0, E);
+    expect_feed(&f, log.bytes, log.size, 2, 0, "stop, header");
+    log_header(&log, 8);
+    expect_feed(&f, log.bytes, log.size, 2, 0, "stop, a good header later");
+    expect_stopped(&f, 2, 0, "stop, header");
+    free_feed(&f);
+}
+
+/* ---------------------------------------------------------------- the end */
+
+/* The end of the log behind each of its bytes; where it is 0 the log goes
+ * on. */
+static void test_feed_end(void)
+{
+    static struct log log;
+    struct feeding f;
+    size_t at;
+
+    make_p2(&log);
+    start_feed(&f, 3, 0);
+    for (at = 0; at <= log.size; at++) {
+        uint64_t records = at < 4 ? 0 : (at - 4) / 6;
+        unsigned loose = at < 4 || at % 6 != 4;
+        unsigned answer = at < 4 ? 2 : loose ? 3 : at == log.size;
+
+        start_again(&f);
+        feed_or_end(&f, log.bytes, at, "a part of the log");
+        expect_end(&f, answer, records + (answer == 3), "end");
+        expect_end(&f, answer, records + (answer == 3), "end again");
+        if (answer == 0)
+            expect_feed(&f, log.bytes + at, log.size - at, 1, 6, "going on");
+        else
+            expect_stopped(&f, answer, records + (answer == 3), "end stays");
+    }
+    free_feed(&f);
+}
+
+/* Loose bytes of any value are a short record. */
+static void test_feed_end_loose(void)
+{
+    static struct log log;
+    struct feeding f;
+    unsigned count, value, i;
+
+    start_feed(&f, 8, 0);
+    for (count = 1; count <= 5; count++) {
+        for (value = 0; value < 256; value++) {
+            log_header(&log, 8);
+            log_record(&log, 5, ACQUIRE, 1, E);
+            for (i = 0; i < count; i++)
+                log_byte(&log, value + 51 * i);
+            start_again(&f);
+            expect_feed(&f, log.bytes, log.size, 0, 1, "loose bytes");
+            check(f.feed.bytes[COUNT_AT] == count, "loose bytes: their count");
+            check(memcmp(f.feed.bytes + LOOSE_AT, log.bytes + 10, count) == 0,
+                  "loose bytes: their places");
+            expect_end(&f, 3, 2, "loose bytes, end");
+        }
+    }
+    free_feed(&f);
+}
+
+/* 11 and 10 at the end, before 3: by a slip that is too short, or by somebody
+ * who wrote the buffers. */
+static void test_feed_end_order(void)
+{
+    static struct log log;
+    struct feeding f;
+    unsigned loose;
+
+    log_header(&log, 8);
+    log_loose(&log, 5);
+    for (loose = 0; loose <= 5; loose++) {
+        start_sized(&f, 8, FEED_SIZE, PLUNGEROWL_DESK_SIZE, 64, 24);
+        expect_feed(&f, log.bytes, 4 + loose, 0, 0, "short slip, no record");
+        expect_end(&f, loose == 0 ? 0 : 11, loose > 0, "short slip, end");
+        if (loose > 0)
+            expect_stopped(&f, 11, 1, "short slip, end");
+        free_feed(&f);
+
+        start_feed(&f, 8, 0);
+        expect_feed(&f, log.bytes, 4 + loose, 0, 0, "another writer");
+        put_desk(&f.b, CLOSED_AT, 1);
+        expect_end(&f, loose == 0 ? 0 : 10, loose > 0, "closed, end");
+        if (loose > 0)
+            expect_stopped(&f, 10, 1, "closed, end");
+        start_again(&f);
+        expect_feed(&f, log.bytes, 4 + loose, 0, 0, "another writer");
+        put_desk(&f.b, CLOSED_AT, 1);
+        put_desk(&f.b, STATES_AT, 9);
+        expect_end(&f, loose == 0 ? 0 : 11, loose > 0, "unfit and closed, end");
+        start_again(&f);
+        expect_feed(&f, log.bytes, 4 + loose, 0, 0, "another writer");
+        f.sheet_len = 63;
+        expect_end(&f, loose == 0 ? 0 : 11, loose > 0, "short sheet, end");
+        f.sheet_len = 64;
+        start_again(&f);
+        expect_feed(&f, log.bytes, 4 + loose, 0, 0, "another writer");
+        f.desk_len = ORIGINS_AT;
+        expect_end(&f, loose == 0 ? 0 : 11, loose > 0, "short desk, end");
+        free_feed(&f);
+    }
+}
+
+/* The end call does not look at desk, sheet and slip without loose bytes, nor
+ * an empty piece, nor one that completes nothing. */
+static void test_feed_not_looked_at(void)
+{
+    static struct log log;
+    struct feeding f;
+
+    make_p2(&log);
+    start_sized(&f, 3, FEED_SIZE, 0, 0, 0);
+    expect_feed(&f, log.bytes, 3, 0, 0, "no buffers, part of a header");
+    expect_end(&f, 2, 0, "no buffers, end");
+    free_feed(&f);
+
+    start_feed(&f, 3, 0);
+    expect_feed(&f, log.bytes, 10, 0, 1, "a record");
+    f.desk_len = f.sheet_len = f.slip_len = 0;
+    expect_feed(&f, log.bytes, 0, 0, 1, "no buffers, empty piece");
+    expect_end(&f, 0, 1, "no buffers, end");
+    expect_feed(&f, log.bytes + 10, 5, 0, 1, "no buffers, part of a record");
+    f.desk_len = f.b.desk.size;
+    f.sheet_len = f.b.sheet.size;
+    f.slip_len = f.b.slip.size;
+    expect_feed(&f, log.bytes + 15, 1, 0, 2, "its last byte");
+    free_feed(&f);
+}
+
+/* ---------------------------------------------------------- unfit and short */
+
+/* 11 at record 0 for a piece, an empty one and the end. */
+static void expect_unfit_feed(struct feeding *f, const char *what)
+{
+    static const uint8_t record[] = { 0x4C, 0x4B, 0, HARD_ON, 0, 0 };
+
+    check(!feed_fits(f->want_feed.bytes, f->feed_len), "%s: fit", what);
+    expect_feed(f, record, sizeof record, 11, 0, what);
+    expect_feed(f, record, 0, 11, 0, what);
+    expect_end(f, 11, 0, what);
+}
+
+/* Set one byte of the feed, expect a refusal, set it back. */
+static void expect_unfit_feed_with(struct feeding *f, size_t at, unsigned value,
+                                   const char *what)
+{
+    unsigned before = f->feed.bytes[at];
+
+    put_feed(f, at, value);
+    expect_unfit_feed(f, what);
+    put_feed(f, at, before);
+}
+
+/* A feed of each length below the size, fit but for that. */
+static void test_feed_short(void)
+{
+    struct feeding f;
+    size_t i;
+
+    for (i = 0; i < FEED_SIZE; i++) {
+        start_sized(&f, 8, i, PLUNGEROWL_DESK_SIZE, 64, 25);
+        memset(f.feed.bytes, 0, i);
+        memset(f.want_feed.bytes, 0, i);
+        expect_unfit_feed(&f, "short feed");
+        free_feed(&f);
+    }
+    start_feed(&f, 8, 0);
+    for (f.feed_len = 0; f.feed_len < FEED_SIZE; f.feed_len++)
+        expect_unfit_feed(&f, "short feed by length");
+    expect_end(&f, 2, 0, "the whole feed");
+    free_feed(&f);
+}
+
+/* Each clause, by feeds that are fit but for it. */
+static void test_feed_unfit(void)
+{
+    static struct log log;
+    struct feeding f;
+    unsigned i, j, value;
+
+    log_header(&log, 8);
+    log_loose(&log, 5);
+    start_feed(&f, 8, 5);
+    for (value = 2; value < 256; value++)
+        expect_unfit_feed_with(&f, OPENED_AT, value, "opened over 1");
+    for (value = 4; value < 256; value++)
+        expect_unfit_feed_with(&f, COUNT_AT, value, "a header's count over 3");
+    for (i = 0; i <= 3; i++) {
+        put_whole_feed(&f, 0, 0, i, 0);
+        for (j = i; j < 5; j++)
+            for (value = 1; value < 256; value++)
+                expect_unfit_feed_with(&f, LOOSE_AT + j, value,
+                                       "an unused place, header");
+    }
+    put_whole_feed(&f, 0, 0, 0, 0);
+    for (i = 0; i < 8; i++)
+        for (value = 1; value < 256; value++)
+            expect_unfit_feed_with(&f, NUMBER_AT + i, value,
+                                   "a number before opening");
+    for (value = 1; value < 256; value++)
+        if (value != 2)
+            expect_unfit_feed_with(&f, ANSWER_AT, value,
+                                   "an answer before opening");
+    put_whole_feed(&f, 2, 0, 0, 0);
+    for (i = 0; i < 8; i++)
+        expect_unfit_feed_with(&f, NUMBER_AT + i, 1, "2 with a number");
+    for (i = 1; i <= 3; i++)
+        expect_unfit_feed_with(&f, COUNT_AT, i, "2 with loose bytes");
+    expect_unfit_feed_with(&f, OPENED_AT, 1, "2 and opened");
+    expect_stopped(&f, 2, 0, "2 by hand");
+
+    start_again(&f);
+    feed_or_end(&f, log.bytes, 4, "header");
+    for (value = 6; value < 256; value++)
+        expect_unfit_feed_with(&f, COUNT_AT, value, "a record's count over 5");
+    for (i = 0; i <= 5; i++) {
+        put_whole_feed(&f, 0, 1, i, 1);
+        for (j = i; j < 5; j++)
+            for (value = 1; value < 256; value++)
+                expect_unfit_feed_with(&f, LOOSE_AT + j, value,
+                                       "an unused place, record");
+    }
+    for (value = 1; value < 256; value++) {
+        int stands = value == 1 || (value >= 3 && value <= 8) || value == 10
+                     || value == 11;
+
+        put_whole_feed(&f, value, 1, 0, 0);
+        expect_unfit_feed(&f, "an answer at record 0");
+        for (i = 0; i < 8; i++) {
+            put_whole_feed(&f, value, 1, 0, BIT(8 * i));
+            if (stands)
+                expect_stopped(&f, value, BIT(8 * i), "an answer by hand");
+            else
+                expect_unfit_feed(&f, "no answer of a record");
+        }
+        for (i = 1; i <= 5; i++) {
+            put_whole_feed(&f, value, 1, i, 1);
+            expect_unfit_feed(&f, "an answer with loose bytes");
+        }
+    }
+    free_feed(&f);
+}
+
+/* Bytes 0, 1 and 2 together, with numbers: fit or not, as the page says. */
+static void test_feed_fit(void)
+{
+    static const uint64_t numbers[] = { 0, 1, BIT(63) };
+    static const uint8_t piece[] = { 0x4C };
+    struct feeding f;
+    unsigned opened, answer, count, i;
+
+    start_feed(&f, 8, 0);
+    expect_open(&f.b, 8, f.b.desk.size, f.b.sheet.size, 0, "opening");
+    for (opened = 0; opened < 4; opened++) {
+        for (answer = 0; answer < 256; answer++) {
+            for (count = 0; count < 8; count++) {
+                for (i = 0; i < 3; i++) {
+                    put_whole_feed(&f, answer, opened, count, numbers[i]);
+                    feed_or_end(&f, piece, answer % 2, "bytes 0 to 2");
+                    put_whole_feed(&f, answer, opened, count, numbers[i]);
+                    feed_or_end(&f, NULL, 0, "bytes 0 to 2, end");
+                }
+            }
+        }
+    }
+    free_feed(&f);
+}
+
+/* A fit feed that did not come from start goes on as it stands. */
+static void test_feed_by_hand(void)
+{
+    static const uint8_t rest[] = { E, 0x4C, 0x4B, 0, RELEASE, 1, 0 };
+    static const uint8_t loose[] = { 0x4C, 0x4B, 0, ACQUIRE, 1 };
+    static const uint8_t header[] = { 0x4C, 0x48, 1, 8 };
+    struct feeding f;
+    unsigned i;
+
+    start_feed(&f, 8, 0);
+    expect_open(&f.b, 8, f.b.desk.size, f.b.sheet.size, 0, "opening");
+    put_whole_feed(&f, 0, 1, 5, 41);
+    for (i = 0; i < 5; i++)
+        put_feed(&f, LOOSE_AT + i, loose[i]);
+    expect_feed(&f, rest, 0, 0, 41, "by hand, empty piece");
+    expect_feed(&f, rest, 1, 0, 42, "by hand");
+    expect_feed(&f, rest + 1, 6, 0, 43, "by hand, next record");
+    put_whole_feed(&f, 0, 0, 3, 0);
+    for (i = 0; i < 3; i++)
+        put_feed(&f, LOOSE_AT + i, header[i]);
+    expect_feed(&f, header + 3, 1, 0, 0, "by hand, header");
+    free_feed(&f);
+}
+
+/* The number carries from byte to byte, and stays at 2 to the 64, less 1. */
+static void test_feed_number(void)
+{
+    static struct log log;
+    struct feeding f;
+    unsigned i, j;
+
+    log.size = 0;
+    log_record(&log, 0, ACQUIRE, 1, E);
+    log_record(&log, 0, RELEASE, 1, 0);
+    log_record(&log, 0, RELEASE, 1, 0);
+    log_loose(&log, 1);
+    start_feed(&f, 8, 0);
+    expect_open(&f.b, 8, f.b.desk.size, f.b.sheet.size, 0, "opening");
+    for (i = 0; i <= 64; i++) {
+        for (j = 1; j <= 4; j++) {
+            /* i is 64: 2 to the 64, less j */
+            uint64_t number = (i < 64 ? BIT(i) : 0) - j;
+            uint64_t one = number == UINT64_MAX ? number : number + 1;
+            uint64_t two = one == UINT64_MAX ? one : one + 1;
+            uint64_t three = two == UINT64_MAX ? two : two + 1;
+
+            if (i < 64 && BIT(i) < j)
+                continue;
+            put_whole_feed(&f, 0, 1, 0, number);
+            expect_end(&f, 0, number, "number, end");
+            expect_feed(&f, log.bytes, 0, 0, number, "number, empty piece");
+            expect_feed(&f, log.bytes, 6, 0, one, "number, a record");
+            expect_feed(&f, log.bytes + 6, 6, 0, two, "number, another");
+            expect_feed(&f, log.bytes + 12, 7, 5, three, "number, refused");
+            expect_stopped(&f, 5, three, "number, refused");
+            put_whole_feed(&f, 0, 1, 0, number);
+            expect_feed(&f, log.bytes, 19, 5, three, "number, all three");
+            put_whole_feed(&f, 0, 1, 0, number);
+            expect_feed(&f, log.bytes + 18, 1, 0, number, "number, loose");
+            expect_end(&f, 3, one, "number, loose, end");
+        }
+    }
+    free_feed(&f);
+}
+
+/* Desk, sheet and slip of each length. */
+static void test_feed_lengths(void)
+{
+    const size_t desk = PLUNGEROWL_DESK_SIZE;
+    static struct log log;
+    struct feeding f;
+    size_t i;
+
+    log_header(&log, 8);
+    log_record(&log, 0, ACQUIRE, 1, E);
+    log_record(&log, 0, ACQUIRE, 1, E);
+    start_feed(&f, 8, 0);
+    for (i = 0; i <= desk; i++) {
+        start_again(&f);
+        f.desk_len = i;
+        expect_feed(&f, log.bytes, 3, 0, 0, "short desk, before the header");
+        expect_feed(&f, log.bytes + 3, 13, i < desk ? 2 : 1, i < desk ? 0 : 2,
+                    "short desk");
+    }
+    for (i = 0; i <= 64; i++) {
+        start_again(&f);
+        f.sheet_len = i;
+        expect_feed(&f, log.bytes, 3, 0, 0, "short sheet, before the header");
+        expect_feed(&f, log.bytes + 3, 13, i < 64 ? 2 : 1, i < 64 ? 0 : 2,
+                    "short sheet");
+        expect_end(&f, i < 64 ? 2 : 1, i < 64 ? 0 : 2, "short sheet, end");
+    }
+    for (i = 0; i <= 25; i++) {
+        start_again(&f);
+        f.slip_len = i;
+        expect_feed(&f, log.bytes, 9, 0, 0, "short slip, before a record");
+        expect_feed(&f, log.bytes + 9, 7, i < 25 ? 11 : 1, i < 25 ? 1 : 2,
+                    "short slip");
+    }
+    free_feed(&f);
+    for (i = 0; i < 64; i += 7) {
+        start_sized(&f, 8, FEED_SIZE, desk, i, 25);
+        expect_feed(&f, log.bytes, log.size, 2, 0, "a sheet that is short");
+        free_feed(&f);
+        start_sized(&f, 8, FEED_SIZE, desk - 1 - i, 64, 25);
+        expect_feed(&f, log.bytes, log.size, 2, 0, "a desk that is short");
+        free_feed(&f);
+        start_sized(&f, 8, FEED_SIZE, desk, 64, i % 25);
+        expect_feed(&f, log.bytes, log.size, 11, 1, "a slip that is short");
+        free_feed(&f);
+    }
+}
+
+/* Every K, in buffers of its size, longer ones and the longest. */
+static void test_feed_classes(void)
+{
+    static struct log log;
+    struct feeding f;
+    unsigned k, i;
+
+    for (k = 1; k <= 64; k++) {
+        for (i = 0; i < 3; i++) {
+            start_feed(&f, i == 2 ? 64 : k, 9 * (i == 1));
+            log_header(&log, k);
+            log_record(&log, 7, ACQUIRE, k - 1, E);
+            log_record(&log, 7, ACQUIRE, k - 1, E);
+            expect_feed(&f, log.bytes, 10, 0, 1, "every K");
+            expect_feed(&f, log.bytes + 10, 6, 1, 2, "every K, a fault");
+            start_again(&f);
+            log.size = 4;
+            log_record(&log, 7, ACQUIRE, k, E);
+            expect_feed(&f, log.bytes, log.size, 4, 1, "every K, class K");
+            free_feed(&f);
+        }
+    }
+}
+
+/* Somebody else writes the desk: the next record has the answer of a step. */
+static void test_feed_other_writer(void)
+{
+    static struct log log;
+    struct feeding f;
+
+    make_p2(&log);
+    start_feed(&f, 3, 0);
+    expect_feed(&f, log.bytes, 12, 0, 1, "before another writer");
+    put_desk(&f.b, CLOSED_AT, 1);
+    expect_feed(&f, log.bytes + 12, 3, 0, 1, "closed, loose bytes");
+    expect_feed(&f, log.bytes + 15, 1, 10, 2, "closed, a record");
+    put_desk(&f.b, CLOSED_AT, 0);
+    expect_stopped(&f, 10, 2, "no longer closed");
+    start_again(&f);
+    expect_feed(&f, log.bytes, 12, 0, 1, "before another writer");
+    put_desk(&f.b, STATES_AT + 7, 9);
+    expect_feed(&f, log.bytes + 12, 3, 0, 1, "unfit, loose bytes");
+    expect_feed(&f, log.bytes + 15, 20, 11, 2, "unfit, a record");
+    put_desk(&f.b, STATES_AT + 7, 0);
+    expect_stopped(&f, 11, 2, "no longer unfit");
+    free_feed(&f);
+}
+
 /* ------------------------------------------------------------------- main */
 
 /* A call gave each of these answers, and no other. */
@@ -1997,7 +3271,14 @@ static const struct test tests[] = {
     TEST(unfit_lengths), TEST(short_buffers), TEST(unfit_heads),
     TEST(unfit_held), TEST(unfit_origins), TEST(unfit_frames),
     TEST(unfit_marks), TEST(mark_cycles), TEST(fullest), TEST(unfit_sheet),
-    TEST(ask_refused), TEST(ask_arrivals), TEST(ask_back), TEST(ask_marks)
+    TEST(ask_refused), TEST(ask_arrivals), TEST(ask_back), TEST(ask_marks),
+    TEST(feed_start), TEST(feed_again), TEST(feed_example), TEST(feed_header),
+    TEST(feed_record), TEST(feed_cuts), TEST(feed_between), TEST(feed_long),
+    TEST(feed_many), TEST(feed_two), TEST(feed_stop), TEST(feed_end),
+    TEST(feed_end_loose), TEST(feed_end_order), TEST(feed_not_looked_at),
+    TEST(feed_short), TEST(feed_unfit), TEST(feed_fit), TEST(feed_by_hand),
+    TEST(feed_number), TEST(feed_lengths), TEST(feed_classes),
+    TEST(feed_other_writer)
 };
 
 /* Run the test of the name, or all for NULL; how many were run. */
@@ -2031,6 +3312,9 @@ int main(int argc, char **argv)
         check_met("open", open_met, "x-x");
         check_met("step", step_met, "xx-xxxxxx-xx");
         check_met("ask", ask_met, "x---x------x");
+        check_met("start", start_met, "x-x");
+        check_met("feed", feed_met, "xxxxxxxxx-xx");
+        check_met("end", end_met, "xxxxxxxxx-xx");
     }
     printf("selftest: %lu checks, %lu wrong\n", checks, failures);
     return failures == 0 ? 0 : 1;

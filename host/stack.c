@@ -38,11 +38,18 @@
 #define PAINT 0xC5
 #define RANDOM_INPUTS 300
 
-enum { CALLS = 3, OPEN = 0, STEP = 1, ASK = 2 };
+/* A record is fed whole, or its last byte to a feed that has the others; the
+ * end finds these. */
+enum { OPEN, STEP, ASK, START, FEED, FEED_LAST, END, CALLS };
 
-static const char *const call_names[CALLS] = { "open", "step", "ask" };
+static const char *const call_names[CALLS] = {
+    "open", "step", "ask", "feed_start", "feed", "feed of a last byte",
+    "feed_end"
+};
 static const size_t limits[CALLS] = {
-    PLUNGEROWL_STACK_OPEN, PLUNGEROWL_STACK_STEP, PLUNGEROWL_STACK_ASK
+    PLUNGEROWL_STACK_OPEN, PLUNGEROWL_STACK_STEP, PLUNGEROWL_STACK_ASK,
+    PLUNGEROWL_STACK_FEED_START, PLUNGEROWL_STACK_FEED, PLUNGEROWL_STACK_FEED,
+    PLUNGEROWL_STACK_FEED_END
 };
 static const unsigned sizes[] = { 1, 8, 16, 32, 64 };
 
@@ -66,6 +73,7 @@ struct input {
     unsigned k;
     unsigned class_; /* asked for */
     uint8_t record[PLUNGEROWL_RECORD_SIZE];
+    uint8_t feed[PLUNGEROWL_FEED_SIZE];
     uint8_t desk[PLUNGEROWL_DESK_SIZE];
     uint8_t sheet[PLUNGEROWL_SHEET_SIZE(PLUNGEROWL_MAX_CLASSES)];
 };
@@ -73,7 +81,7 @@ struct input {
 /* What the call on the other stack is given, and its answer. */
 static struct input lent;
 static uint8_t slip[PLUNGEROWL_SLIP_SIZE(PLUNGEROWL_MAX_CLASSES)];
-static uint64_t word;
+static uint64_t word, number;
 static uint32_t count;
 static unsigned answer;
 
@@ -111,6 +119,36 @@ static uint8_t empty_ask(const uint8_t *desk, size_t desk_len,
     return 0;
 }
 
+static uint8_t empty_start(uint8_t *feed, size_t feed_len)
+{
+    (void)feed, (void)feed_len;
+    NOTE_CALLER();
+    return 0;
+}
+
+static uint8_t empty_feed(uint8_t *feed, size_t feed_len, uint8_t *desk,
+                          size_t desk_len, uint8_t *sheet, size_t sheet_len,
+                          uint8_t *slip_, size_t slip_len,
+                          const uint8_t *piece, size_t piece_len,
+                          uint64_t *record)
+{
+    (void)feed, (void)feed_len, (void)desk, (void)desk_len, (void)sheet;
+    (void)sheet_len, (void)slip_, (void)slip_len, (void)piece, (void)piece_len;
+    (void)record;
+    NOTE_CALLER();
+    return 0;
+}
+
+static uint8_t empty_end(uint8_t *feed, size_t feed_len, uint8_t *desk,
+                         size_t desk_len, uint8_t *sheet, size_t sheet_len,
+                         uint8_t *slip_, size_t slip_len, uint64_t *record)
+{
+    (void)feed, (void)feed_len, (void)desk, (void)desk_len, (void)sheet;
+    (void)sheet_len, (void)slip_, (void)slip_len, (void)record;
+    NOTE_CALLER();
+    return 0;
+}
+
 /* volatile: the compiler must call what they point to, as it points there. */
 static uint8_t (*volatile to_open)(uint64_t, uint8_t *, size_t, uint8_t *,
                                    size_t);
@@ -118,12 +156,22 @@ static uint8_t (*volatile to_step)(uint8_t *, size_t, uint8_t *, size_t,
                                    uint8_t *, size_t, const uint8_t *, size_t);
 static uint8_t (*volatile to_ask)(const uint8_t *, size_t, const uint8_t *,
                                   size_t, uint64_t, uint64_t *, uint32_t *);
+static uint8_t (*volatile to_start)(uint8_t *, size_t);
+static uint8_t (*volatile to_feed)(uint8_t *, size_t, uint8_t *, size_t,
+                                   uint8_t *, size_t, uint8_t *, size_t,
+                                   const uint8_t *, size_t, uint64_t *);
+static uint8_t (*volatile to_end)(uint8_t *, size_t, uint8_t *, size_t,
+                                  uint8_t *, size_t, uint8_t *, size_t,
+                                  uint64_t *);
 
 static void point_to_library(void)
 {
     to_open = plungerowl_open;
     to_step = plungerowl_step;
     to_ask = plungerowl_ask;
+    to_start = plungerowl_feed_start;
+    to_feed = plungerowl_feed;
+    to_end = plungerowl_feed_end;
 }
 
 static void point_to_empty(void)
@@ -131,6 +179,9 @@ static void point_to_empty(void)
     to_open = empty_open;
     to_step = empty_step;
     to_ask = empty_ask;
+    to_start = empty_start;
+    to_feed = empty_feed;
+    to_end = empty_end;
 }
 
 static void run_open(void)
@@ -151,7 +202,53 @@ static void run_ask(void)
                     lent.class_, &word, &count);
 }
 
-static void (*const runs[CALLS])(void) = { run_open, run_step, run_ask };
+static void run_start(void)
+{
+    answer = to_start(lent.feed, sizeof lent.feed);
+}
+
+static void run_feed(void)
+{
+    answer = to_feed(lent.feed, sizeof lent.feed, lent.desk, sizeof lent.desk,
+                     lent.sheet, sizeof lent.sheet, slip, sizeof slip,
+                     lent.record, sizeof lent.record, &number);
+}
+
+static void run_feed_last(void)
+{
+    answer = to_feed(lent.feed, sizeof lent.feed, lent.desk, sizeof lent.desk,
+                     lent.sheet, sizeof lent.sheet, slip, sizeof slip,
+                     lent.record + PLUNGEROWL_MOST_LOOSE, 1, &number);
+}
+
+static void run_end(void)
+{
+    answer = to_end(lent.feed, sizeof lent.feed, lent.desk, sizeof lent.desk,
+                    lent.sheet, sizeof lent.sheet, slip, sizeof slip, &number);
+}
+
+static void (*const runs[CALLS])(void) = {
+    run_open, run_step, run_ask, run_start, run_feed, run_feed_last, run_end
+};
+
+/* The input for a call, with the feed that it needs. */
+static void lend(const struct input *in, int call)
+{
+    lent = *in;
+    lent.feed[PLUNGEROWL_FEED_OPENED_AT] = 1;
+    if (call == FEED_LAST || call == END) {
+        lent.feed[PLUNGEROWL_FEED_COUNT_AT] = PLUNGEROWL_MOST_LOOSE;
+        memcpy(lent.feed + PLUNGEROWL_FEED_LOOSE_AT, lent.record,
+               PLUNGEROWL_MOST_LOOSE);
+    }
+}
+
+/* The call did what it was meant to do: the end alone finds a short record. */
+static int is_right(int call)
+{
+    return call == END ? answer == PLUNGEROWL_BAD_RECORD
+                       : answer <= PLUNGEROWL_FAULT;
+}
 
 /* Run the call on the stack of the given size that begins at low. */
 static void run_on(uint8_t *low, size_t size, int call)
@@ -194,14 +291,15 @@ static size_t overhead_of(int call)
 /* The bytes that the call used of a painted stack. */
 static size_t measure(const struct input *in, int call)
 {
+    size_t overhead = overhead_of(call);
     size_t low = 0;
 
-    lent = *in;
+    lend(in, call);
     memset(stack, PAINT, STACK_SIZE);
     run_on(stack, STACK_SIZE, call);
     while (low < STACK_SIZE && stack[low] == PAINT)
         low++;
-    return STACK_SIZE - overhead_of(call) - low;
+    return STACK_SIZE - overhead - low;
 }
 
 /* Whether the call gets by with so many bytes and a guard page behind them. */
@@ -216,9 +314,9 @@ static int suffices(const struct input *in, int call, size_t size)
     if (child < 0)
         quit("fork");
     if (child == 0) {
-        lent = *in;
+        lend(in, call);
         run_on(stack, size + overhead, call);
-        _exit(answer > PLUNGEROWL_FAULT);
+        _exit(!is_right(call));
     }
     if (waitpid(child, &status, 0) != child)
         quit("waitpid");
@@ -372,16 +470,18 @@ static void measure_all(unsigned k, struct worst worst[CALLS])
         for (call = 0; call < CALLS; call++) {
             size_t used = measure(&in, call);
 
-            if (answer > PLUNGEROWL_FAULT)
-                say_wrong(call_names[call], "refused an input", shape, answer);
+            if (!is_right(call))
+                say_wrong(call_names[call], "another answer", shape, answer);
             if (used > worst[call].used) {
                 worst[call].used = used;
                 worst[call].in = in;
             }
         }
     }
-    printf("stack: K = %2u: open %zu, step %zu, ask %zu bytes\n", k,
-           worst[OPEN].used, worst[STEP].used, worst[ASK].used);
+    printf("stack: K = %2u: ", k);
+    for (call = 0; call < CALLS; call++)
+        printf("%s %zu%s", call_names[call], worst[call].used,
+               call + 1 < CALLS ? ", " : " bytes\n");
 }
 
 static void check_limit(int call, const struct worst *worst)
@@ -402,15 +502,16 @@ static void check_limit(int call, const struct worst *worst)
 }
 
 /* The chain is as deep as any input met. */
-static void check_chain(const struct worst *worst)
+static void check_chain(int call, const struct worst *worst)
 {
     struct input in;
     size_t used;
 
     make_input(&in, PLUNGEROWL_MAX_CLASSES, CHAIN);
-    used = measure(&in, STEP);
+    used = measure(&in, call);
     if (used != worst->used)
-        say_wrong("step", "the chain is not the worst", used, worst->used);
+        say_wrong(call_names[call], "the chain is not the worst", used,
+                  worst->used);
 }
 
 int main(void)
@@ -433,11 +534,14 @@ int main(void)
             most[call] = worst[call].used;
         }
     }
-    check_chain(&worst[STEP]);
+    check_chain(STEP, &worst[STEP]);
+    check_chain(FEED, &worst[FEED]);
+    check_chain(FEED_LAST, &worst[FEED_LAST]);
     for (call = 0; call < CALLS; call++)
         check_limit(call, &worst[call]);
-    printf("stack: limits open %zu, step %zu, ask %zu bytes, %s\n",
-           limits[OPEN], limits[STEP], limits[ASK],
-           wrong ? "not kept" : "each tried with a guard page");
+    printf("stack: limits: ");
+    for (call = 0; call < CALLS; call++)
+        printf("%s %zu, ", call_names[call], limits[call]);
+    printf("%s\n", wrong ? "not kept" : "each tried with a guard page");
     return wrong;
 }

@@ -2,17 +2,24 @@
  * plungerowl.h - C interface of the lock log validator libplungerowl.a.
  *
  * docs/FORMATS.md has the whole of it: the log and its records, every byte of
- * the three buffers, the rules, and the answers with their conditions.
+ * the lent buffers, the rules, and the answers with their conditions.
  *
- * The library keeps no memory of its own. The caller lends three buffers and
- * hands them to the calls:
+ * The library keeps no memory of its own. The caller lends buffers and hands
+ * them to the calls:
  *
  *   desk   PLUNGEROWL_DESK_SIZE bytes       cores, held locks, usage marks,
  *                                           origin bits
  *   sheet  PLUNGEROWL_SHEET_SIZE(K) bytes   lock dependencies seen
  *   slip   PLUNGEROWL_SLIP_SIZE(K) bytes    the cycle reported on a fault
+ *   feed   PLUNGEROWL_FEED_SIZE bytes       how far a log in pieces has come
  *
  * K is the number of lock classes, 1 to PLUNGEROWL_MAX_CLASSES.
+ *
+ * There are two ways to hand over a log: record by record, by plungerowl_open
+ * and plungerowl_step, or as it comes, in pieces that are cut anywhere, by
+ * plungerowl_feed_start, plungerowl_feed and plungerowl_feed_end. The second
+ * needs a feed, and K is then the header's: sheet and slip for
+ * PLUNGEROWL_MAX_CLASSES do for every log. Questions may be asked in both.
  *
  * Rules for callers, for every call:
  *
@@ -20,9 +27,10 @@
  *     readable, and writable where it is not const. Lengths longer than the
  *     stated sizes are allowed; bytes past the stated sizes are never touched.
  *   - No pointer is null, not even with length 0: pass any valid pointer.
- *   - The buffers of one call do not overlap: desk, sheet, slip, record, and
- *     for plungerowl_ask also *word and *count. word and count are aligned for
- *     their types; the other pointers need no alignment.
+ *   - The buffers of one call do not overlap: feed, desk, sheet, slip, the
+ *     record of a step, the piece of a feed, and the numbers that are written:
+ *     *word and *count, and *record of a feed. Pointers to numbers are aligned
+ *     for their types; the others need no alignment.
  *   - One caller at a time: while a call runs, nobody else reads or writes the
  *     buffers it was given. Calls on separate buffers do not affect each other.
  *   - The stack has room for the call: PLUNGEROWL_STACK_OPEN and so on, below.
@@ -78,33 +86,59 @@ extern "C" {
 #define PLUNGEROWL_HEADER_SIZE 4
 
 /*
+ * Where the parts of a feed begin; docs/FORMATS.md says what they have. Loose
+ * bytes are those of a header or record that is not complete yet; a feed keeps
+ * them, and has a place for each of the most that there can be. A feed has 16
+ * bytes.
+ */
+#define PLUNGEROWL_MOST_LOOSE (PLUNGEROWL_RECORD_SIZE - 1)
+#define PLUNGEROWL_FEED_ANSWER_AT 0
+#define PLUNGEROWL_FEED_OPENED_AT 1
+#define PLUNGEROWL_FEED_COUNT_AT 2
+#define PLUNGEROWL_FEED_LOOSE_AT 3
+#define PLUNGEROWL_FEED_NUMBER_AT \
+    (PLUNGEROWL_FEED_LOOSE_AT + PLUNGEROWL_MOST_LOOSE)
+#define PLUNGEROWL_FEED_NUMBER_SIZE 8
+#define PLUNGEROWL_FEED_SIZE \
+    (PLUNGEROWL_FEED_NUMBER_AT + PLUNGEROWL_FEED_NUMBER_SIZE)
+
+/*
  * Stack that a call needs, in bytes below the caller's stack pointer, at K = 64
  * (fewer classes need no more). host/stack.c measures it, and tries each call
  * with so many bytes and a guard page behind them. memcpy and memset are counted
  * as glibc has them; what the dynamic linker takes to find them at a first call
- * is not (link with -z now). A step is the deepest: its search goes from class
- * to class, up to K of them, by two functions that call each other.
+ * is not (link with -z now). A step is the deepest, also one in a feed: its
+ * search goes from class to class, up to K of them, by two functions that call
+ * each other.
  */
 #define PLUNGEROWL_STACK_OPEN 64
 #define PLUNGEROWL_STACK_STEP 114688
 #define PLUNGEROWL_STACK_ASK 4608
+#define PLUNGEROWL_STACK_FEED_START 16
+#define PLUNGEROWL_STACK_FEED 114688
+#define PLUNGEROWL_STACK_FEED_END 4096
 
 /*
  * Answers. "frame" is the current frame of the core named by the record.
- * 0 and 1 accept the record; every other answer changes no byte of desk,
- * sheet and slip. There is no answer 9.
+ * 0 and 1 accept the record; a header or record with another answer changes no
+ * byte of desk, sheet and slip. There is no answer 9. plungerowl_feed and
+ * plungerowl_feed_end give what opening and the steps inside them answered, so
+ * what is said of step holds of them too.
  */
 enum plungerowl_answer {
-    /* open: opened; ask: answered;
-     * step: accepted, no closed strong path; slip unchanged */
+    /* open: opened; ask: answered; feed_start: started;
+     * step: accepted, no closed strong path; slip unchanged;
+     * feed, feed_end: all that was complete got 0 */
     PLUNGEROWL_OK = 0,
     /* step: accepted, a closed strong path exists; desk closed, slip written */
     PLUNGEROWL_FAULT = 1,
     /* open: K not 1 to 64, desk under PLUNGEROWL_DESK_SIZE bytes, or sheet
-     * under K x K bytes */
+     * under K x K bytes; feed: so with the header's K, or another header than
+     * 4C 48 01 K; feed_end: the header is missing or short;
+     * feed_start: feed under PLUNGEROWL_FEED_SIZE bytes */
     PLUNGEROWL_BAD_OPENING = 2,
     /* step: not six bytes, wrong signature, core over 7, kind over 9, mode over
-     * 5, or a byte that should be 0 */
+     * 5, or a byte that should be 0; feed_end: also loose bytes of a record */
     PLUNGEROWL_BAD_RECORD = 3,
     /* step: acquire or release of class K or more; ask: class K or more */
     PLUNGEROWL_BAD_CLASS = 4,
@@ -118,8 +152,9 @@ enum plungerowl_answer {
     PLUNGEROWL_FRAME_FULL = 8,
     /* step: desk closed by an earlier fault */
     PLUNGEROWL_CLOSED = 10,
-    /* step: desk, sheet or slip unfit; ask: desk or sheet unfit
-     * (too short, or contents that the fit test of FORMATS.md rules out) */
+    /* step: desk, sheet or slip unfit; ask: desk or sheet unfit; feed and
+     * feed_end: so in a step, or, with *record 0, feed unfit
+     * (too short, or contents that the fit tests of FORMATS.md rule out) */
     PLUNGEROWL_UNFIT = 11
 };
 
@@ -209,6 +244,54 @@ uint8_t plungerowl_step(uint8_t *desk, size_t desk_len,
 uint8_t plungerowl_ask(const uint8_t *desk, size_t desk_len,
                        const uint8_t *sheet, size_t sheet_len,
                        uint64_t class_, uint64_t *word, uint32_t *count);
+
+/*
+ * A log in pieces: start a feed, feed the pieces in order, end. Each call needs
+ * the same four buffers as the last one left them. With any cuts the first
+ * answer but 0, its number and the bytes of desk, sheet and slip are those of
+ * opening with the header's K and a step for each record.
+ *
+ * Start: a fresh feed, all PLUNGEROWL_FEED_SIZE bytes 0, before each log.
+ * Answers 0, or 2 and nothing is changed. Desk, sheet and slip need no
+ * preparation.
+ */
+uint8_t plungerowl_feed_start(uint8_t *feed, size_t feed_len);
+
+/*
+ * Feed: take the next piece of the log, of any length, also 0.
+ *
+ * Answers 0 to 8, 10 or 11. The header and each record get their answer when
+ * they are complete and not before: the header opens desk and sheet, a record
+ * is a step. At the first answer but 0 the feed stops: what follows in the
+ * piece is not looked at, and every later call repeats the answer and its
+ * number and changes nothing.
+ *
+ * *record is always written: with answer 0 how many records were validated so
+ * far, else the number of the record that got the answer, where the first is 1
+ * and 0 is the header. (Should it get to UINT64_MAX, it stays there.) An unfit
+ * feed answers 11 with *record 0, and nothing is changed.
+ */
+uint8_t plungerowl_feed(uint8_t *feed, size_t feed_len,
+                        uint8_t *desk, size_t desk_len,
+                        uint8_t *sheet, size_t sheet_len,
+                        uint8_t *slip, size_t slip_len,
+                        const uint8_t *piece, size_t piece_len,
+                        uint64_t *record);
+
+/*
+ * Feed end: the log ends here.
+ *
+ * A header that is missing or short is refused with 2, *record 0. Loose bytes
+ * of a record are a step with a short record: 11, 10 or else 3, with the number
+ * of the next record. Both stop the feed. Otherwise as plungerowl_feed with an
+ * empty piece: with answer 0 the log may go on, so the call may come between
+ * any two records. Desk, sheet and slip are never changed here.
+ */
+uint8_t plungerowl_feed_end(uint8_t *feed, size_t feed_len,
+                            uint8_t *desk, size_t desk_len,
+                            uint8_t *sheet, size_t sheet_len,
+                            uint8_t *slip, size_t slip_len,
+                            uint64_t *record);
 
 #ifdef __cplusplus
 }

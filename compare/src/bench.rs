@@ -2,12 +2,13 @@
 //! rounds, the two taking turns. No timed test: nothing fails by being slow. It fails
 //! only if the two disagree on what they computed or if a drawing isn't clean.
 
+use crate::feeds;
 use crate::gen::{clean_style, try_style, Shadow, Style};
-use crate::judges::library;
+use crate::judges::{library, Feed};
 use crate::rng::Rng;
 use crate::run::Rec;
 use crate::fast;
-use reference::{DEEPEST, DEPTHS, HOLDS, MARKS, STATES};
+use reference::{DEEPEST, DEPTHS, FEED, HOLDS, MARKS, STATES};
 use std::hint::black_box;
 use std::time::Instant;
 
@@ -61,17 +62,68 @@ fn best(mut a: impl FnMut() -> f64, mut b: impl FnMut() -> f64, rounds: usize) -
     (x, y)
 }
 
+/// A log in pieces of 4096 and of 64 bytes, beside the same records by single steps, all taking turns; whether all left
+/// the same.
+fn feed_rows(k: usize, log: &[Rec], what: &str) -> bool {
+    let bytes = feeds::log_of(k as u8, log);
+    let feed = |feed: Feed, size: usize, left: &mut Vec<u8>| {
+        let mut s = Shadow::opened(k);
+        let (mut own, mut sum, mut number) = ([0; FEED], 0u64, 0);
+        let started = Instant::now();
+        for piece in bytes.chunks(size) {
+            sum += u64::from(feed(&mut own, &mut s.desk, &mut s.sheet, &mut s.slip, piece, &mut number));
+        }
+        let t = started.elapsed().as_secs_f64();
+        *left = [s.desk, s.sheet, vec![sum.min(255) as u8, u8::from(number == log.len() as u64)]].concat();
+        t
+    };
+    let steps = |step: StepFn, left: &mut Vec<u8>| {
+        let mut s = Shadow::opened(k);
+        let mut sum = 0u64;
+        let started = Instant::now();
+        for record in log {
+            sum += u64::from(step(&mut s.desk, &mut s.sheet, &mut s.slip, record.slice()));
+        }
+        let t = started.elapsed().as_secs_f64();
+        *left = [s.desk, s.sheet, vec![sum.min(255) as u8, 1]].concat();
+        t
+    };
+    let (mut best, mut left) = ([f64::MAX; 6], [const { Vec::new() }; 6]);
+    for _ in 0..5 {
+        let [a, b, c, d, e, f] = &mut left;
+        let times = [
+            feed(library::feed, 4096, a), feed(fast::feed, 4096, b), feed(library::feed, 64, c), feed(fast::feed, 64, d),
+            steps(library::step, e), steps(fast::step, f),
+        ];
+        for (best, time) in best.iter_mut().zip(times) {
+            *best = best.min(time);
+        }
+    }
+    for (i, name) in ["in pieces of 4096", "in pieces of 64", "by single steps"].iter().enumerate() {
+        row(&format!("{what}, K = {k}, {name}"), (best[2 * i], best[2 * i + 1]), log.len());
+    }
+    println!(
+        "{:46} pieces to steps: library {:.3} and {:.3}, fast {:.3} and {:.3}", "",
+        best[0] / best[4], best[2] / best[4], best[1] / best[5], best[3] / best[5]
+    );
+    let well = left.iter().all(|l| *l == left[0] && l.ends_with(&[0, 1]));
+    if !well {
+        println!("pieces and steps differ, or not clean");
+    }
+    well
+}
+
 fn row(name: &str, (lib, quick): (f64, f64), calls: usize) {
     let (a, b) = (lib / calls as f64, quick / calls as f64);
     println!(
-        "{name:34} {:>9.3} {:>9.3} {:>7.2} {:>12.0} {:>12.0}",
+        "{name:46} {:>9.3} {:>9.3} {:>7.2} {:>12.0} {:>12.0}",
         a * 1e6, b * 1e6, a / b, 1.0 / a, 1.0 / b
     );
 }
 
 pub fn run() -> bool {
     let mut well = true;
-    println!("{:34} {:>9} {:>9} {:>7} {:>12} {:>12}", "", "lib us", "fast us", "lib/fast", "lib /s", "fast /s");
+    println!("{:46} {:>9} {:>9} {:>7} {:>12} {:>12}", "", "lib us", "fast us", "lib/fast", "lib /s", "fast /s");
     // A take and a release in turn, so that the desk comes back to where it was.
     for k in [8usize, 64] {
         for dense in [false, true] {
@@ -170,7 +222,10 @@ pub fn run() -> bool {
             well = false;
         }
         row(&format!("{name}, K = {k}, per record"), times, n);
-        println!("{:34} {:.3} s and {:.3} s whole; {arrows} hold arrows drawn at the end", "", times.0, times.1);
+        println!("{:46} {:.3} s and {:.3} s whole; {arrows} hold arrows drawn at the end", "", times.0, times.1);
+        if name == logs[0].1 {
+            well &= feed_rows(k, &log, name);
+        }
     }
     well
 }

@@ -452,3 +452,116 @@ pub fn ask(desk: &[u8], sheet: &[u8], class: u64, word: &mut u64, count: &mut u3
     *count = word.count_ones();
     0
 }
+
+// The feed. Answer, whether opened, how many loose bytes, the loose bytes, and the number.
+const FEED: usize = 16;
+
+fn feed_fits(feed: &[u8; FEED]) -> bool {
+    let &[answer, opened, kept, ref loose @ .., _, _, _, _, _, _, _, _] = feed;
+    let number = number(feed);
+    let unused = loose.iter().skip(usize::from(kept)).all(|&b| b == 0);
+    unused
+        && (answer == 0 || kept == 0)
+        && match opened {
+            0 => kept < 4 && matches!(answer, 0 | 2) && number == 0,
+            1 => kept < 6 && matches!(answer, 0 | 1 | 3..=8 | 10 | 11) && (answer == 0 || number > 0),
+            _ => false,
+        }
+}
+
+#[inline]
+fn number(feed: &[u8; FEED]) -> u64 {
+    let &[.., a, b, c, d, e, f, g, h] = feed;
+    u64::from_le_bytes([a, b, c, d, e, f, g, h])
+}
+
+#[inline]
+fn note(feed: &mut [u8; FEED], answer: u8, opened: bool, loose: &[u8], number: u64) {
+    *feed = [0; FEED];
+    feed[0] = answer;
+    feed[1] = u8::from(opened);
+    feed[2] = loose.len() as u8;
+    feed[3..3 + loose.len()].copy_from_slice(loose);
+    feed[8..].copy_from_slice(&number.to_le_bytes());
+}
+
+fn open_by_header(header: &[u8], desk: &mut [u8], sheet: &mut [u8]) -> u8 {
+    match header {
+        &[0x4C, 0x48, 1, k] => open(u64::from(k), desk, sheet),
+        _ => 2,
+    }
+}
+
+pub fn feed_start(feed: &mut [u8]) -> u8 {
+    let Some(feed) = feed.first_chunk_mut::<FEED>() else { return 2 };
+    *feed = [0; FEED];
+    0
+}
+
+/// What was begun is filled up from the piece; then records are taken from the piece itself.
+#[inline(never)]
+pub fn feed(
+    feed: &mut [u8], desk: &mut [u8], sheet: &mut [u8], slip: &mut [u8], piece: &[u8], record: &mut u64,
+) -> u8 {
+    *record = 0;
+    let Some(feed) = feed.first_chunk_mut::<FEED>().filter(|feed| feed_fits(feed)) else { return 11 };
+    let mut number = number(feed);
+    *record = number;
+    if feed[0] != 0 || piece.is_empty() {
+        return feed[0];
+    }
+    let (mut opened, mut rest) = (feed[1] == 1, piece);
+    let kept = usize::from(feed[2]);
+    if kept > 0 || !opened {
+        let whole = if opened { 6 } else { 4 };
+        let mut begun = [0; 6];
+        begun[..kept].copy_from_slice(&feed[3..3 + kept]);
+        let more = rest.len().min(whole - kept);
+        begun[kept..kept + more].copy_from_slice(&rest[..more]);
+        rest = &rest[more..];
+        if kept + more < whole {
+            note(feed, 0, opened, &begun[..kept + more], number);
+            return 0;
+        }
+        let answer = if opened {
+            number = number.saturating_add(1);
+            step(desk, sheet, slip, &begun)
+        } else {
+            open_by_header(&begun[..4], desk, sheet)
+        };
+        opened |= answer == 0;
+        *record = number;
+        if answer != 0 {
+            note(feed, answer, opened, &[], number);
+            return answer;
+        }
+    }
+    let mut records = rest.chunks_exact(6);
+    for six in &mut records {
+        number = number.saturating_add(1);
+        let answer = step(desk, sheet, slip, six);
+        if answer != 0 {
+            note(feed, answer, opened, &[], number);
+            *record = number;
+            return answer;
+        }
+    }
+    note(feed, 0, opened, records.remainder(), number);
+    *record = number;
+    0
+}
+
+pub fn feed_end(feed: &mut [u8], desk: &mut [u8], sheet: &mut [u8], slip: &mut [u8], record: &mut u64) -> u8 {
+    *record = 0;
+    let Some(feed) = feed.first_chunk_mut::<FEED>().filter(|feed| feed_fits(feed)) else { return 11 };
+    let (mut number, kept) = (number(feed), usize::from(feed[2]));
+    if feed[0] == 0 && feed[1] == 0 {
+        note(feed, 2, false, &[], 0);
+    } else if kept > 0 {
+        number = number.saturating_add(1);
+        let answer = step(desk, sheet, slip, &feed[3..3 + kept]);
+        note(feed, answer, true, &[], number);
+    }
+    *record = number;
+    feed[0]
+}

@@ -2,17 +2,18 @@
 
 use crate::drawing::{FRAME, NEXT, X};
 use crate::fast;
+use crate::feeds;
 use crate::rng::Rng;
 use crate::run::{Call, Case, Rec};
 use crate::sights::ORIGIN;
 use reference::{CLAUSES, DEEPEST, DEPTHS, DESK, FRAMES, HOLDS, MARKS, ORIGINS, STATES};
 
-const BIG: [u64; 16] = [
+pub const BIG: [u64; 16] = [
     255, 256, 257, 264, 300, 320, 65536, 65544, 1 << 31, 1 << 32, (1 << 32) + 1, (1 << 32) + 8,
     (1 << 32) + 64, 1 << 63, u64::MAX - 63, u64::MAX,
 ];
 
-fn any_k(rng: &mut Rng) -> usize {
+pub fn any_k(rng: &mut Rng) -> usize {
     match rng.under(10) {
         0 => 1,
         1 => 2,
@@ -26,7 +27,7 @@ fn any_k(rng: &mut Rng) -> usize {
 }
 
 /// Buffers of the stated sizes or somewhat longer, full of anything.
-fn any_buffers(rng: &mut Rng, k: usize) -> (Vec<u8>, Vec<u8>, Vec<u8>) {
+pub fn any_buffers(rng: &mut Rng, k: usize) -> (Vec<u8>, Vec<u8>, Vec<u8>) {
     let mut extra = || if rng.mille(400) { rng.under(9) } else { 0 };
     let (a, b, c) = (extra(), extra(), extra());
     (rng.bytes(DESK + a), rng.bytes(k * k + b), rng.bytes(1 + 3 * k + c))
@@ -70,8 +71,8 @@ fn may_hold(state: u8, frame: usize) -> bool {
 }
 
 /// A case yet without a name.
-fn case(buffers: (Vec<u8>, Vec<u8>, Vec<u8>), calls: Vec<Call>) -> Case {
-    Case { name: "", desk: buffers.0, sheet: buffers.1, slip: buffers.2, calls, pair: None, clause: None }
+pub fn case(buffers: (Vec<u8>, Vec<u8>, Vec<u8>), calls: Vec<Call>) -> Case {
+    Case { name: "", desk: buffers.0, sheet: buffers.1, slip: buffers.2, feed: Vec::new(), calls, pair: None, clause: None }
 }
 
 // ------------------------------------------------------------------ proposals
@@ -104,7 +105,7 @@ fn any_modes(rng: &mut Rng) -> [usize; 6] {
     [a, b, c, d, e, f]
 }
 
-fn any_style(rng: &mut Rng, k: usize) -> Style {
+pub fn any_style(rng: &mut Rng, k: usize) -> Style {
     let mut cores: Vec<u8> = (0..8).collect();
     for i in (1..8).rev() {
         cores.swap(i, rng.under(i + 1));
@@ -831,11 +832,11 @@ pub fn pair(rng: &mut Rng) -> Case {
     c
 }
 
-/// A kind of random case: its name, and how often it is made in 1000.
-struct Kind {
-    name: &'static str,
-    weight: usize,
-    make: fn(&mut Rng) -> Case,
+/// A kind of random case: its name, and how often it is made beside the others.
+pub struct Kind {
+    pub name: &'static str,
+    pub weight: usize,
+    pub make: fn(&mut Rng) -> Case,
 }
 
 pub const PAIRS: &str = "pair of lists";
@@ -851,9 +852,13 @@ const KINDS: [Kind; 9] = [
     Kind { name: PAIRS, weight: 90, make: pair },
 ];
 
-pub fn random(rng: &mut Rng) -> Case {
-    let kind = rng.weighted(&KINDS.map(|k| k.weight));
-    Case { name: KINDS[kind].name, ..(KINDS[kind].make)(rng) }
+/// A random case, or None if it would be one with a feed and none such is wanted, or the other way round.
+pub fn random(rng: &mut Rng, feeds: Option<bool>) -> Option<Case> {
+    let kinds = || KINDS.iter().chain(&feeds::KINDS);
+    let kind = rng.weighted(&kinds().map(|k| k.weight).collect::<Vec<_>>());
+    let Kind { name, make, .. } = kinds().nth(kind).unwrap();
+    let wanted = feeds.is_none_or(|feeds| feeds == (kind >= KINDS.len()));
+    wanted.then(|| Case { name, ..make(rng) })
 }
 
 // ---------------------------------------------------------------------- fixed
@@ -983,20 +988,27 @@ pub fn hand_logs() -> Vec<HandLog> {
         ("try still held at exit hard", 8, "0:H+ t1E H-", 7),
         ("try released twice", 8, "0:t1E -1 -1", 5),
         ("try released in another frame", 8, "0:t1E S+ -1", 5),
+        ("two cycles of one class", 1, "0:t0E t0R 0E", 1),
     ];
     rows.into_iter().map(|(name, k, text, last)| HandLog { name, k, records: read(text), last }).collect()
 }
 
 /// The kinds of fixed cases, and how many there are of each.
-pub const FIXED: [(&str, u64); 8] = [
-    (HAND_LOGS, 78),
+pub const FIXED: [(&str, u64); 14] = [
+    (HAND_LOGS, 79),
     (EACH_PLACE, 5040),
     (EACH_OPENING, 3487),
     (EACH_CLAUSE, 2400),
-    (EACH_DESK_BYTE, 29_863),
+    (EACH_DESK_BYTE, 29_805),
     (EACH_STATE, 21_600),
     (ALL_OF_1, 4352),
     (ALL_OF_2, 65_536),
+    (feeds::EACH_FEED_SIZE, 160),
+    (feeds::EACH_STAND, 1620),
+    (feeds::EACH_FEED_BYTE, 5076),
+    (feeds::HAND_LOGS, 3485),
+    (feeds::EACH_CUT, 39_460),
+    (feeds::LONG_PIECES, 7),
 ];
 const HAND_LOGS: &str = "hand logs";
 const EACH_PLACE: &str = "each place released";
@@ -1007,8 +1019,20 @@ const EACH_STATE: &str = "each state and kind";
 const ALL_OF_1: &str = "all of K = 1";
 const ALL_OF_2: &str = "all sheets of K = 2";
 
-/// The cases made by hand and those that go through all of a small space, until one is answered with false.
+/// The cases made by hand and those that go through all of a small space, until one is answered with false. Those with
+/// feeds come last.
 pub fn fixed(each: &mut dyn FnMut(Case) -> bool) {
+    let mut going = true;
+    fixed_calls(&mut |case| {
+        going = each(case);
+        going
+    });
+    if going {
+        feeds::fixed(each);
+    }
+}
+
+fn fixed_calls(each: &mut dyn FnMut(Case) -> bool) {
     let mut each = |name: &'static str, case: Case| each(Case { name, ..case });
     let rng = &mut Rng::new(20_260_101);
     // Hand logs, every class asked after each record, and steps after the end.

@@ -8,17 +8,43 @@ use crate::fast;
 pub type Open = fn(u64, &mut [u8], &mut [u8]) -> u8;
 pub type Step = fn(&mut [u8], &mut [u8], &mut [u8], &[u8]) -> u8;
 pub type Ask = fn(&[u8], &[u8], u64, &mut u64, &mut u32) -> u8;
+pub type FeedStart = fn(&mut [u8]) -> u8;
+/// Feed, desk, sheet and slip, the piece, and the record number.
+pub type Feed = fn(&mut [u8], &mut [u8], &mut [u8], &mut [u8], &[u8], &mut u64) -> u8;
+pub type FeedEnd = fn(&mut [u8], &mut [u8], &mut [u8], &mut [u8], &mut u64) -> u8;
+/// A log in one piece, and whether it has ended; no call of the library.
+pub type WholeLog = fn(&[u8], &mut [u8], &mut [u8], &mut [u8], bool) -> (u8, u64);
 
-/// A judge's three calls.
+/// A judge's calls.
 #[derive(Clone, Copy)]
 pub struct Judge {
     pub open: Open,
     pub step: Step,
     pub ask: Ask,
+    pub feed_start: FeedStart,
+    pub feed: Feed,
+    pub feed_end: FeedEnd,
+    pub whole_log: WholeLog,
 }
 
-pub const REFERENCE: Judge = Judge { open: reference::open, step: reference::step, ask: reference::ask };
-pub const FAST: Judge = Judge { open: fast::open, step: fast::step, ask: fast::ask };
+pub const REFERENCE: Judge = Judge {
+    open: reference::open,
+    step: reference::step,
+    ask: reference::ask,
+    feed_start: reference::feed_start,
+    feed: reference::feed,
+    feed_end: reference::feed_end,
+    whole_log: reference::whole_log,
+};
+pub const FAST: Judge = Judge {
+    open: fast::open,
+    step: fast::step,
+    ask: fast::ask,
+    feed_start: fast::feed_start,
+    feed: fast::feed,
+    feed_end: fast::feed_end,
+    whole_log: reference::whole_log,
+};
 
 /// Those that are compared.
 pub struct Judges {
@@ -47,6 +73,15 @@ extern "C" {
         desk: *const u8, desk_len: usize, sheet: *const u8, sheet_len: usize,
         class: u64, word: *mut u64, count: *mut u32,
     ) -> u8;
+    fn plungerowl_feed_start(feed: *mut u8, feed_len: usize) -> u8;
+    fn plungerowl_feed(
+        feed: *mut u8, feed_len: usize, desk: *mut u8, desk_len: usize, sheet: *mut u8, sheet_len: usize,
+        slip: *mut u8, slip_len: usize, piece: *const u8, piece_len: usize, record: *mut u64,
+    ) -> u8;
+    fn plungerowl_feed_end(
+        feed: *mut u8, feed_len: usize, desk: *mut u8, desk_len: usize, sheet: *mut u8, sheet_len: usize,
+        slip: *mut u8, slip_len: usize, record: *mut u64,
+    ) -> u8;
 
     // From the C library that std links anyway.
     fn mmap(at: *mut u8, len: usize, prot: i32, flags: i32, fd: i32, offset: i64) -> *mut u8;
@@ -70,9 +105,33 @@ pub mod library {
     pub fn ask(desk: &[u8], sheet: &[u8], class: u64, word: &mut u64, count: &mut u32) -> u8 {
         unsafe { super::plungerowl_ask(desk.as_ptr(), desk.len(), sheet.as_ptr(), sheet.len(), class, word, count) }
     }
+    pub fn feed_start(feed: &mut [u8]) -> u8 {
+        unsafe { super::plungerowl_feed_start(feed.as_mut_ptr(), feed.len()) }
+    }
+    #[inline(never)]
+    pub fn feed(
+        feed: &mut [u8], desk: &mut [u8], sheet: &mut [u8], slip: &mut [u8], piece: &[u8], record: &mut u64,
+    ) -> u8 {
+        unsafe {
+            super::plungerowl_feed(
+                feed.as_mut_ptr(), feed.len(), desk.as_mut_ptr(), desk.len(), sheet.as_mut_ptr(), sheet.len(),
+                slip.as_mut_ptr(), slip.len(), piece.as_ptr(), piece.len(), record,
+            )
+        }
+    }
+    #[inline(never)]
+    pub fn feed_end(feed: &mut [u8], desk: &mut [u8], sheet: &mut [u8], slip: &mut [u8], record: &mut u64) -> u8 {
+        unsafe {
+            super::plungerowl_feed_end(
+                feed.as_mut_ptr(), feed.len(), desk.as_mut_ptr(), desk.len(), sheet.as_mut_ptr(), sheet.len(),
+                slip.as_mut_ptr(), slip.len(), record,
+            )
+        }
+    }
 }
 
-const ROOM: usize = 16384;
+/// For the longest piece too.
+const ROOM: usize = 1 << 18;
 
 /// Memory whose end borders on an unreadable page.
 struct Edge {
@@ -105,7 +164,7 @@ pub enum Subject {
 }
 
 pub struct Edges {
-    edges: [Edge; 4],
+    edges: [Edge; 5],
     calls: u64,
 }
 
@@ -124,7 +183,7 @@ impl Edges {
 
 impl Subject {
     pub fn library() -> Subject {
-        let edges = [Edge::new(), Edge::new(), Edge::new(), Edge::new()];
+        let edges = std::array::from_fn(|_| Edge::new());
         Subject::Library(Box::new(Edges { edges, calls: 0 }))
     }
 
@@ -152,7 +211,7 @@ impl Subject {
                 if !e.turn() {
                     return library::step(desk, sheet, slip, record);
                 }
-                let [a, b, c, f] = &mut e.edges;
+                let [a, b, c, f, ..] = &mut e.edges;
                 let (d, s, l, r) = (a.copy(desk), b.copy(sheet), c.copy(slip), f.copy(record));
                 let answer = library::step(d, s, l, r);
                 desk.copy_from_slice(d);
@@ -175,6 +234,64 @@ impl Subject {
                 let (d, s) = (a.copy(desk), b.copy(sheet));
                 let answer = library::ask(d, s, class, word, count);
                 assert!(d == desk && s == sheet, "a question changed its buffers");
+                answer
+            }
+        }
+    }
+
+    pub fn feed_start(&mut self, feed: &mut [u8]) -> u8 {
+        match self {
+            Subject::Planted(judge) => (judge.feed_start)(feed),
+            Subject::Library(e) => {
+                if !e.turn() {
+                    return library::feed_start(feed);
+                }
+                let f = e.edges[0].copy(feed);
+                let answer = library::feed_start(f);
+                feed.copy_from_slice(f);
+                answer
+            }
+        }
+    }
+
+    pub fn feed(
+        &mut self, feed: &mut [u8], desk: &mut [u8], sheet: &mut [u8], slip: &mut [u8], piece: &[u8], record: &mut u64,
+    ) -> u8 {
+        match self {
+            Subject::Planted(judge) => (judge.feed)(feed, desk, sheet, slip, piece, record),
+            Subject::Library(e) => {
+                if !e.turn() {
+                    return library::feed(feed, desk, sheet, slip, piece, record);
+                }
+                let [a, b, c, d, g] = &mut e.edges;
+                let (f, d, s, l, p) = (a.copy(feed), b.copy(desk), c.copy(sheet), d.copy(slip), g.copy(piece));
+                let answer = library::feed(f, d, s, l, p, record);
+                feed.copy_from_slice(f);
+                desk.copy_from_slice(d);
+                sheet.copy_from_slice(s);
+                slip.copy_from_slice(l);
+                assert!(p == piece, "the piece was changed");
+                answer
+            }
+        }
+    }
+
+    pub fn feed_end(
+        &mut self, feed: &mut [u8], desk: &mut [u8], sheet: &mut [u8], slip: &mut [u8], record: &mut u64,
+    ) -> u8 {
+        match self {
+            Subject::Planted(judge) => (judge.feed_end)(feed, desk, sheet, slip, record),
+            Subject::Library(e) => {
+                if !e.turn() {
+                    return library::feed_end(feed, desk, sheet, slip, record);
+                }
+                let [a, b, c, d, _] = &mut e.edges;
+                let (f, d, s, l) = (a.copy(feed), b.copy(desk), c.copy(sheet), d.copy(slip));
+                let answer = library::feed_end(f, d, s, l, record);
+                feed.copy_from_slice(f);
+                desk.copy_from_slice(d);
+                sheet.copy_from_slice(s);
+                slip.copy_from_slice(l);
                 answer
             }
         }

@@ -1,11 +1,13 @@
 //! compare: runs the proved library and the independent reference over many inputs and
-//! compares after every call: the answer, every byte of desk and sheet with the guards
-//! around them, word and count; slips as far as the document fixes them. See HELP.
+//! compares after every call: the answer, every byte of desk, sheet and feed with the
+//! guards around them, word and count, the record number; slips as far as the document
+//! fixes them. See HELP.
 
 mod bench;
 mod claim;
 mod drawing;
 mod fast;
+mod feeds;
 mod gen;
 mod judges;
 mod needs;
@@ -38,7 +40,8 @@ compare: the library beside the reference, call by call and byte by byte
   --planted NAME           a wrong judge in the library's place
   --both                   the planted judge in the place of the reference and the fast
                            judge too: then only demand 3's pairs of lists can show it,
-                           and the answers that the documents give for the hand logs
+                           the promise of a log in pieces, and the answers that the
+                           documents give for the hand logs
   --without NAME           leave out what is counted under this name
 
 Exit status: 0 no difference and every minimum met; 1 a difference, a wrong answer or a
@@ -52,6 +55,8 @@ struct Limits {
     cases: u64,
     seed: u64,
     without: Option<Need>,
+    /// Of the random cases only those with feeds, or only the others.
+    feeds: Option<bool>,
 }
 
 impl Limits {
@@ -66,13 +71,18 @@ impl Limits {
         gen::fixed(&mut |case| self.pass(case).is_none_or(&mut *each));
     }
 
-    /// Goes through the random cases likewise. Each has its own seed, so that a case is made again by its number.
+    /// A random case. Each has its own seed, so that a case is made again by its number.
+    fn numbered(&self, number: u64) -> Option<Case> {
+        let seed = self.seed.wrapping_mul(0x2545_F491_4F6C_DD1D) ^ number.wrapping_mul(0xD134_2543_DE82_EF95);
+        gen::random(&mut Rng::new(seed), self.feeds)
+    }
+
+    /// Goes through the random cases likewise.
     fn random(&self, end: Instant, each: &mut dyn FnMut(Case) -> bool) {
         let (mut number, mut run) = (0u64, 0);
         while run < self.cases && self.without != Some(Need::RandomCases) && Instant::now() < end {
-            let seed = self.seed.wrapping_mul(0x2545_F491_4F6C_DD1D) ^ number.wrapping_mul(0xD134_2543_DE82_EF95);
             number += 1;
-            let Some(case) = self.pass(gen::random(&mut Rng::new(seed))) else { continue };
+            let Some(case) = self.numbered(number - 1).and_then(|case| self.pass(case)) else { continue };
             run += 1;
             if !each(case) {
                 return;
@@ -125,14 +135,23 @@ fn print_difference(case: &Case, diff: &Diff, judges: &mut Judges, met: &Met) {
 fn report(met: &Met, limits: &Limits) -> bool {
     let Met { fixed, random } = met;
     println!("{} cases, {} calls compared; of the random cases:", fixed.cases + random.cases, fixed.calls + random.calls);
-    for (name, answers) in [("opening", &random.open), ("step", &random.step), ("question", &random.ask)] {
+    for (name, answers) in [
+        ("opening", &random.open), ("step", &random.step), ("question", &random.ask), ("feed start", &random.feed_start),
+        ("piece", &random.feed), ("feed end", &random.feed_end),
+    ] {
         let row: Vec<String> = (0..16).filter(|&i| answers[i] > 0).map(|i| format!("{i}: {}", answers[i])).collect();
-        println!("{name:9} {}", row.join(", "));
+        println!("{name:10} {}", row.join(", "));
     }
     println!("unfit, first clause met (step, question):");
     for (i, clause) in reference::CLAUSES.iter().enumerate() {
         println!("  {clause:32} {:>9} {:>9}", random.clause_step[i], random.clause_ask[i]);
     }
+    println!("unfit feed, first clause met (piece, end):");
+    for (i, clause) in reference::FEED_CLAUSES.iter().enumerate() {
+        println!("  {clause:46} {:>9} {:>9}", random.clause_feed[i], random.clause_feed_end[i]);
+    }
+    let promised = feeds::PROMISE.iter().zip(random.promised).map(|(part, n)| format!("{part} {n}"));
+    println!("feeds held to the promise: {}", promised.collect::<Vec<_>>().join(", "));
     let [none, second, both] = random.pair_faults;
     println!(
         "pairs of lists ({} records in the second lists): no fault {none}, fault in the second only {second}, in both {both}",
@@ -150,7 +169,7 @@ fn report(met: &Met, limits: &Limits) -> bool {
     }
     println!("sights:");
     for (sight, met) in sights::SIGHTS.iter().zip(random.sights.0) {
-        println!("  {:56} {met:>9}", sight.name);
+        println!("  {:58} {met:>9}", sight.name);
     }
     let under = needs::under(fixed, random, limits.cases);
     for (need, met, least) in &under {
@@ -163,7 +182,7 @@ fn report(met: &Met, limits: &Limits) -> bool {
     under.is_empty() && undue.is_empty()
 }
 
-/// The hand logs' answers as the document gives them, on the subject's own.
+/// The hand logs' answers as the document gives them, on the subject's own, by steps and in pieces of five bytes.
 fn hand_answers(subject: &mut Subject) -> bool {
     let mut well = true;
     for log in gen::hand_logs() {
@@ -174,6 +193,16 @@ fn hand_answers(subject: &mut Subject) -> bool {
         let right = n == 0 || (answers[n - 1] == log.last && answers[..n - 1].iter().all(|&a| a == 0));
         if !right {
             println!("hand log {}: answers {answers:?}, the last should be {} and the others 0", log.name, log.last);
+            well = false;
+        }
+        let mut s = gen::Shadow::opened(log.k);
+        let (mut feed, mut number) = ([0; reference::FEED], 0);
+        for piece in feeds::log_of(log.k as u8, &log.records).chunks(5) {
+            subject.feed(&mut feed, &mut s.desk, &mut s.sheet, &mut s.slip, piece, &mut number);
+        }
+        let answer = subject.feed_end(&mut feed, &mut s.desk, &mut s.sheet, &mut s.slip, &mut number);
+        if (answer, number) != (log.last, n as u64) {
+            println!("hand log {} in pieces: {answer} at record {number}, not {} at record {n}", log.name, log.last);
             well = false;
         }
     }
@@ -206,7 +235,7 @@ fn list() {
     }
     println!("counted, with the least number (in 100,000 random cases, but for the first {}):", 1 + gen::FIXED.len());
     for (need, least) in needs::all() {
-        println!("  {:56} {least:>6}", need.name());
+        println!("  {:58} {least:>6}", need.name());
     }
 }
 
@@ -256,6 +285,7 @@ fn obey(mut args: impl Iterator<Item = String>) -> Result<bool, String> {
         cases: cases.unwrap_or(u64::MAX),
         seed,
         without,
+        feeds: None,
     };
     let name = plant.map_or("the library".into(), |p| format!("planted {} ({})", p.name, p.wrong));
     println!("subject: {name}; seed {seed}");

@@ -1,11 +1,12 @@
 //! What a run must have met to count: so much of each, or it fails though nothing differed. And the other way round: a
 //! case without what is counted under a name, to see that the run then fails.
 
+use crate::feeds::{self, PROMISE};
 use crate::gen::{self, Shadow};
 use crate::judges::FAST;
 use crate::run::{Call, Case, Counts};
 use crate::sights::{Look, SIGHTS};
-use reference::{CLAUSES, DEEPEST, DEPTHS, HOLDS, MARKS};
+use reference::{CLAUSES, DEEPEST, DEPTHS, FEED_CLAUSES, HOLDS, MARKS};
 
 /// Random cases of a full run: 66,000 were seen in 60 s beside four busy programs on two cores.
 const RANDOM_CASES: u64 = 5000;
@@ -15,6 +16,9 @@ pub enum Asked {
     Opening,
     Step,
     Question,
+    Start,
+    Piece,
+    End,
 }
 
 /// Something that is counted.
@@ -25,6 +29,9 @@ pub enum Need {
     Kind(&'static str),
     Answer(Asked, u8),
     Clause(Asked, usize),
+    FeedClause(Asked, usize),
+    /// A feed held to this part of the promise.
+    Promise(usize),
     FaultInSecond,
     FaultInBoth,
     Filled,
@@ -34,12 +41,12 @@ pub enum Need {
     AskedItself,
     Sight(usize),
 }
-use Asked::{Opening, Question, Step};
+use Asked::{End, Opening, Piece, Question, Start, Step};
 
 const SOURCES: [&str; 3] = ["hold", "hard", "soft"];
 
 /// The kinds of random cases; named here too, so that one is missed that is no longer made.
-const RANDOM: [(&str, u64); 9] = [
+const RANDOM: [(&str, u64); 13] = [
     ("log from opening", 1800),
     ("deep log", 600),
     ("long log", 50),
@@ -49,6 +56,10 @@ const RANDOM: [(&str, u64); 9] = [
     ("changed desk", 1150),
     ("opening", 800),
     (gen::PAIRS, 900),
+    (feeds::CUT_LOG, 1000),
+    ("long log in pieces", 33),
+    ("any feed", 1100),
+    ("end over loose bytes", 880),
 ];
 
 /// Every need with its least number: of a fixed kind all of its cases; of the rest so many in 100,000 random cases, about
@@ -67,6 +78,19 @@ pub fn all() -> Vec<(Need, u64)> {
             ],
         ),
         (Question, &[(0, 22_000), (4, 8000), (11, 3600)]),
+        (Start, &[(0, 1100), (2, 53)]),
+        (
+            Piece,
+            &[
+                (0, 14_000), (1, 410), (2, 6400), (3, 2800), (4, 100), (5, 61), (6, 220), (7, 61), (8, 60), (10, 440), (11, 4700),
+            ],
+        ),
+        (
+            End,
+            &[
+                (0, 1100), (1, 160), (2, 1200), (3, 1100), (4, 69), (5, 56), (6, 92), (7, 50), (8, 53), (10, 490), (11, 1400),
+            ],
+        ),
     ] {
         all.extend(answers.iter().map(|&(answer, least)| (Need::Answer(call, answer), least)));
     }
@@ -77,6 +101,10 @@ pub fn all() -> Vec<(Need, u64)> {
             all.push((Need::Clause(Question, clause), 70));
         }
     }
+    for clause in 0..FEED_CLAUSES.len() {
+        all.extend([(Need::FeedClause(Piece, clause), 110), (Need::FeedClause(End, clause), 57)]);
+    }
+    all.extend([2300, 1000, 2300].into_iter().enumerate().map(|(part, least)| (Need::Promise(part), least)));
     all.extend([(Need::FaultInSecond, 200), (Need::FaultInBoth, 140)]);
     all.extend([(Need::Filled, 13_000), (Need::OverFull, 5000)]);
     all.extend([(Need::Source(0), 4200), (Need::Source(1), 620), (Need::Source(2), 340)]);
@@ -95,12 +123,17 @@ impl Need {
             Opening => "opening",
             Step => "step",
             Question => "question",
+            Start => "feed start",
+            Piece => "piece",
+            End => "feed end",
         };
         match self {
             Need::RandomCases => "random cases".into(),
             Need::Fixed(name) | Need::Kind(name) => name.into(),
             Need::Answer(c, answer) => format!("{} {answer}", call(c)),
             Need::Clause(c, clause) => format!("{} with {}", call(c), CLAUSES[clause]),
+            Need::FeedClause(c, clause) => format!("{} with {}", call(c), FEED_CLAUSES[clause]),
+            Need::Promise(part) => format!("feed {}", PROMISE[part]),
             Need::FaultInSecond => "pair with a fault in the second list only".into(),
             Need::FaultInBoth => "pair with a fault in both lists".into(),
             Need::Filled => "frame filled from opening".into(),
@@ -113,7 +146,7 @@ impl Need {
     }
 
     /// How often it was met; all but the fixed kinds in random cases alone.
-    fn met(self, fixed: &Counts, random: &Counts) -> u64 {
+    pub fn met(self, fixed: &Counts, random: &Counts) -> u64 {
         match self {
             Need::RandomCases => random.cases,
             Need::Fixed(name) => cases_named(fixed, name),
@@ -121,6 +154,12 @@ impl Need {
             Need::Answer(Opening, answer) => random.open[usize::from(answer)],
             Need::Answer(Step, answer) => random.step[usize::from(answer)],
             Need::Answer(Question, answer) => random.ask[usize::from(answer)],
+            Need::Answer(Start, answer) => random.feed_start[usize::from(answer)],
+            Need::Answer(Piece, answer) => random.feed[usize::from(answer)],
+            Need::Answer(End, answer) => random.feed_end[usize::from(answer)],
+            Need::FeedClause(Piece, clause) => random.clause_feed[clause],
+            Need::FeedClause(_, clause) => random.clause_feed_end[clause],
+            Need::Promise(part) => random.promised[part],
             Need::Clause(Question, clause) => random.clause_ask[clause],
             Need::Clause(_, clause) => random.clause_step[clause],
             Need::FaultInSecond => random.pair_faults[1],
@@ -151,6 +190,8 @@ impl Need {
             (Need::FaultInSecond | Need::FaultInBoth, None) => {}
             // A pair is run twice with two answers to a record.
             (_, Some(_)) => return false,
+            // A case without a call of the feed is held to no promise.
+            (Need::Promise(_), None) => case.calls.retain(|call| !call.of_feed()),
             (_, None) => {
                 let kept = play(case, |seen| !self.meets(seen), None);
                 keep(case, &kept);
@@ -165,6 +206,9 @@ impl Need {
             Call::Open(_) => Opening,
             Call::Step(_) => Step,
             Call::Ask(_) => Question,
+            Call::FeedStart => Start,
+            Call::Feed(_) => Piece,
+            Call::FeedEnd => End,
         };
         let (before, after) = (&seen.before, &seen.after);
         match self {
@@ -172,6 +216,7 @@ impl Need {
             Need::Clause(c, clause) => {
                 c == call && seen.clause() == Some(CLAUSES[clause])
             }
+            Need::FeedClause(c, clause) => c == call && seen.clause() == Some(FEED_CLAUSES[clause]),
             Need::Filled => {
                 let full = |desk: &[u8]| desk[DEPTHS..MARKS].iter().filter(|&&d| usize::from(d) == DEEPEST).count();
                 call == Step && seen.answer < 2 && full(&after.desk) > full(&before.desk)
@@ -186,12 +231,17 @@ impl Need {
             Need::AskedItself => {
                 matches!(seen.call, Call::Ask(class) if seen.answer == 0 && seen.word >> class & 1 == 1) && before.desk[1] == 0
             }
-            Need::Sight(i) => (SIGHTS[i].met)(&Look {
+            Need::Sight(i) => SIGHTS[i].met(&Look {
                 call: seen.call,
                 before: &before.desk,
                 after: &after.desk,
                 answer: seen.answer,
                 clause: seen.clause(),
+                feed: &seen.feed,
+                feed_after: &seen.feed_after,
+                sheet_len: before.sheet.len(),
+                slip_len: before.slip.len(),
+                after_end: seen.after_end,
             }),
             _ => false,
         }
@@ -203,6 +253,10 @@ struct Seen<'a> {
     call: &'a Call,
     before: Shadow,
     after: Shadow,
+    feed: Vec<u8>,
+    feed_after: Vec<u8>,
+    /// Whether the call before was an end that answered 0.
+    after_end: bool,
     answer: u8,
     word: u64,
 }
@@ -210,6 +264,9 @@ struct Seen<'a> {
 impl Seen<'_> {
     /// With answer 11: the first clause that is violated.
     fn clause(&self) -> Option<&'static str> {
+        if self.call.of_feed() {
+            return reference::unfit_feed(&self.feed).filter(|_| self.answer == 11);
+        }
         let slip = matches!(self.call, Call::Step(_)).then_some(&self.before.slip[..]);
         let unfit = || reference::unfit(&self.before.desk, &self.before.sheet, slip);
         if self.answer == 11 { unfit() } else { None }
@@ -222,22 +279,32 @@ fn play(case: &Case, keeps: impl Fn(&Seen) -> bool, chosen: Option<&[bool]>) -> 
     if let Some((k, _)) = case.pair {
         (FAST.open)(k, &mut now.desk, &mut now.sheet);
     }
+    let (mut feed, mut after_end) = (case.feed.clone(), false);
     let mut kept = Vec::new();
     for (at, call) in case.calls.iter().enumerate() {
         if chosen.is_some_and(|c| !c[at]) {
             kept.push(true);
             continue;
         }
-        let before = now.clone();
-        let (mut word, mut count) = (0, 0);
+        let (before, feed_before) = (now.clone(), feed.clone());
+        let (mut word, mut count, mut record) = (0, 0, 0);
+        let Shadow { desk, sheet, slip } = &mut now;
         let answer = match call {
-            Call::Open(k) => (FAST.open)(*k, &mut now.desk, &mut now.sheet),
-            Call::Step(r) => (FAST.step)(&mut now.desk, &mut now.sheet, &mut now.slip, r.slice()),
-            Call::Ask(class) => (FAST.ask)(&now.desk, &now.sheet, *class, &mut word, &mut count),
+            Call::Open(k) => (FAST.open)(*k, desk, sheet),
+            Call::Step(r) => (FAST.step)(desk, sheet, slip, r.slice()),
+            Call::Ask(class) => (FAST.ask)(desk, sheet, *class, &mut word, &mut count),
+            Call::FeedStart => (FAST.feed_start)(&mut feed),
+            Call::Feed(piece) => (FAST.feed)(&mut feed, desk, sheet, slip, piece, &mut record),
+            Call::FeedEnd => (FAST.feed_end)(&mut feed, desk, sheet, slip, &mut record),
         };
-        let seen = Seen { call, before, after: now, answer, word };
+        let seen = Seen { call, before, after: now, feed: feed_before, feed_after: feed, after_end, answer, word };
         kept.push(keeps(&seen));
-        now = if kept[at] { seen.after } else { seen.before };
+        if kept[at] {
+            after_end = matches!(call, Call::FeedEnd) && answer == 0;
+            (now, feed) = (seen.after, seen.feed_after);
+        } else {
+            (now, feed) = (seen.before, seen.feed);
+        }
     }
     kept
 }
@@ -275,7 +342,7 @@ pub fn under(fixed: &Counts, random: &Counts, cases: u64) -> Vec<Under> {
 /// Answers that were given though the call has none such, and how often.
 pub fn undue(counts: &Counts) -> Vec<(Need, u64)> {
     let due = all();
-    [Opening, Step, Question]
+    [Opening, Step, Question, Start, Piece, End]
         .into_iter()
         .flat_map(|call| (0..16).map(move |answer| Need::Answer(call, answer)))
         .filter(|need| !due.iter().any(|(d, _)| d == need))

@@ -3,9 +3,10 @@
 //! call.
 
 use crate::claim;
-use crate::judges::Judges;
+use crate::feeds::{self, Fed, PROMISE};
+use crate::judges::{Judges, Subject};
 use crate::sights::{self, Look, SIGHTS};
-use reference::{CLAUSES, DEEPEST, DEPTHS, DESK, MARKS};
+use reference::{CLAUSES, DEEPEST, DEPTHS, DESK, FEED, FEED_CLAUSES, MARKS};
 
 /// A record of 0 to 12 bytes.
 #[derive(Clone, Copy, PartialEq, Eq)]
@@ -45,6 +46,15 @@ pub enum Call {
     Open(u64),
     Step(Rec),
     Ask(u64),
+    FeedStart,
+    Feed(Vec<u8>),
+    FeedEnd,
+}
+
+impl Call {
+    pub fn of_feed(&self) -> bool {
+        matches!(self, Call::FeedStart | Call::Feed(_) | Call::FeedEnd)
+    }
 }
 
 #[derive(Clone)]
@@ -53,6 +63,8 @@ pub struct Case {
     pub desk: Vec<u8>,
     pub sheet: Vec<u8>,
     pub slip: Vec<u8>,
+    /// Empty where no call is of the feed.
+    pub feed: Vec<u8>,
     pub calls: Vec<Call>,
     /// For a pair of lists (demand 3): which calls stand in the first list too. Then
     /// `calls` is the second list, and each list starts from opening with this K.
@@ -62,7 +74,7 @@ pub struct Case {
 }
 
 pub struct Diff {
-    /// The judge that is wrong, or the part of demand 3's claim that is broken.
+    /// The judge that is wrong, or the part of demand 3's claim or of the feed's promise that is broken.
     pub judge: &'static str,
     pub call: usize,
     pub text: String,
@@ -86,9 +98,16 @@ pub struct Counts {
     pub ask: [u64; 16],
     pub clause_step: [u64; CLAUSES.len()],
     pub clause_ask: [u64; CLAUSES.len()],
-    /// Calls of each sight, and the sights of the last call, bit by bit.
+    pub feed_start: [u64; 16],
+    pub feed: [u64; 16],
+    pub feed_end: [u64; 16],
+    pub clause_feed: [u64; FEED_CLAUSES.len()],
+    pub clause_feed_end: [u64; FEED_CLAUSES.len()],
+    /// Feeds held to each part of the promise.
+    pub promised: [u64; PROMISE.len()],
+    /// Calls of each sight, and the sights of the last call.
     pub sights: Sighted,
-    pub last_sights: u64,
+    pub last_sights: sights::Set,
     pub pair_records: u64,
     /// Pairs of lists with no fault, with one in the second only, in both.
     pub pair_faults: [u64; 3],
@@ -135,6 +154,29 @@ struct Bench {
     desk: Guarded,
     sheet: Guarded,
     slip: Guarded,
+    feed: Guarded,
+}
+
+impl Bench {
+    fn of(case: &Case) -> Bench {
+        Bench {
+            desk: Guarded::of(&case.desk),
+            sheet: Guarded::of(&case.sheet),
+            slip: Guarded::of(&case.slip),
+            feed: Guarded::of(&case.feed),
+        }
+    }
+    /// The first difference in a buffer, the slip only if it should be the same.
+    fn differs(&self, other: &Bench, with_slip: bool) -> Option<String> {
+        let buffers = [
+            ("desk", &self.desk, &other.desk),
+            ("sheet", &self.sheet, &other.sheet),
+            ("feed", &self.feed, &other.feed),
+            ("slip", &self.slip, &other.slip),
+        ];
+        let some = if with_slip { 4 } else { 3 };
+        buffers[..some].iter().filter(|(_, a, b)| a.all != b.all).find_map(|(what, a, b)| first_difference(what, a, b))
+    }
 }
 
 fn first_difference(what: &str, a: &Guarded, b: &Guarded) -> Option<String> {
@@ -164,11 +206,24 @@ fn slip_wrong(answer: u8, bench: &Bench, before: &Guarded) -> Option<String> {
 }
 
 impl Counts {
-    fn sight(&mut self, call: &Call, before: &Bench, after: &Bench, answer: u8, clause: Option<&'static str>) {
-        let look = Look { call, before: before.desk.see(), after: after.desk.see(), answer, clause };
+    fn sight(
+        &mut self, call: &Call, before: &Bench, after: &Bench, answer: u8, clause: Option<&'static str>, after_end: bool,
+    ) {
+        let look = Look {
+            call,
+            before: before.desk.see(),
+            after: after.desk.see(),
+            answer,
+            clause,
+            feed: before.feed.see(),
+            feed_after: after.feed.see(),
+            sheet_len: before.sheet.see().len(),
+            slip_len: before.slip.see().len(),
+            after_end,
+        };
         self.last_sights = sights::of(&look);
-        for (i, count) in self.sights.0.iter_mut().enumerate() {
-            *count += self.last_sights >> i & 1;
+        for (count, met) in self.sights.0.iter_mut().zip(self.last_sights.0) {
+            *count += u64::from(met);
         }
     }
 }
@@ -178,15 +233,20 @@ fn full_frames(bench: &Bench) -> usize {
     bench.desk.see()[DEPTHS..MARKS].iter().filter(|&&depth| usize::from(depth) == DEEPEST).count()
 }
 
-/// Runs the calls on the three benches; the subject's answers.
-fn run_calls(case: &Case, calls: &[&Call], judges: &mut Judges, counts: &mut Counts) -> Result<Vec<u8>, Diff> {
+/// What calls left: the subject's answers, subject's and reference's benches, and the last record number of a feed.
+struct Ran {
+    answers: Vec<u8>,
+    subject: Bench,
+    reference: Bench,
+    record: u64,
+}
+
+/// Runs the calls on the three benches.
+fn run_calls(case: &Case, calls: &[&Call], judges: &mut Judges, counts: &mut Counts) -> Result<Ran, Diff> {
     let Judges { subject, reference: other, fast } = judges;
     let mut from_opening = false;
-    let fresh = Bench {
-        desk: Guarded::of(&case.desk),
-        sheet: Guarded::of(&case.sheet),
-        slip: Guarded::of(&case.slip),
-    };
+    let (mut record, mut after_end) = (0, false);
+    let fresh = Bench::of(case);
     let mut refe = fresh.clone();
     let mut quick = fresh.clone();
     let mut subj = fresh.clone();
@@ -197,6 +257,8 @@ fn run_calls(case: &Case, calls: &[&Call], judges: &mut Judges, counts: &mut Cou
         let fail = |judge: &'static str, text: String| Err(Diff { judge, call: at, text });
         before.desk.all.copy_from_slice(&refe.desk.all);
         before.sheet.all.copy_from_slice(&refe.sheet.all);
+        before.feed.all.copy_from_slice(&refe.feed.all);
+        before.slip.all.copy_from_slice(&refe.slip.all);
         for (was, is) in slip_before.iter_mut().zip([&subj.slip, &quick.slip, &refe.slip]) {
             was.all.copy_from_slice(&is.all);
         }
@@ -208,7 +270,7 @@ fn run_calls(case: &Case, calls: &[&Call], judges: &mut Judges, counts: &mut Cou
                 want = (other.open)(*k, refe.desk.lend(), refe.sheet.lend());
                 got = subject.open(*k, subj.desk.lend(), subj.sheet.lend());
                 fast_got = (fast.open)(*k, quick.desk.lend(), quick.sheet.lend());
-                counts.sight(call, &before, &refe, want, clause);
+                counts.sight(call, &before, &refe, want, clause, after_end);
                 counts.open[usize::from(want)] += 1;
                 from_opening |= want == 0;
             }
@@ -234,7 +296,7 @@ fn run_calls(case: &Case, calls: &[&Call], judges: &mut Judges, counts: &mut Cou
                 } else if case.clause.is_some() {
                     return fail("reference", format!("{want} though {:?} was meant", case.clause));
                 }
-                counts.sight(call, &before, &refe, want, clause);
+                counts.sight(call, &before, &refe, want, clause, after_end);
                 if from_opening {
                     counts.filled += u64::from(want < 2 && full_frames(&refe) > full_frames(&before));
                     counts.over_full += u64::from(want == 8);
@@ -271,7 +333,7 @@ fn run_calls(case: &Case, calls: &[&Call], judges: &mut Judges, counts: &mut Cou
                     counts.asked_closed += u64::from(refe.desk.see()[1] == 1);
                     counts.asked_itself += u64::from(refe.desk.see()[1] == 0 && w0 >> class & 1 == 1);
                 }
-                counts.sight(call, &before, &refe, want, clause);
+                counts.sight(call, &before, &refe, want, clause, after_end);
                 if (w[1], c[1]) != (w0, c0) && got == want {
                     return fail("subject", format!("word {:#x} count {} instead of {w0:#x} {c0}", w[1], c[1]));
                 }
@@ -285,7 +347,67 @@ fn run_calls(case: &Case, calls: &[&Call], judges: &mut Judges, counts: &mut Cou
                     return fail("fast", format!("word {w2:#x} count {c2} instead of {w0:#x} {c0}"));
                 }
             }
+            Call::FeedStart => {
+                want = (other.feed_start)(refe.feed.lend());
+                got = subject.feed_start(subj.feed.lend());
+                fast_got = (fast.feed_start)(quick.feed.lend());
+                counts.feed_start[usize::from(want)] += 1;
+                counts.sight(call, &before, &refe, want, clause, after_end);
+                let mut fresh = before.feed.clone();
+                if want == 0 {
+                    fresh.lend()[..FEED].fill(0);
+                }
+                if fresh.all != refe.feed.all || (want == 0) != (fresh.see().len() >= FEED) {
+                    return fail("reference", "the start is wrong".into());
+                }
+            }
+            Call::Feed(_) | Call::FeedEnd => {
+                const JUNK: u64 = 0xDEAD_BEEF_0BAD_F00D;
+                let (mut n0, mut n2) = (JUNK, JUNK);
+                // Guards around the record number.
+                let mut n = [JUNK; 3];
+                let (r, s, q) = (&mut refe, &mut subj, &mut quick);
+                (want, got, fast_got) = if let Call::Feed(piece) = call {
+                    (
+                        (other.feed)(r.feed.lend(), r.desk.lend(), r.sheet.lend(), r.slip.lend(), piece, &mut n0),
+                        subject.feed(s.feed.lend(), s.desk.lend(), s.sheet.lend(), s.slip.lend(), piece, &mut n[1]),
+                        (fast.feed)(q.feed.lend(), q.desk.lend(), q.sheet.lend(), q.slip.lend(), piece, &mut n2),
+                    )
+                } else {
+                    (
+                        (other.feed_end)(r.feed.lend(), r.desk.lend(), r.sheet.lend(), r.slip.lend(), &mut n0),
+                        subject.feed_end(s.feed.lend(), s.desk.lend(), s.sheet.lend(), s.slip.lend(), &mut n[1]),
+                        (fast.feed_end)(q.feed.lend(), q.desk.lend(), q.sheet.lend(), q.slip.lend(), &mut n2),
+                    )
+                };
+                clause = reference::unfit_feed(before.feed.see());
+                let clauses = if matches!(call, Call::Feed(_)) {
+                    counts.feed[usize::from(want)] += 1;
+                    &mut counts.clause_feed
+                } else {
+                    counts.feed_end[usize::from(want)] += 1;
+                    &mut counts.clause_feed_end
+                };
+                if let Some(i) = FEED_CLAUSES.iter().position(|c| Some(*c) == clause) {
+                    clauses[i] += 1;
+                    if (want, n0) != (11, 0) {
+                        return fail("reference", format!("{want} at record {n0} with an unfit feed"));
+                    }
+                }
+                counts.sight(call, &before, &refe, want, clause, after_end);
+                if n[1] != n0 && got == want {
+                    return fail("subject", format!("record {} instead of {n0}", n[1]));
+                }
+                if n[0] != JUNK || n[2] != JUNK {
+                    return fail("subject", "wrote beside the record number".into());
+                }
+                if n2 != n0 {
+                    return fail("fast", format!("record {n2} instead of {n0}"));
+                }
+                record = n0;
+            }
         }
+        after_end = matches!(call, Call::FeedEnd) && want == 0;
         answers.push(got);
         for (name, answer, bench, slip) in
             [("subject", got, &subj, &slip_before[0]), ("fast", fast_got, &quick, &slip_before[1]), ("reference", want, &refe, &slip_before[2])]
@@ -293,13 +415,16 @@ fn run_calls(case: &Case, calls: &[&Call], judges: &mut Judges, counts: &mut Cou
             if answer != want {
                 return fail(name, format!("answer {answer} instead of {want}"));
             }
-            if bench.desk.all != refe.desk.all {
-                return fail(name, first_difference("desk", &bench.desk, &refe.desk).unwrap_or_default());
+            if let Some(text) = bench.differs(&refe, false) {
+                return fail(name, text);
             }
-            if bench.sheet.all != refe.sheet.all {
-                return fail(name, first_difference("sheet", &bench.sheet, &refe.sheet).unwrap_or_default());
-            }
-            let slip_answer = if matches!(call, Call::Step(_)) { answer } else { 255 };
+            // A feed that stood at an answer leaves the slip.
+            let may_show = match call {
+                Call::Step(_) => true,
+                Call::Feed(_) => clause.is_none() && before.feed.see()[0] == 0,
+                _ => false,
+            };
+            let slip_answer = if may_show { answer } else { 255 };
             if let Some(text) = slip_wrong(slip_answer, bench, slip) {
                 return fail(name, text);
             }
@@ -308,8 +433,13 @@ fn run_calls(case: &Case, calls: &[&Call], judges: &mut Judges, counts: &mut Cou
         let may_change = match call {
             Call::Open(_) => want == 0,
             Call::Step(_) => want < 2,
-            Call::Ask(_) => false,
+            Call::Feed(piece) => clause.is_none() && feeds::completes(before.feed.see(), piece),
+            Call::Ask(_) | Call::FeedStart | Call::FeedEnd => false,
         };
+        let feed_may_change = call.of_feed() && clause.is_none() && before.feed.see().first() == Some(&0);
+        if before.feed.all != refe.feed.all && !feed_may_change && !matches!(call, Call::FeedStart) {
+            return fail("reference", "changed a feed that is unfit or stands at an answer".into());
+        }
         if !may_change && (before.desk.all != refe.desk.all || before.sheet.all != refe.sheet.all) {
             return fail("reference", "changed something with a refusal or a question".into());
         }
@@ -322,18 +452,90 @@ fn run_calls(case: &Case, calls: &[&Call], judges: &mut Judges, counts: &mut Cou
             }
         }
     }
-    Ok(answers)
+    Ok(Ran { answers, subject: subj, reference: refe, record })
 }
 
 pub fn run(case: &Case, judges: &mut Judges, counts: &mut Counts) -> Result<(), Diff> {
     let calls_before = counts.calls;
     counts.cases += 1;
     match &case.pair {
-        None => drop(run_calls(case, &case.calls.iter().collect::<Vec<_>>(), judges, counts)?),
+        None => {
+            let ran = run_calls(case, &case.calls.iter().collect::<Vec<_>>(), judges, counts)?;
+            if let Some(fed) = Fed::of(case) {
+                run_promise(case, &fed, &ran, judges, counts)?;
+            }
+        }
         Some((k, in_first)) => run_pair(case, *k, in_first, judges, counts)?,
     }
     tally(case.name, counts, calls_before);
     Ok(())
+}
+
+/// The promise of a log in pieces: what the calls left is left over another cut too, by the whole log, and by single
+/// steps of the same judge.
+fn run_promise(case: &Case, fed: &Fed, ran: &Ran, judges: &mut Judges, counts: &mut Counts) -> Result<(), Diff> {
+    let Judges { subject, reference, .. } = judges;
+    let last = (ran.answers.last().copied().unwrap_or(0), ran.record);
+    let hold = |part: usize, count: &mut u64, now: (u8, u64), bench: &Bench, then: &Bench| {
+        *count += 1;
+        let text = if now != last {
+            Some(format!("answer {} at record {} instead of {} at record {}", last.0, last.1, now.0, now.1))
+        } else {
+            then.differs(bench, true)
+        };
+        text.map_or(Ok(()), |text| {
+            Err(Diff { judge: PROMISE[part], call: case.calls.len() - 1, text: format!("not {}: {text}", PROMISE[part]) })
+        })
+    };
+    let [by_cut, by_log, by_steps] = &mut counts.promised;
+    // Another cut.
+    let mut other = Bench::of(case);
+    if fed.started {
+        subject.feed_start(other.feed.lend());
+    }
+    let mut now = (0, 0);
+    let Bench { desk, sheet, slip, feed } = &mut other;
+    for piece in fed.other_cut() {
+        now.0 = subject.feed(feed.lend(), desk.lend(), sheet.lend(), slip.lend(), piece, &mut now.1);
+    }
+    if fed.ended {
+        now.0 = subject.feed_end(feed.lend(), desk.lend(), sheet.lend(), slip.lend(), &mut now.1);
+    }
+    hold(0, by_cut, now, &other, &ran.subject)?;
+    // The whole log, from a start.
+    if fed.started {
+        let mut other = Bench { feed: ran.reference.feed.clone(), ..Bench::of(case) };
+        let Bench { desk, sheet, slip, .. } = &mut other;
+        let now = (reference.whole_log)(&fed.bytes, desk.lend(), sheet.lend(), slip.lend(), fed.ended);
+        hold(1, by_log, now, &other, &ran.reference)?;
+    }
+    // Single steps.
+    let mut other = Bench { feed: ran.subject.feed.clone(), ..Bench::of(case) };
+    let now = single_steps(fed, subject, &mut other);
+    hold(2, by_steps, now, &other, &ran.subject)
+}
+
+/// By opening and steps: the first answer but 0 and its record number, or 0 and how many records there were.
+fn single_steps(fed: &Fed, subject: &mut Subject, bench: &mut Bench) -> (u8, u64) {
+    let Bench { desk, sheet, slip, .. } = bench;
+    let (mut answer, mut number) = (fed.answer, fed.number);
+    let mut rest = &[&fed.loose, &fed.bytes[..]].concat()[..];
+    if answer == 0 && !fed.opened {
+        answer = match rest.split_first_chunk() {
+            None => if fed.ended { 2 } else { 0 },
+            Some((&[0x4C, 0x48, 1, k], _)) => subject.open(u64::from(k), desk.lend(), sheet.lend()),
+            Some(_) => 2,
+        };
+        rest = rest.get(4..).unwrap_or(&[]);
+    }
+    for record in rest.chunks(6).filter(|record| record.len() == 6 || fed.ended) {
+        if answer != 0 {
+            break;
+        }
+        number = number.saturating_add(1);
+        answer = subject.step(desk.lend(), sheet.lend(), slip.lend(), record);
+    }
+    (answer, number)
 }
 
 /// Demand 3: two lists, each from its own opening in buffers of its own.
@@ -342,7 +544,7 @@ fn run_pair(case: &Case, k: u64, in_first: &[bool], judges: &mut Judges, counts:
     let open = Call::Open(k);
     let mut play = |case: &Case, places: &[usize]| {
         let calls: Vec<&Call> = std::iter::once(&open).chain(places.iter().map(|&at| &case.calls[at])).collect();
-        run_calls(case, &calls, judges, counts)
+        run_calls(case, &calls, judges, counts).map(|ran| ran.answers)
     };
     let places: Vec<usize> = (0..case.calls.len()).collect();
     let first_places: Vec<usize> = places.iter().copied().filter(|&at| in_first[at]).collect();
@@ -378,7 +580,7 @@ fn run_pair(case: &Case, k: u64, in_first: &[bool], judges: &mut Judges, counts:
     Ok(())
 }
 
-fn tally(name: &'static str, counts: &mut Counts, calls_before: u64) {
+pub fn tally(name: &'static str, counts: &mut Counts, calls_before: u64) {
     let calls = counts.calls - calls_before;
     match counts.by_name.iter_mut().find(|n| n.0 == name) {
         Some(n) => {
@@ -422,14 +624,14 @@ pub fn shrink(case: &Case, judge: &'static str, judges: &mut Judges) -> Case {
         }
         size /= 2;
     }
-    for which in 0..3 {
-        let len = [best.desk.len(), best.sheet.len(), best.slip.len()][which];
+    for which in 0..4 {
+        let len = [best.desk.len(), best.sheet.len(), best.slip.len(), best.feed.len()][which];
         let mut size = len.max(1);
         loop {
             let mut at = 0;
             while at < len {
                 let mut c = best.clone();
-                let part = &mut [&mut c.desk, &mut c.sheet, &mut c.slip][which][at..(at + size).min(len)];
+                let part = &mut [&mut c.desk, &mut c.sheet, &mut c.slip, &mut c.feed][which][at..(at + size).min(len)];
                 if part.iter().any(|&b| b != 0) {
                     part.fill(0);
                     if fails(&c) {
@@ -453,11 +655,16 @@ fn show_bytes(name: &str, bytes: &[u8], out: &mut String) {
     out.push_str(&format!("  {name}: {} bytes, zero but for {}\n", bytes.len(), set.join(" ")));
 }
 
+fn hex(bytes: &[u8]) -> String {
+    bytes.iter().map(|b| format!(" {b:02X}")).collect()
+}
+
 pub fn describe(case: &Case) -> String {
     let mut out = format!("case \"{}\"\n", case.name);
     show_bytes("desk", &case.desk, &mut out);
     show_bytes("sheet", &case.sheet, &mut out);
     show_bytes("slip", &case.slip, &mut out);
+    show_bytes("feed", &case.feed, &mut out);
     if let Some((k, _)) = &case.pair {
         out.push_str(&format!("  pair of lists, each opened with K = {k}; + stands in the second only\n"));
     }
@@ -466,10 +673,10 @@ pub fn describe(case: &Case) -> String {
         let text = match call {
             Call::Open(k) => format!("open {k}"),
             Call::Ask(c) => format!("ask {c}"),
-            Call::Step(r) => {
-                let hex: Vec<String> = r.slice().iter().map(|b| format!("{b:02X}")).collect();
-                format!("step {}", hex.join(" "))
-            }
+            Call::Step(r) => format!("step{}", hex(r.slice())),
+            Call::FeedStart => "feed start".into(),
+            Call::Feed(piece) => format!("feed{}", hex(piece)),
+            Call::FeedEnd => "feed end".into(),
         };
         out.push_str(&format!("  {}{text}\n", if foreign { "+ " } else { "" }));
     }

@@ -1,26 +1,31 @@
 //! That the comparer can fail: by each planted judge, and by each minimum.
 
 use crate::claim;
+use crate::feeds::{self, PROMISE};
 use crate::gen;
 use crate::judges::{Judges, Subject};
 use crate::needs::{self, Need};
 use crate::planted::{Plant, PLANTS};
 use crate::rng::Rng;
-use crate::run::{self, Counts};
+use crate::run::{self, Case, Counts};
 use crate::sights;
 use crate::{try_case, Limits, Met};
 use std::time::{Duration, Instant};
 
-/// Random cases of a quick run, and of one without something.
-const CASES: u64 = 800;
-const CASES_WITHOUT: u64 = 200;
-/// Pairs of lists for a planted judge in every place, at most, and how many of them are to show it.
+/// Random cases of a quick run, and for a planted judge; of a run without something: the first, and of those that had it
+/// the first.
+const CASES: u64 = 1600;
+const CASES_FOR_PLANT: u64 = 800;
+const ANY_CASES: u64 = 5;
+const CASES_WITH: usize = 20;
+/// Other cases for a planted judge in every place, then pairs of lists, or logs in pieces, at most, and how many of them
+/// are to show it.
+const OTHERS: u64 = 200;
 const PAIRS: u64 = 1000;
-const SHOWN: u64 = 5;
+const SHOWN: u64 = 3;
 
 fn quick(without: Option<Need>) -> Limits {
-    let cases = if without.is_some() { CASES_WITHOUT } else { CASES };
-    Limits { seconds: 0, cases, seed: 7, without }
+    Limits { seconds: 0, cases: CASES, seed: 7, without, feeds: None }
 }
 
 fn soon() -> Instant {
@@ -28,22 +33,28 @@ fn soon() -> Instant {
 }
 
 /// In the library's place it is caught by the fixed cases alone and by the random ones alone, at a call that is one of
-/// the sights named for it.
+/// the sights named for it. Where only the feed is wrong, cases without one are passed over, else those with one.
 fn caught(plant: &Plant) -> bool {
     let mut calls = Vec::new();
     for which in ["fixed", "random"] {
         let mut judges = Judges::beside(Subject::Planted(plant.judge));
         let (mut counts, mut failed) = (Counts::default(), None);
-        let mut each = |case| try_case(case, &mut judges, &mut counts, &mut failed);
+        let mut each = |case: Case| {
+            try_case(case, &mut judges, &mut counts, &mut failed);
+            // A call is to show it, unless it breaks the promise where no call differs.
+            failed.take_if(|(_, diff)| PROMISE.contains(&diff.judge) && plant.breaks != Some(diff.judge));
+            failed.is_none()
+        };
         match which {
+            "fixed" if plant.of_feed => feeds::fixed(&mut each),
             "fixed" => quick(None).fixed(&mut each),
-            _ => quick(None).random(soon(), &mut each),
+            _ => Limits { cases: CASES_FOR_PLANT, feeds: Some(plant.of_feed), ..quick(None) }.random(soon(), &mut each),
         }
-        let named = plant.sights.iter().fold(0, |all, name| all | 1 << sights::named(name));
-        let meant = named == 0 || named & counts.last_sights != 0;
+        let caught_by = |judge| judge == "subject" || PROMISE.contains(&judge);
+        let meant = plant.sights.is_empty() || plant.sights.iter().any(|name| counts.last_sights.0[sights::named(name)]);
         match failed {
-            Some((_, diff)) if diff.judge == "subject" && meant => calls.push(counts.calls),
-            Some((_, diff)) if diff.judge == "subject" => {
+            Some((_, diff)) if caught_by(diff.judge) && meant => calls.push(counts.calls),
+            Some((_, diff)) if caught_by(diff.judge) => {
                 println!("{}, {which} cases: by no sight named for it: {}", plant.name, diff.text);
             }
             Some((_, diff)) => println!("{}, {which} cases: {}: {}", plant.name, diff.judge, diff.text),
@@ -57,65 +68,104 @@ fn caught(plant: &Plant) -> bool {
     calls.len() == 2
 }
 
-/// In the place of every judge no two differ, and that part of demand 3's claim of two lists catches it.
+/// In the place of every judge no two differ, and that part of demand 3's claim of two lists catches it, or that part of
+/// the promise of a feed.
 fn breaks(plant: &Plant, part: &str) -> bool {
     let mut judges = Judges::all(plant.judge);
     let (mut counts, mut failed) = (Counts::default(), None);
-    let no_pairs = quick(Some(Need::Kind(gen::PAIRS)));
+    let of_feed = PROMISE.contains(&part);
+    let feeds = of_feed.then_some(false);
+    let no_pairs = Limits { cases: OTHERS, feeds, ..quick(Some(Need::Kind(gen::PAIRS))) };
     no_pairs.random(soon(), &mut |case| try_case(case, &mut judges, &mut counts, &mut failed));
     let (mut seen, mut number) = (0, 0);
     while seen < SHOWN && number < PAIRS {
-        let case = gen::pair(&mut Rng::new(number));
+        let rng = &mut Rng::new(number);
+        let case = if of_feed { feeds::cut_log(rng) } else { gen::pair(rng) };
         number += 1;
         match run::run(&case, &mut judges, &mut counts) {
             Err(diff) if diff.judge == part => seen += 1,
-            Err(diff) if !claim::PARTS.contains(&diff.judge) => failed = Some((case, diff)),
+            Err(diff) if !claim::PARTS.contains(&diff.judge) && !PROMISE.contains(&diff.judge) => {
+                failed = Some((case, diff));
+            }
             _ => {}
         }
     }
     let well = seen > 0 && failed.is_none();
     let verdict = if well { "broken in" } else { "NOT CAUGHT, or not only by it:" };
-    println!("{} in every place: \"{part}\" {verdict} {seen} of {number} pairs", plant.name);
+    println!("{} in every place: \"{part}\" {verdict} {seen} of {number} {}", plant.name, if of_feed { "logs in pieces" } else { "pairs" });
     if let Some((_, diff)) = failed {
         println!("{}: {}", diff.judge, diff.text);
     }
     well
 }
 
-/// A quick run meets every minimum; a run without what one counts misses that one.
+/// A quick run meets every minimum; a run without what one counts misses that one, over cases that had it.
 fn minimums() -> bool {
     let mut judges = Judges::beside(Subject::library());
-    let mut go = |without: Option<Need>, fixed: bool, met: &mut Met| {
-        let mut failed = None;
-        if fixed {
-            quick(without).fixed(&mut |case| try_case(case, &mut judges, &mut met.fixed, &mut failed));
-        } else {
-            quick(without).random(soon(), &mut |case| try_case(case, &mut judges, &mut met.random, &mut failed));
-        }
-        if let Some((_, diff)) = &failed {
-            println!("{}: {}", diff.judge, diff.text);
-        }
-        failed.is_none()
-    };
+    let mut failed = None;
+    let needs: Vec<Need> = needs::all().into_iter().map(|(need, _)| need).collect();
     let mut whole = Met::default();
-    let mut well = go(None, true, &mut whole) & go(None, false, &mut whole);
+    // Of a fixed kind the cases are counted, so they need not be run again.
+    let mut without: Vec<(Need, Counts)> = Vec::new();
+    without.extend(needs.iter().filter(|need| matches!(need, Need::Fixed(_))).map(|need| (*need, Counts::default())));
+    quick(None).fixed(&mut |mut case| {
+        for (need, counts) in &mut without {
+            if need.leave_out(&mut case) {
+                run::tally(case.name, counts, 0);
+            }
+        }
+        try_case(case, &mut judges, &mut whole.fixed, &mut failed)
+    });
+    // Which cases have what each need counts; long ones last, as they take their time.
+    let mut with: Vec<Vec<u64>> = vec![Vec::new(); needs.len()];
+    let mut long: Vec<u64> = Vec::new();
+    let counted = |met: &Met| -> Vec<u64> { needs.iter().map(|need| need.met(&met.fixed, &met.random)).collect() };
+    let mut before = counted(&whole);
+    for number in 0..CASES {
+        let Some(case) = quick(None).numbered(number) else { continue };
+        if case.name.starts_with("long") {
+            long.push(number);
+        }
+        try_case(case, &mut judges, &mut whole.random, &mut failed);
+        let after = counted(&whole);
+        for (with, (before, after)) in with.iter_mut().zip(before.iter().zip(&after)) {
+            if after > before {
+                with.push(number);
+            }
+        }
+        before = after;
+    }
+    let mut well = true;
     for (need, met, least) in needs::under(&whole.fixed, &whole.random, CASES) {
         println!("minimum NOT MET in a quick run: {}: {met}, at least {least}", need.name());
         well = false;
     }
     let mut missed = 0;
-    for (need, _) in needs::all() {
-        let fixed = matches!(need, Need::Fixed(_));
-        let mut met = Met::default();
-        well &= go(Some(need), fixed, &mut met);
-        let (fixed, random) = if fixed { (&met.fixed, &whole.random) } else { (&whole.fixed, &met.random) };
-        match needs::under(fixed, random, CASES).iter().find(|u| u.0 == need) {
+    for (need, mut with) in needs.iter().zip(with) {
+        with.sort_by_key(|number| long.contains(number));
+        let mut met = Counts::default();
+        let (fixed, random) = match without.iter().find(|(fixed, _)| fixed == need) {
+            Some((_, fixed)) => (fixed, &whole.random),
+            None => {
+                let limits = quick(Some(*need));
+                for number in (0..ANY_CASES).chain(with.into_iter().filter(|&n| n >= ANY_CASES).take(CASES_WITH)) {
+                    if let Some(case) = limits.numbered(number).and_then(|case| limits.pass(case)) {
+                        try_case(case, &mut judges, &mut met, &mut failed);
+                    }
+                }
+                (&whole.fixed, &met)
+            }
+        };
+        match needs::under(fixed, random, CASES).iter().find(|u| u.0 == *need) {
             Some(_) => missed += 1,
             None => println!("without {}: its minimum is NOT MISSED", need.name()),
         }
     }
-    println!("{missed} of {} minimums are missed by a run without what they count", needs::all().len());
-    well && missed == needs::all().len()
+    if let Some((_, diff)) = &failed {
+        println!("{}: {}", diff.judge, diff.text);
+    }
+    println!("{missed} of {} minimums are missed by a run without what they count", needs.len());
+    well && failed.is_none() && missed == needs.len()
 }
 
 pub fn run() -> bool {
@@ -127,13 +177,15 @@ pub fn run() -> bool {
             well &= breaks(plant, part);
         }
     }
-    for part in claim::PARTS {
+    for part in claim::PARTS.into_iter().chain(PROMISE) {
         if !PLANTS.iter().any(|p| p.breaks == Some(part)) {
             println!("no planted judge breaks \"{part}\"");
             well = false;
         }
     }
+    let planted = started.elapsed().as_secs_f64();
     well &= minimums();
+    println!("{planted:.1} s for the planted judges, in all");
     println!("{:.1} s", started.elapsed().as_secs_f64());
     println!("selftest: {}", if well { "each planted judge and each missed minimum was noticed" } else { "FAILED" });
     well

@@ -1,21 +1,28 @@
 //! Sights: calls of such a sort that a wrong version of some rule would show there. A run must have met each of them.
 
 use crate::drawing::FRAME;
+use crate::feeds::{self, ANSWER, KEEP, KEPT, OPENED};
 use crate::run::Call;
-use reference::{CLAUSES, DEEPEST, DEPTHS, DESK, FRAMES, HOLDS, MARKS, ORIGINS, STATES};
+use reference::{CLAUSES, DEEPEST, DEPTHS, DESK, FEED, FRAMES, HOLDS, MARKS, ORIGINS, STATES};
 use std::ops::{Range, RangeInclusive};
 
 /// The clause of "Unfit" about origins.
 pub const ORIGIN: &str = "origin where no hold stands";
 
-/// A call with the desk before and after it.
+/// A call with the desk and the feed before and after it.
 pub struct Look<'a> {
     pub call: &'a Call,
     pub before: &'a [u8],
     pub after: &'a [u8],
     pub answer: u8,
-    /// With answer 11: the first clause of "Unfit" that is violated.
+    /// With answer 11: the first clause of "Unfit" that is violated; at a feed, of the feed's fit test.
     pub clause: Option<&'static str>,
+    pub feed: &'a [u8],
+    pub feed_after: &'a [u8],
+    pub sheet_len: usize,
+    pub slip_len: usize,
+    /// Whether the call before was an end that answered 0.
+    pub after_end: bool,
 }
 
 fn is_try(desk: &[u8], frame: usize, place: usize) -> bool {
@@ -146,15 +153,110 @@ impl Look<'_> {
     }
 }
 
+/// A piece or an end over a fit feed.
+impl Look<'_> {
+    fn fit_feed(&self) -> bool {
+        matches!(self.call, Call::Feed(_) | Call::FeedEnd) && self.clause.is_none()
+    }
+    fn opened(&self) -> bool {
+        self.feed.get(OPENED) == Some(&1)
+    }
+    fn kept(&self) -> usize {
+        self.feed.get(KEPT).map_or(0, |&kept| usize::from(kept))
+    }
+    /// A slip too short for the K of this desk.
+    fn short_slip(&self, desk: &[u8]) -> bool {
+        desk.first().is_some_and(|k| (1..=64).contains(k) && self.slip_len < 1 + 3 * usize::from(*k))
+    }
+    /// The piece, where the feed stands at this answer, or at any but 0.
+    fn piece_at(&self, stopped: bool) -> Option<&[u8]> {
+        match self.call {
+            Call::Feed(piece) if self.fit_feed() && (self.feed[ANSWER] != 0) == stopped => Some(piece),
+            _ => None,
+        }
+    }
+    fn piece(&self, such: impl Fn(&[u8]) -> bool) -> bool {
+        self.piece_at(false).is_some_and(such)
+    }
+    /// A piece that begins over so many loose bytes.
+    fn over(&self, opened: bool, kept: usize) -> bool {
+        self.piece(|p| !p.is_empty()) && self.opened() == opened && self.kept() == kept
+    }
+    /// A piece that ends with so many.
+    fn leaves(&self, opened: bool, kept: usize) -> bool {
+        let after = self.feed_after;
+        self.piece(|p| !p.is_empty()) && self.answer == 0 && (after[OPENED], after[KEPT]) == (u8::from(opened), kept as u8)
+    }
+    /// The first four bytes, where a piece completes the header and is refused, else accepted.
+    fn header(&self, refused: bool) -> Option<[u8; 4]> {
+        let piece = self.piece_at(false).filter(|piece| !self.opened() && feeds::completes(self.feed, piece))?;
+        let mut header = [0; 4];
+        header[..self.kept()].copy_from_slice(&self.feed[KEEP..KEEP + self.kept()]);
+        header[self.kept()..].copy_from_slice(&piece[..4 - self.kept()]);
+        (refused == (self.feed_after[OPENED] == 0)).then_some(header)
+    }
+    fn bad_header(&self, such: impl Fn([u8; 4]) -> bool) -> bool {
+        self.header(true).is_some_and(such)
+    }
+    /// A good header whose desk or sheet is too short.
+    fn short_for_header(&self, desk: bool) -> bool {
+        let large = |k: u8| self.sheet_len >= usize::from(k) * usize::from(k);
+        self.bad_header(|h| {
+            h[..3] == [0x4C, 0x48, 1] && (1..=64).contains(&h[3]) && if desk { large(h[3]) } else { !large(h[3]) }
+        })
+    }
+    /// How many records a piece got judged.
+    fn records(&self) -> u64 {
+        feeds::number(self.feed_after) - feeds::number(self.feed)
+    }
+    /// How many bytes of a piece come behind the record that stops the feed.
+    fn behind(&self) -> Option<usize> {
+        let piece = self.piece_at(false).filter(|_| self.answer != 0)?;
+        let header = if self.opened() { 0 } else { 4 };
+        // The number stays at the top.
+        (feeds::number(self.feed_after) != u64::MAX)
+            .then(|| (self.kept() + piece.len()).checked_sub(header + 6 * self.records() as usize))?
+    }
+    fn stops(&self, answer: u8) -> bool {
+        self.piece(|_| true) && self.answer == answer
+    }
+    /// An end over a feed that stands at no answer.
+    fn end(&self, opened: bool, kept: usize, answer: u8) -> bool {
+        matches!(self.call, Call::FeedEnd)
+            && self.fit_feed()
+            && self.feed[ANSWER] == 0
+            && (self.opened(), self.kept(), self.answer) == (opened, kept, answer)
+    }
+    /// A call after a stop.
+    fn stood(&self) -> bool {
+        self.fit_feed() && self.feed[ANSWER] != 0
+    }
+    fn start(&self, such: impl Fn(&[u8]) -> bool) -> bool {
+        matches!(self.call, Call::FeedStart) && such(self.feed)
+    }
+}
+
 pub struct Sight {
     pub name: &'static str,
     /// The least number in 100,000 random cases.
     pub least: u64,
-    pub met: fn(&Look) -> bool,
+    /// Whether calls of the feed are such, or others.
+    of_feed: bool,
+    met: fn(&Look) -> bool,
 }
 
 const fn sight(name: &'static str, least: u64, met: fn(&Look) -> bool) -> Sight {
-    Sight { name, least, met }
+    Sight { name, least, of_feed: false, met }
+}
+
+const fn at_feed(name: &'static str, least: u64, met: fn(&Look) -> bool) -> Sight {
+    Sight { name, least, of_feed: true, met }
+}
+
+impl Sight {
+    pub fn met(&self, look: &Look) -> bool {
+        self.of_feed == look.call.of_feed() && (self.met)(look)
+    }
 }
 
 pub const SIGHTS: &[Sight] = &[
@@ -273,15 +375,136 @@ pub const SIGHTS: &[Sight] = &[
         matches!(l.call, Call::Open(_)) && l.answer == 0 && l.before.len() == DESK + 1
     }),
     sight("opening over origins", 4400, |l| matches!(l.call, Call::Open(_)) && l.answer == 0 && has_origins(l.before)),
+    // Pieces: where they are cut.
+    at_feed("piece over 0 loose bytes of the header", 1000, |l| l.over(false, 0)),
+    at_feed("piece over 1 loose byte of the header", 280, |l| l.over(false, 1)),
+    at_feed("piece over 2 loose bytes of the header", 320, |l| l.over(false, 2)),
+    at_feed("piece over 3 loose bytes of the header", 310, |l| l.over(false, 3)),
+    at_feed("piece over 0 loose bytes of a record", 2200, |l| l.over(true, 0)),
+    at_feed("piece over 1 loose byte of a record", 2000, |l| l.over(true, 1)),
+    at_feed("piece over 2 loose bytes of a record", 2000, |l| l.over(true, 2)),
+    at_feed("piece over 3 loose bytes of a record", 2000, |l| l.over(true, 3)),
+    at_feed("piece over 4 loose bytes of a record", 2000, |l| l.over(true, 4)),
+    at_feed("piece over 5 loose bytes of a record", 1900, |l| l.over(true, 5)),
+    at_feed("piece that leaves 1 loose byte of the header", 280, |l| l.leaves(false, 1)),
+    at_feed("piece that leaves 2 loose bytes of the header", 320, |l| l.leaves(false, 2)),
+    at_feed("piece that leaves 3 loose bytes of the header", 310, |l| l.leaves(false, 3)),
+    at_feed("piece that leaves 0 loose bytes of a record", 2300, |l| l.leaves(true, 0)),
+    at_feed("piece that leaves 1 loose byte of a record", 2000, |l| l.leaves(true, 1)),
+    at_feed("piece that leaves 2 loose bytes of a record", 2000, |l| l.leaves(true, 2)),
+    at_feed("piece that leaves 3 loose bytes of a record", 2000, |l| l.leaves(true, 3)),
+    at_feed("piece that leaves 4 loose bytes of a record", 2000, |l| l.leaves(true, 4)),
+    at_feed("piece that leaves 5 loose bytes of a record", 1900, |l| l.leaves(true, 5)),
+    at_feed("piece within the header", 380, |l| l.kept() > 0 && l.piece(|p| !p.is_empty() && !l.opened() && !feeds::completes(l.feed, p))),
+    at_feed("piece within a record", 4700, |l| l.kept() > 0 && l.piece(|p| !p.is_empty() && l.opened() && !feeds::completes(l.feed, p))),
+    at_feed("header and records in one piece", 190, |l| l.header(false).is_some() && l.records() > 0),
+    at_feed("record over a cut and more in one piece", 1300, |l| {
+        l.opened() && l.kept() > 0 && l.piece(|_| true) && l.records() > 1
+    }),
+    at_feed("piece of more than 65,535 bytes", 21, |l| l.piece(|p| p.len() > 65_535)),
+    at_feed("empty piece before the header", 150, |l| l.piece(|p| p.is_empty()) && !l.opened() && l.kept() == 0),
+    at_feed("empty piece over loose bytes", 1000, |l| l.piece(|p| p.is_empty()) && l.kept() > 0),
+    at_feed("empty piece between records", 210, |l| l.piece(|p| p.is_empty()) && l.opened() && l.kept() == 0),
+    at_feed("piece after an end that answered 0", 830, |l| l.after_end && l.piece(|p| !p.is_empty())),
+    // Pieces: judged when complete.
+    at_feed("wrong byte of a header that isn't complete", 320, |l| {
+        l.piece(|p| !p.is_empty()) && l.answer == 0 && !l.opened() && {
+            let kept = usize::from(l.feed_after[KEPT]).min(3);
+            l.feed_after[KEEP..KEEP + kept] != [0x4C, 0x48, 1][..kept]
+        }
+    }),
+    at_feed("wrong byte of a record that isn't complete", 310, |l| {
+        l.piece(|p| !p.is_empty()) && l.answer == 0 && l.feed_after[OPENED] == 1 && {
+            let kept = usize::from(l.feed_after[KEPT]).min(2);
+            l.feed_after[KEEP..KEEP + kept] != [0x4C, 0x4B][..kept]
+        }
+    }),
+    at_feed("header with a wrong first byte", 49, |l| l.bad_header(|h| h[0] != 0x4C)),
+    at_feed("header with a wrong second byte", 57, |l| l.bad_header(|h| h[0] == 0x4C && h[1] != 0x48)),
+    at_feed("header with a wrong third byte", 39, |l| l.bad_header(|h| h[..2] == [0x4C, 0x48] && h[2] != 1)),
+    at_feed("header with K = 0", 39, |l| l.bad_header(|h| h == [0x4C, 0x48, 1, 0])),
+    at_feed("header with K over 64", 38, |l| l.bad_header(|h| h[..3] == [0x4C, 0x48, 1] && h[3] > 64)),
+    at_feed("header with a short desk", 40, |l| l.short_for_header(true)),
+    at_feed("header with a short sheet", 41, |l| l.short_for_header(false)),
+    at_feed("header that opens", 750, |l| l.header(false).is_some()),
+    at_feed("first record with a short slip", 75, |l| {
+        l.stops(11) && feeds::number(l.feed_after) == 1 && l.short_slip(l.after)
+    }),
+    // Pieces: stops.
+    at_feed("header refused, and bytes behind it", 190, |l| l.stops(2) && l.behind() > Some(0)),
+    at_feed("header refused at the piece's end", 100, |l| l.stops(2) && l.behind() == Some(0)),
+    at_feed("record that stops, and loose bytes behind it", 110, |l| !l.stops(2) && matches!(l.behind(), Some(1..6))),
+    at_feed("record that stops, and a record behind it", 110, |l| !l.stops(2) && l.behind() > Some(5)),
+    at_feed("record that stops at the piece's end", 360, |l| !l.stops(2) && l.behind() == Some(0)),
+    at_feed("record that stops over a cut", 400, |l| l.opened() && l.kept() > 0 && l.behind().is_some() && l.records() == 1),
+    at_feed("record that stops after others of the piece", 44, |l| l.opened() && l.behind().is_some() && l.records() > 1),
+    at_feed("fault over a cut", 49, |l| l.stops(1) && l.opened() && l.kept() > 0 && l.records() == 1),
+    at_feed("fault, and bytes behind it", 34, |l| l.stops(1) && l.behind() > Some(0)),
+    at_feed("piece after a stop", 10_000, |l| l.piece_at(true).is_some_and(|p| !p.is_empty())),
+    at_feed("empty piece after a stop", 1300, |l| l.piece_at(true).is_some_and(|p| p.is_empty())),
+    at_feed("piece after a fault", 77, |l| l.answer == 1 && l.piece_at(true).is_some_and(|p| p.len() > 5)),
+    at_feed("piece after a refused header", 1300, |l| l.answer == 2 && l.piece_at(true).is_some_and(|p| p.len() > 3)),
+    // Pieces: the number.
+    at_feed("number that reaches 2 to the 64 less 1", 26, |l| {
+        l.piece(|_| true) && feeds::number(l.feed) != u64::MAX && feeds::number(l.feed_after) == u64::MAX
+    }),
+    at_feed("number that stays at 2 to the 64 less 1", 29, |l| {
+        l.piece(|p| l.opened() && feeds::completes(l.feed, p)) && feeds::number(l.feed) == u64::MAX
+    }),
+    at_feed("number that passes 2 to the 32", 20, |l| l.piece(|_| true) && feeds::number(l.feed) >> 32 != feeds::number(l.feed_after) >> 32),
+    at_feed("number that passes 255", 52, |l| l.piece(|_| true) && feeds::number(l.feed) < 256 && feeds::number(l.feed_after) > 255),
+    // Ends.
+    at_feed("end without a byte", 35, |l| l.end(false, 0, 2)),
+    at_feed("end over 1 byte of the header", 47, |l| l.end(false, 1, 2)),
+    at_feed("end over 2 bytes of the header", 45, |l| l.end(false, 2, 2)),
+    at_feed("end over 3 bytes of the header", 44, |l| l.end(false, 3, 2)),
+    at_feed("end right after the header", 210, |l| l.end(true, 0, 0) && feeds::number(l.feed) == 0),
+    at_feed("end between records", 950, |l| l.end(true, 0, 0) && feeds::number(l.feed) > 0),
+    at_feed("end between records, the desk closed", 23, |l| l.end(true, 0, 0) && l.before.get(1) == Some(&1)),
+    at_feed("end over 1 loose byte, 3", 64, |l| l.end(true, 1, 3)),
+    at_feed("end over 2 loose bytes, 3", 59, |l| l.end(true, 2, 3)),
+    at_feed("end over 3 loose bytes, 3", 66, |l| l.end(true, 3, 3)),
+    at_feed("end over 4 loose bytes, 3", 67, |l| l.end(true, 4, 3)),
+    at_feed("end over 5 loose bytes, 3", 58, |l| l.end(true, 5, 3)),
+    at_feed("end over 1 loose byte, 10", 34, |l| l.end(true, 1, 10)),
+    at_feed("end over 2 loose bytes, 10", 33, |l| l.end(true, 2, 10)),
+    at_feed("end over 3 loose bytes, 10", 34, |l| l.end(true, 3, 10)),
+    at_feed("end over 4 loose bytes, 10", 36, |l| l.end(true, 4, 10)),
+    at_feed("end over 5 loose bytes, 10", 32, |l| l.end(true, 5, 10)),
+    at_feed("end over 1 loose byte, 11", 31, |l| l.end(true, 1, 11)),
+    at_feed("end over 2 loose bytes, 11", 29, |l| l.end(true, 2, 11)),
+    at_feed("end over 3 loose bytes, 11", 33, |l| l.end(true, 3, 11)),
+    at_feed("end over 4 loose bytes, 11", 26, |l| l.end(true, 4, 11)),
+    at_feed("end over 5 loose bytes, 11", 30, |l| l.end(true, 5, 11)),
+    at_feed("end over loose bytes, the number at the top", 36, |l| {
+        (1..6).any(|kept| l.end(true, kept, l.answer)) && feeds::number(l.feed) == u64::MAX
+    }),
+    at_feed("end over loose bytes of a first record, the slip short", 26, |l| {
+        (1..6).any(|kept| l.end(true, kept, 11)) && feeds::number(l.feed) == 0 && l.short_slip(l.before)
+    }),
+    at_feed("end after a stop", 3200, |l| matches!(l.call, Call::FeedEnd) && l.stood()),
+    // Starts.
+    at_feed("start of a feed a byte short", 33, |l| l.start(|f| f.len() == FEED - 1)),
+    at_feed("start of a longer feed", 510, |l| l.start(|f| f.len() > FEED)),
+    at_feed("start over a used feed", 1100, |l| l.start(|f| f.len() >= FEED && f[..FEED].iter().any(|&b| b != 0))),
 ];
 
-/// The sights that a call is, bit by bit.
-pub fn of(look: &Look) -> u64 {
-    const { assert!(SIGHTS.len() <= 64) };
-    SIGHTS.iter().enumerate().fold(0, |met, (i, sight)| met | u64::from((sight.met)(look)) << i)
+/// Sights by their places.
+#[derive(Clone, Copy)]
+pub struct Set(pub [bool; SIGHTS.len()]);
+
+impl Default for Set {
+    fn default() -> Set {
+        Set([false; SIGHTS.len()])
+    }
 }
 
-/// The bit of a sight by name.
+/// The sights that a call is.
+pub fn of(look: &Look) -> Set {
+    Set(std::array::from_fn(|i| SIGHTS[i].met(look)))
+}
+
+/// The place of a sight by name.
 pub fn named(name: &str) -> usize {
     SIGHTS.iter().position(|s| s.name == name).unwrap_or_else(|| panic!("no sight is named {name}"))
 }

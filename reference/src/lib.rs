@@ -1,7 +1,8 @@
 //! An independent second program for the lock log judge.
 //!
 //! Written from the documents alone (01, "What will be built, and the rules", and
-//! of 02 "A try never waits"), to be compared byte for byte with the proved
+//! of 02 "A try never waits" and "Logs arrive in pieces", with the feed's layout and
+//! fit test as they were handed over), to be compared byte for byte with the proved
 //! library. Sentences in quotation marks are the documents'.
 //!
 //! How closed strong paths are decided: a path is a walk over *arrivals*, an
@@ -627,6 +628,224 @@ pub fn ask(desk: &[u8], sheet: &[u8], class: u64, word: &mut u64, count: &mut u3
         }
     }
     0
+}
+
+// ----------------------------------------------------------------- the feed
+
+const HEADER: usize = 4; // "A log is the header 4C 48 01 K and then records."
+const RECORD: usize = 6; // "Six bytes"
+pub const LOOSE: usize = RECORD - 1; // "keeps at most five loose bytes"
+
+// Where things lie in the feed. The standing answer is 0 or the first answer but 0;
+// the number is that of the records judged so far, or, with an answer but 0, of the
+// record that got it, low byte first.
+const STANDING: usize = 0;
+const OPENED: usize = 1; // 0 until the header was complete and the desk opened, then 1
+const KEPT: usize = 2; // how many loose bytes are kept
+const KEEP: usize = 3; // the loose bytes, in order, unused ones 0
+const NUMBER: usize = KEEP + LOOSE;
+pub const FEED: usize = NUMBER + 8;
+
+/// Every name that [`unfit_feed`] can give, in the order in which it looks.
+pub const FEED_CLAUSES: [&str; 9] = [
+    "feed too short",
+    "byte 1 over 1",
+    "too many loose bytes",
+    "unused loose byte not 0",
+    "loose bytes beside a standing answer",
+    "before opening, an answer but 0 and 2",
+    "before opening, a record number",
+    "after opening, no answer of a step",
+    "after opening, a standing answer at record 0",
+];
+
+/// The first violated clause of the feed's fit test, in the order of [`FEED_CLAUSES`].
+pub fn unfit_feed(feed: &[u8]) -> Option<&'static str> {
+    if feed.len() < FEED {
+        return Some(FEED_CLAUSES[0]);
+    }
+    if feed[OPENED] > 1 {
+        return Some(FEED_CLAUSES[1]);
+    }
+    let opened = feed[OPENED] == 1;
+    let kept = usize::from(feed[KEPT]);
+    if kept >= whole_item(opened) {
+        return Some(FEED_CLAUSES[2]);
+    }
+    if feed[KEEP + kept..NUMBER].iter().any(|&b| b != 0) {
+        return Some(FEED_CLAUSES[3]);
+    }
+    let answer = feed[STANDING];
+    if answer != 0 && kept != 0 {
+        return Some(FEED_CLAUSES[4]);
+    }
+    let at_0 = feed[NUMBER..FEED].iter().all(|&b| b == 0);
+    if !opened && answer != 0 && answer != 2 {
+        return Some(FEED_CLAUSES[5]);
+    }
+    if !opened && !at_0 {
+        return Some(FEED_CLAUSES[6]);
+    }
+    if opened && ![0, 1, 3, 4, 5, 6, 7, 8, 10, 11].contains(&answer) {
+        return Some(FEED_CLAUSES[7]);
+    }
+    if opened && answer != 0 && at_0 {
+        return Some(FEED_CLAUSES[8]);
+    }
+    None
+}
+
+/// How many bytes make the next item whole: the header, or after it a record.
+fn whole_item(opened: bool) -> usize {
+    if opened {
+        RECORD
+    } else {
+        HEADER
+    }
+}
+
+/// What a feed holds.
+struct Feed {
+    answer: u8,
+    opened: bool,
+    loose: Vec<u8>,
+    number: u64,
+}
+
+impl Feed {
+    /// None for an unfit one.
+    fn read(feed: &[u8]) -> Option<Feed> {
+        if unfit_feed(feed).is_some() {
+            return None;
+        }
+        Some(Feed {
+            answer: feed[STANDING],
+            opened: feed[OPENED] == 1,
+            loose: feed[KEEP..KEEP + usize::from(feed[KEPT])].to_vec(),
+            number: feed[NUMBER..FEED].iter().rev().fold(0, |n, &b| n << 8 | u64::from(b)),
+        })
+    }
+
+    /// Into a buffer that was read from.
+    fn write(&self, feed: &mut [u8]) {
+        feed[..FEED].fill(0);
+        feed[STANDING] = self.answer;
+        feed[OPENED] = u8::from(self.opened);
+        feed[KEPT] = self.loose.len() as u8;
+        feed[KEEP..KEEP + self.loose.len()].copy_from_slice(&self.loose);
+        feed[NUMBER..FEED].copy_from_slice(&self.number.to_le_bytes());
+    }
+
+    /// Judges the loose bytes, whole or short, as the header or after it as the next
+    /// record. None are left.
+    fn judge(&mut self, desk: &mut [u8], sheet: &mut [u8], slip: &mut [u8]) {
+        if self.opened {
+            // The number stays at 2^64 - 1 where it would pass it.
+            self.number = self.number.saturating_add(1);
+            self.answer = step(desk, sheet, slip, &self.loose);
+        } else {
+            self.answer = match self.loose[..] {
+                [0x4C, 0x48, 0x01, k] => open(u64::from(k), desk, sheet),
+                _ => 2,
+            };
+            self.opened = self.answer == 0;
+        }
+        self.loose.clear();
+    }
+}
+
+/// A fresh feed, 16 zeros. Answers 0, or 2: feed under 16, nothing changed.
+pub fn feed_start(feed: &mut [u8]) -> u8 {
+    if feed.len() < FEED {
+        return 2;
+    }
+    feed[..FEED].fill(0);
+    0
+}
+
+/// "takes a log under 2 to the 64 bytes in pieces cut anywhere, empty ones too": one
+/// more piece, byte by byte. Answers the standing answer, with its number in `record`,
+/// or 11 at record 0: feed unfit, nothing changed.
+pub fn feed(
+    feed: &mut [u8],
+    desk: &mut [u8],
+    sheet: &mut [u8],
+    slip: &mut [u8],
+    piece: &[u8],
+    record: &mut u64,
+) -> u8 {
+    *record = 0;
+    let Some(mut held) = Feed::read(feed) else {
+        return 11;
+    };
+    for &byte in piece {
+        // "Once an answer but 0 has come, further pieces change nothing and repeat it."
+        if held.answer != 0 {
+            break;
+        }
+        // "Header and records are judged when complete."
+        held.loose.push(byte);
+        if held.loose.len() == whole_item(held.opened) {
+            held.judge(desk, sheet, slip);
+        }
+    }
+    held.write(feed);
+    *record = held.number;
+    held.answer
+}
+
+/// "An end call refuses a missing or short header with 2 at record 0, and after it
+/// loose bytes, as a short next record, with 11, 10 or else 3; after an earlier answer
+/// but 0 it repeats that one; else it gives 0 and pieces may follow." Or 11 at record
+/// 0: feed unfit, nothing changed.
+pub fn feed_end(
+    feed: &mut [u8],
+    desk: &mut [u8],
+    sheet: &mut [u8],
+    slip: &mut [u8],
+    record: &mut u64,
+) -> u8 {
+    *record = 0;
+    let Some(mut held) = Feed::read(feed) else {
+        return 11;
+    };
+    if held.answer == 0 && (!held.opened || !held.loose.is_empty()) {
+        held.judge(desk, sheet, slip);
+    }
+    held.write(feed);
+    *record = held.number;
+    held.answer
+}
+
+/// The first answer but 0 of a log in one piece and its record number, or 0 and how
+/// many records were judged. What is short at its end is looked at only if it has ended.
+pub fn whole_log(
+    log: &[u8],
+    desk: &mut [u8],
+    sheet: &mut [u8],
+    slip: &mut [u8],
+    ended: bool,
+) -> (u8, u64) {
+    let Some((header, records)) = log.split_at_checked(4) else {
+        return (if ended { 2 } else { 0 }, 0);
+    };
+    if header[..3] != [0x4C, 0x48, 0x01] || open(u64::from(header[3]), desk, sheet) != 0 {
+        return (2, 0);
+    }
+    let mut number = 0;
+    let whole = records.chunks_exact(6);
+    let rest = whole.remainder();
+    for record in whole {
+        number += 1;
+        let answer = step(desk, sheet, slip, record);
+        if answer != 0 {
+            return (answer, number);
+        }
+    }
+    if ended && !rest.is_empty() {
+        return (step(desk, sheet, slip, rest), number + 1);
+    }
+    (0, number)
 }
 
 // -------------------------------------------------------------- the program

@@ -1484,6 +1484,887 @@ fn tries_at_full_depth() {
     assert_eq!(judge(8, &[take(0, 0, TE), release(0, 0), release(0, 0)]), (3, 5));
 }
 
+// ------------------------------------------------------------------- the feed
+
+/// Buffers as they are lent, not opened yet.
+fn lent(desk: usize, sheet: usize, slip: usize) -> Bench {
+    Bench { desk: vec![0xA5; desk], sheet: vec![0xA5; sheet], slip: vec![0xA5; slip] }
+}
+
+/// Just enough for this K.
+fn lent_for(k: usize) -> Bench {
+    lent(DESK, sheet_len(k), slip_len(k))
+}
+
+/// A feed, with four bytes past its size, and its bench.
+#[derive(Clone, PartialEq, Debug)]
+struct Fed {
+    feed: Vec<u8>,
+    b: Bench,
+}
+
+impl Fed {
+    fn new(b: Bench) -> Fed {
+        let mut fed = Fed { feed: vec![0xA5; 20], b };
+        assert_eq!(feed_start(&mut fed.feed), 0);
+        fed
+    }
+    /// A feed that lies as told, on this bench.
+    fn lying(answer: u8, opened: u8, kept: u8, loose: [u8; 5], number: u64, b: Bench) -> Fed {
+        let mut feed = vec![answer, opened, kept];
+        feed.extend(loose);
+        feed.extend(number.to_le_bytes());
+        feed.extend([0xA5; 4]);
+        Fed { feed, b }
+    }
+    fn feed(&mut self, piece: &[u8]) -> (u8, u64) {
+        let mut record = 99;
+        let Bench { desk, sheet, slip } = &mut self.b;
+        let answer = feed(&mut self.feed, desk, sheet, slip, piece, &mut record);
+        (answer, record)
+    }
+    fn end(&mut self) -> (u8, u64) {
+        let mut record = 99;
+        let Bench { desk, sheet, slip } = &mut self.b;
+        let answer = feed_end(&mut self.feed, desk, sheet, slip, &mut record);
+        (answer, record)
+    }
+    /// Further pieces and end calls all give this and change nothing.
+    fn stands(&self, answer: u8, number: u64) {
+        let mut copy = self.clone();
+        for piece in [&[][..], &[0x4C], &take(0, 0, E), &log(1, &p2_records()), &[0xFF; 40]] {
+            assert_eq!(copy.feed(piece), (answer, number));
+            assert_eq!(&copy, self);
+            assert_eq!(copy.end(), (answer, number));
+            assert_eq!(&copy, self);
+        }
+    }
+}
+
+/// How a feed should lie after these bytes of a log, with what was answered last.
+fn lies(log: &[u8], (answer, number): (u8, u64)) -> Vec<u8> {
+    let loose = match (answer, log.len()) {
+        (0, 0..=3) => log,
+        (0, length) => &log[length - (length - 4) % 6..],
+        _ => &[],
+    };
+    let opened = log.len() >= 4 && answer != 2;
+    let mut bytes = vec![answer, u8::from(opened), loose.len() as u8];
+    bytes.extend(loose);
+    bytes.resize(8, 0);
+    bytes.extend((0..8).map(|i| (number >> (8 * i)) as u8));
+    bytes.extend([0xA5; 4]);
+    bytes
+}
+
+/// A log and what [`whole_log`] answers and leaves for its first bytes, by their
+/// number: with more to come, and ended there.
+struct Whole<'a> {
+    b: &'a Bench,
+    log: &'a [u8],
+    told: Vec<Option<[((u8, u64), Bench); 2]>>,
+}
+
+impl<'a> Whole<'a> {
+    fn new(b: &'a Bench, log: &'a [u8]) -> Whole<'a> {
+        Whole { b, log, told: vec![None; log.len() + 1] }
+    }
+    fn upto(&mut self, length: usize) -> &[((u8, u64), Bench); 2] {
+        let (b, log) = (self.b, self.log);
+        self.told[length].get_or_insert_with(|| {
+            [false, true].map(|ended| {
+                let Bench { mut desk, mut sheet, mut slip } = b.clone();
+                let told = whole_log(&log[..length], &mut desk, &mut sheet, &mut slip, ended);
+                (told, Bench { desk, sheet, slip })
+            })
+        })
+    }
+    /// What all bytes give, with more to come and ended.
+    fn all(&mut self) -> [(u8, u64); 2] {
+        let [so_far, ended] = self.upto(self.log.len());
+        [so_far.0, ended.0]
+    }
+    /// Feeds the log cut at these places. After each piece, answer, number and all bytes
+    /// are those of the whole log so far, and so are those of an end call there.
+    fn fed(&mut self, cuts: &[usize]) {
+        let log = self.log;
+        let mut fed = Fed::new(self.b.clone());
+        let mut from = 0;
+        for &to in cuts.iter().chain([&log.len()]) {
+            let [so_far, ended] = self.upto(to);
+            let told = fed.feed(&log[from..to]);
+            assert_eq!((told, &fed.b), (so_far.0, &so_far.1), "{log:?} cut at {cuts:?}");
+            assert_eq!(fed.feed, lies(&log[..to], told));
+            let mut end = fed.clone();
+            let told = end.end();
+            assert_eq!((told, &end.b), (ended.0, &ended.1), "{log:?} cut at {cuts:?}, ended");
+            assert_eq!(end.feed, lies(&log[..to], told));
+            if told.0 == 0 {
+                assert_eq!(end, fed);
+            } else {
+                end.stands(told.0, told.1);
+            }
+            from = to;
+        }
+    }
+}
+
+/// All cuts into up to four pieces, empty ones too.
+fn all_cuts(b: &Bench, log: &[u8]) -> [(u8, u64); 2] {
+    let mut whole = Whole::new(b, log);
+    let n = log.len();
+    whole.fed(&[]);
+    for first in 0..=n {
+        whole.fed(&[first]);
+        for second in first..=n {
+            whole.fed(&[first, second]);
+            for third in second..=n {
+                whole.fed(&[first, second, third]);
+            }
+        }
+    }
+    whole.all()
+}
+
+#[test]
+fn feed_sizes() {
+    assert_eq!((LOOSE, NUMBER, FEED), (5, 8, 16));
+}
+
+#[test]
+fn a_fresh_feed() {
+    for length in 0..40 {
+        let mut buffer = vec![0xA5; length];
+        if length < 16 {
+            assert_eq!(feed_start(&mut buffer), 2);
+            assert_eq!(buffer, vec![0xA5; length]);
+        } else {
+            assert_eq!(feed_start(&mut buffer), 0);
+            assert_eq!(buffer[..16], [0; 16]);
+            assert_eq!(buffer[16..], vec![0xA5; length - 16]);
+            assert_eq!(unfit_feed(&buffer), None);
+        }
+    }
+    // Of whatever lay there before, also of a feed that had stopped.
+    let mut fed = Fed::new(lent_for(3));
+    assert_eq!(fed.feed(&log(3, &p2_records())), (1, 6));
+    assert_eq!(feed_start(&mut fed.feed), 0);
+    assert_eq!(fed.feed, lies(&[], (0, 0)));
+    assert_eq!(fed.feed(&log(3, &p2_records())), (1, 6));
+}
+
+#[test]
+fn the_whole_log_by_hand() {
+    let told = |b: &Bench, log: &[u8]| {
+        let Bench { mut desk, mut sheet, mut slip } = b.clone();
+        [false, true].map(|ended| whole_log(log, &mut desk, &mut sheet, &mut slip, ended))
+    };
+    let b = lent_for(8);
+    assert_eq!(told(&b, &[]), [(0, 0), (2, 0)]);
+    assert_eq!(told(&b, &[0x4C, 0x48, 1]), [(0, 0), (2, 0)]);
+    assert_eq!(told(&b, &[0, 0, 0]), [(0, 0), (2, 0)]);
+    assert_eq!(told(&b, &[0x4C, 0x48, 1, 0]), [(2, 0); 2]);
+    assert_eq!(told(&b, &[0x4C, 0x48, 1, 65, 1]), [(2, 0); 2]);
+    assert_eq!(told(&b, &[0x4C, 0x48, 1, 9]), [(2, 0); 2]); // the sheet is for 8
+    assert_eq!(told(&b, &log(8, &[])), [(0, 0); 2]);
+    assert_eq!(told(&b, &log(8, &p2_records())), [(1, 6); 2]);
+    assert_eq!(told(&b, &log(8, &p2_records()[..5])), [(0, 5); 2]);
+    assert_eq!(told(&b, &log(8, &p2_records())[..39]), [(0, 5), (3, 6)]);
+    assert_eq!(told(&b, &log(8, &[take(0, 8, E), take(0, 9, 9)])), [(4, 1); 2]);
+    assert_eq!(told(&lent(DESK, 64, 24), &log(8, &[])), [(0, 0); 2]);
+    assert_eq!(told(&lent(DESK, 64, 24), &log(8, &[take(0, 0, E)])), [(11, 1); 2]);
+    assert_eq!(told(&lent(DESK, 64, 24), &log(8, &[take(0, 0, E)])[..5]), [(0, 0), (11, 1)]);
+}
+
+#[test]
+fn all_cuts_of_short_logs() {
+    let stray = |records: &[Rec], more: &[u8]| [&log(2, records)[..], more].concat();
+    for (log, told, ended) in [
+        (vec![], (0, 0), (2, 0)),
+        (vec![0x4C], (0, 0), (2, 0)),
+        (vec![0x4B], (0, 0), (2, 0)),
+        (vec![0x4C, 0x48], (0, 0), (2, 0)),
+        (vec![0x4C, 0x48, 1], (0, 0), (2, 0)),
+        (vec![0, 0, 0], (0, 0), (2, 0)),
+        (vec![0x4D, 0x48, 1, 2, 0x4C, 0x4B], (2, 0), (2, 0)),
+        (vec![0x4C, 0x4B, 1, 2, 0x4C, 0x4B], (2, 0), (2, 0)),
+        (vec![0x4C, 0x48, 2, 2, 0x4C, 0x4B], (2, 0), (2, 0)),
+        (log(0, &[take(0, 0, E)]), (2, 0), (2, 0)),
+        (log(65, &[take(0, 0, E)]), (2, 0), (2, 0)),
+        (log(3, &[take(0, 0, E)]), (2, 0), (2, 0)), // the sheet is for 2
+        (log(2, &[]), (0, 0), (0, 0)),
+        (log(1, &[]), (0, 0), (0, 0)),
+        (log(2, &[take(0, 0, E)]), (0, 1), (0, 1)),
+        (log(2, &[take(0, 0, E), take(0, 1, TR), release(0, 0)]), (0, 3), (0, 3)),
+        (stray(&[take(0, 0, E), take(0, 1, R)], &[0x4C]), (0, 2), (3, 3)),
+        (stray(&[take(0, 0, E), take(0, 1, R)], &[9, 9]), (0, 2), (3, 3)),
+        (stray(&[take(0, 0, E)], &[0x4C, 0x4B, 0]), (0, 1), (3, 2)),
+        (stray(&[take(0, 0, E)], &[0x4C, 0x4B, 0, 9]), (0, 1), (3, 2)),
+        (stray(&[], &[0x4C, 0x4B, 0, 0, 0]), (0, 0), (3, 1)),
+        // A fault, and records behind it that would be accepted or refused.
+        (log(2, &[take(0, 0, E), take(0, 0, E)]), (1, 2), (1, 2)),
+        (log(2, &[take(0, 0, E), take(0, 0, E), take(1, 1, E)]), (1, 2), (1, 2)),
+        (stray(&[take(0, 0, E), take(0, 0, E)], &[0x4C, 0, 0, 0, 0, 0, 1]), (1, 2), (1, 2)),
+        // Refusals, and behind them a good record, a bad one, loose bytes.
+        (stray(&[take(0, 0, E), [0x4B; 6], take(0, 1, E)], &[1, 2]), (3, 2), (3, 2)),
+        (stray(&[[0x4C, 0x4B, 8, 0, 0, 0]], &[0x4C, 0x4B]), (3, 1), (3, 1)),
+        (log(2, &[take(0, 0, E), take(0, 2, E), take(0, 1, E)]), (4, 2), (4, 2)),
+        (log(2, &[take(0, 0, E), release(0, 1), take(0, 1, E)]), (5, 2), (5, 2)),
+        (log(2, &[event(1, EXIT_HARD), take(0, 1, E)]), (6, 1), (6, 1)),
+        (log(2, &[event(1, ENTER_SOFT), take(1, 0, R), event(1, EXIT_SOFT)]), (7, 3), (7, 3)),
+        // A record that is a header, a header that is a record.
+        (stray(&[take(0, 0, E)], &[0x4C, 0x48, 1, 2, 0, 0]), (3, 2), (3, 2)),
+        ([&take(0, 0, E)[..], &log(2, &[])].concat(), (2, 0), (2, 0)),
+    ] {
+        assert_eq!(all_cuts(&lent_for(2), &log), [told, ended], "{log:?}");
+    }
+    // P2 with buffers longer than they must be.
+    assert_eq!(all_cuts(&lent(DESK + 3, 9 + 3, 10 + 3), &log(3, &p2_records())), [(1, 6); 2]);
+    // Too short ones: a desk or sheet for opening, a slip for the first record.
+    let records = log(2, &[take(0, 0, E), take(0, 1, E)]);
+    for (b, answer) in [
+        (lent(DESK - 1, 4, 7), (2, 0)),
+        (lent(0, 4, 7), (2, 0)),
+        (lent(DESK, 3, 7), (2, 0)),
+        (lent(DESK, 0, 7), (2, 0)),
+        (lent(0, 0, 0), (2, 0)),
+        (lent(DESK, 4, 6), (11, 1)),
+        (lent(DESK, 4, 0), (11, 1)),
+    ] {
+        assert_eq!(all_cuts(&b, &records), [answer; 2]);
+    }
+}
+
+#[test]
+fn cuts_of_a_full_frame() {
+    let mut records = vec![take(0, 0, R); 21];
+    records.push(take(0, 0, E));
+    let (b, log) = (lent_for(1), log(1, &records));
+    let mut whole = Whole::new(&b, &log);
+    assert_eq!(whole.all(), [(8, 21); 2]);
+    for first in 0..=log.len() {
+        for second in (first..=log.len()).step_by(5) {
+            whole.fed(&[first, second]);
+        }
+    }
+    // A byte a piece, and two, three.
+    for size in 1..20 {
+        let cuts: Vec<usize> = (0..log.len()).step_by(size).collect();
+        whole.fed(&cuts);
+    }
+}
+
+#[test]
+fn random_logs_in_random_pieces() {
+    let mut dice = Dice(0xFEED_0123_4567_89AB);
+    let mut seen = [[0u64; 12]; 2];
+    let mut longest = 0;
+    for round in 0..6_000u64 {
+        let k = 1 + dice.under(if round % 10 == 0 { 64 } else { 6 });
+        let modes: &[u8] = [&MODES[..], &[R], &[R, R, R, NR, TRR], &[TE, TR, TRR]][round as usize % 4];
+        let mut bytes = log(k as u8, &[]);
+        let mut ahead = Bench::new(k as usize);
+        for _ in 0..dice.under(80) {
+            let r = random_record(&mut dice, k, modes);
+            let mut next = ahead.clone();
+            // Seldom one that gets an answer but 0, so that logs get long.
+            if next.step(&r) == 0 || dice.under(20) == 0 {
+                bytes.extend(r);
+                ahead = next;
+            }
+        }
+        match dice.under(8) {
+            0 => bytes.truncate(dice.under(bytes.len() as u64 + 1) as usize),
+            1 => bytes.extend([0x4C, 0x4B, 0, 0, 0].iter().take(1 + dice.under(5) as usize)),
+            2 => {
+                let at = dice.under(bytes.len() as u64) as usize;
+                bytes[at] ^= 1 << dice.under(8);
+            }
+            3 => bytes = (0..dice.under(30)).map(|_| dice.next() as u8).collect(),
+            _ => {}
+        }
+        let mut b = lent_for(k as usize);
+        match dice.under(40) {
+            0 => b.desk.truncate(637),
+            1 => b.sheet.truncate(b.sheet.len() - 1),
+            2 => b.slip.truncate(b.slip.len() - 1),
+            _ => {}
+        }
+        let mut whole = Whole::new(&b, &bytes);
+        let [so_far, ended] = whole.all();
+        seen[0][so_far.0 as usize] += 1;
+        seen[1][ended.0 as usize] += 1;
+        longest = longest.max(ended.1);
+        for _ in 0..5 {
+            let mut cuts: Vec<usize> =
+                (0..dice.under(12)).map(|_| dice.under(bytes.len() as u64 + 1) as usize).collect();
+            cuts.sort();
+            whole.fed(&cuts);
+        }
+        // The program has buffers of its own, as long as they need be.
+        if [&b.desk, &b.sheet, &b.slip].map(|x| x.len()) == [DESK, sheet_len(k as usize), slip_len(k as usize)]
+            && bytes.get(3).map_or(true, |&header_k| u64::from(header_k) <= k)
+        {
+            let text = program(&bytes);
+            let verdict = match ended {
+                (0, number) => format!("clean, {number} records\n"),
+                (1, number) => format!("fault at record {number}\n"),
+                (answer, number) => format!("refused {answer} at record {number}\n"),
+            };
+            assert!(text.starts_with(&verdict) && (ended.0 == 1 || text == verdict), "{text}{verdict}");
+        }
+    }
+    for answer in [0, 1, 2, 3, 4, 5, 6, 7, 11] {
+        assert!(seen[0][answer] > 10 && seen[1][answer] > 10, "answer {answer}: {seen:?}");
+    }
+    assert!(longest > 50, "{longest} records");
+}
+
+#[test]
+fn the_header_is_judged_when_complete() {
+    // No buffer but the feed's own changes before the fourth byte, however wrong the first.
+    for header in [
+        [0x4C, 0x48, 0x01, 8],
+        [0x4C, 0x48, 0x01, 1],
+        [0x4C, 0x48, 0x01, 0],
+        [0x4C, 0x48, 0x01, 9],
+        [0x4C, 0x48, 0x01, 255],
+        [0x4C, 0x48, 0x00, 8],
+        [0x4C, 0x49, 0x01, 8],
+        [0x00, 0x48, 0x01, 8],
+        [0xFF, 0xFF, 0xFF, 0xFF],
+    ] {
+        let well = header == [0x4C, 0x48, 0x01, 8] || header == [0x4C, 0x48, 0x01, 1];
+        let before = lent_for(8);
+        let mut fed = Fed::new(before.clone());
+        for i in 0..3 {
+            assert_eq!(fed.feed(&header[i..i + 1]), (0, 0));
+            assert_eq!(fed.feed(&[]), (0, 0));
+            assert_eq!(fed.feed, lies(&header[..i + 1], (0, 0)));
+            assert_eq!(fed.feed[1], 0);
+            assert_eq!(fed.b, before);
+        }
+        if !well {
+            assert_eq!(fed.feed(&header[3..]), (2, 0));
+            assert_eq!(fed.feed, [vec![2], vec![0; 15], vec![0xA5; 4]].concat());
+            assert_eq!(fed.b, before);
+            fed.stands(2, 0);
+            continue;
+        }
+        assert_eq!(fed.feed(&header[3..]), (0, 0));
+        assert_eq!(fed.feed, [vec![0, 1], vec![0; 14], vec![0xA5; 4]].concat());
+        let mut after = before.clone();
+        assert_eq!(open(header[3].into(), &mut after.desk, &mut after.sheet), 0);
+        assert_eq!(fed.b, after);
+    }
+}
+
+#[test]
+fn records_are_judged_when_complete() {
+    for record in [take(0, 1, E), take(0, 8, E), release(0, 1), [0; 6], [0xFF; 6]] {
+        let mut fed = Fed::new(lent_for(8));
+        assert_eq!(fed.feed(&log(8, &[take(1, 0, E)])), (0, 1));
+        let mut after = fed.b.clone();
+        for i in 0..5 {
+            assert_eq!(fed.feed(&record[i..i + 1]), (0, 1));
+            assert_eq!(fed.b, after);
+            assert_eq!(fed.feed[2] as usize, i + 1);
+            assert_eq!(fed.feed[3..4 + i], record[..i + 1]);
+        }
+        let answer = after.step(&record);
+        assert_eq!(fed.feed(&record[5..]), (answer, 2));
+        assert_eq!(fed.b, after);
+        assert_eq!(fed.feed, [&[answer, 1, 0, 0, 0, 0, 0, 0, 2][..], &[0; 7], &[0xA5; 4]].concat());
+    }
+}
+
+#[test]
+fn opening_by_the_header() {
+    for k in 1..=64usize {
+        let header = log(k as u8, &[]);
+        let mut after = lent_for(k);
+        assert_eq!(open(k as u64, &mut after.desk, &mut after.sheet), 0);
+        // The slip isn't looked at.
+        for slip in [0, slip_len(k) - 1, slip_len(k)] {
+            let mut fed = Fed::new(lent(DESK, sheet_len(k), slip));
+            assert_eq!(fed.feed(&header), (0, 0));
+            assert_eq!((&fed.b.desk, &fed.b.sheet), (&after.desk, &after.sheet));
+            assert_eq!(fed.b.slip, vec![0xA5; slip]);
+            assert_eq!(fed.end(), (0, 0));
+            if slip < slip_len(k) {
+                let before = fed.b.clone();
+                assert_eq!(fed.feed(&take(0, 0, E)), (11, 1));
+                assert_eq!(fed.b, before);
+                fed.stands(11, 1);
+            }
+        }
+        for b in [lent(DESK - 1, sheet_len(k), 0), lent(DESK, sheet_len(k) - 1, 0)] {
+            let mut fed = Fed::new(b.clone());
+            assert_eq!(fed.feed(&header[..3]), (0, 0));
+            assert_eq!(fed.feed(&[&header[3..], &take(0, 0, E)].concat()), (2, 0));
+            assert_eq!(fed, Fed { feed: lies(&header, (2, 0)), b });
+            fed.stands(2, 0);
+        }
+    }
+    // A desk in use, closed, unfit: opening asks only for room.
+    let used = Bench::new(8).clean(&[take(0, 1, E), event(1, HARD_OFF)]);
+    let (mut closed, mut unfit) = (used.clone(), used.clone());
+    closed.desk[1] = 1;
+    unfit.sheet.fill(255);
+    for b in [used, closed, unfit] {
+        let mut fed = Fed::new(b);
+        assert_eq!(fed.feed(&log(8, &[])), (0, 0));
+        let fresh = Bench::new(8);
+        assert_eq!((&fed.b.desk, &fed.b.sheet), (&fresh.desk, &fresh.sheet));
+    }
+}
+
+#[test]
+fn nothing_after_the_stop() {
+    let mut fed = Fed::new(lent_for(3));
+    // In the same piece.
+    let more = [log(3, &p2_records()), log(3, &p2_records()), vec![0xFF; 3]].concat();
+    assert_eq!(fed.feed(&more), (1, 6));
+    assert_eq!(fed.feed, lies(&log(3, &p2_records()), (1, 6)));
+    fed.stands(1, 6);
+    // Whatever becomes of the bench.
+    for change in [
+        &(|_: &mut Bench| ()) as &dyn Fn(&mut Bench),
+        &|b| b.desk.clear(),
+        &|b| b.sheet.clear(),
+        &|b| b.slip.clear(),
+        &|b| b.desk[1] = 0,
+        &|b| b.desk[0] = 0,
+        &|b| *b = Bench::new(64),
+    ] {
+        let mut changed = fed.clone();
+        change(&mut changed.b);
+        changed.stands(1, 6);
+    }
+    // Every answer that can stand.
+    for answer in [1, 3, 4, 5, 6, 7, 8, 10, 11] {
+        for number in [1, 2, 256, 1 << 63, u64::MAX] {
+            for b in [Bench::new(2), lent(0, 0, 0), lent_for(2)] {
+                Fed::lying(answer, 1, 0, [0; 5], number, b).stands(answer, number);
+            }
+        }
+    }
+    for b in [Bench::new(2), lent(0, 0, 0), lent_for(2)] {
+        Fed::lying(2, 0, 0, [0; 5], 0, b).stands(2, 0);
+    }
+}
+
+#[test]
+fn an_end_between_records() {
+    let records = p2_records();
+    let mut fed = Fed::new(lent_for(3));
+    assert_eq!(fed.feed(&log(3, &[])), (0, 0));
+    for (i, r) in records.iter().enumerate() {
+        let before = fed.clone();
+        assert_eq!(fed.end(), (0, i as u64));
+        assert_eq!(fed.end(), (0, i as u64));
+        assert_eq!(fed, before);
+        assert_eq!(fed.feed(&r[..3]), (0, i as u64));
+        assert_eq!(fed.feed(&r[3..]), (u8::from(i == 5), i as u64 + 1));
+    }
+    assert_eq!(fed.end(), (1, 6));
+    // With no loose bytes the bench isn't looked at.
+    for b in [lent(0, 0, 0), lent_for(2), Bench { desk: vec![255; DESK], ..lent_for(2) }] {
+        let mut fed = Fed::lying(0, 1, 0, [0; 5], 77, b);
+        let before = fed.clone();
+        assert_eq!(fed.end(), (0, 77));
+        assert_eq!(fed, before);
+    }
+}
+
+#[test]
+fn an_end_in_the_header() {
+    let good = log(8, &[take(0, 0, E)]);
+    for start in [&good[..3], &[0, 0, 0]] {
+        for length in 0..4 {
+            for b in [lent_for(8), lent(0, 0, 0), Bench::new(8)] {
+                let mut fed = Fed::new(b.clone());
+                assert_eq!(fed.feed(&start[..length]), (0, 0));
+                assert_eq!(fed.end(), (2, 0));
+                assert_eq!(fed.feed, [vec![2], vec![0; 15], vec![0xA5; 4]].concat());
+                assert_eq!(fed.b, b);
+                fed.stands(2, 0);
+                assert_eq!(fed.feed(&good[length..]), (2, 0));
+                assert_eq!(fed.feed(&good), (2, 0));
+            }
+        }
+    }
+}
+
+#[test]
+fn an_end_with_loose_bytes() {
+    let fit = Bench::new(8).clean(&[take(0, 1, E)]);
+    let changed = |change: &dyn Fn(&mut Bench)| {
+        let mut b = fit.clone();
+        change(&mut b);
+        b
+    };
+    for (b, answer) in [
+        (fit.clone(), 3),
+        (changed(&|b| b.desk.push(7)), 3),
+        (changed(&|b| b.desk[1] = 1), 10),
+        (changed(&|b| b.desk[1] = 2), 11),
+        (changed(&|b| b.desk[0] = 0), 11),
+        (changed(&|b| b.desk.truncate(637)), 11),
+        (changed(&|b| b.sheet.truncate(63)), 11),
+        (changed(&|b| b.slip.truncate(24)), 11),
+        (changed(&|b| b.sheet[5] = 16), 11),
+        // Closed and unfit: 11 before 10.
+        (changed(&|b| (b.desk[1], b.sheet[5]) = (1, 16)), 11),
+        (changed(&|b| (b.desk[1], b.slip) = (1, vec![])), 11),
+        (lent(0, 0, 0), 11),
+    ] {
+        for short in [[0x4C, 0x4B, 0, 0, 2], [0xFF; 5], [0; 5]] {
+            for length in 1..=5usize {
+                for number in [0, 1, 255, 1 << 40, u64::MAX - 1, u64::MAX] {
+                    let mut fed = Fed::lying(0, 1, 0, [0; 5], number, b.clone());
+                    // Kept without a look at the bench.
+                    assert_eq!(fed.feed(&short[..length]), (0, number));
+                    assert_eq!(fed.feed[2..8][..1 + length], [&[length as u8], &short[..length]].concat());
+                    assert_eq!(fed.b, b);
+                    let named = number.saturating_add(1);
+                    assert_eq!(fed.end(), (answer, named));
+                    assert_eq!(fed, Fed::lying(answer, 1, 0, [0; 5], named, b.clone()));
+                    fed.stands(answer, named);
+                }
+            }
+        }
+    }
+}
+
+#[test]
+fn counts_near_the_limit() {
+    // From 2^64 - 4 on, one record a piece and all in one.
+    let records = [HARD_OFF, HARD_ON, SOFT_OFF, SOFT_ON, HARD_OFF, HARD_ON].map(|kind| event(2, kind));
+    let start = Fed::lying(0, 1, 0, [0; 5], u64::MAX - 3, Bench::new(2));
+    let mut fed = start.clone();
+    for (i, r) in records.iter().enumerate() {
+        let number = u64::MAX - [2, 1, 0, 0, 0, 0][i];
+        assert_eq!(fed.feed(r), (0, number));
+        assert_eq!(fed.end(), (0, number));
+        assert_eq!(fed.feed[8..16], number.to_le_bytes());
+    }
+    let mut at_once = start.clone();
+    assert_eq!(at_once.feed(&records.concat()), (0, u64::MAX));
+    assert_eq!(at_once, fed);
+    assert_eq!(at_once.feed(&[]), (0, u64::MAX));
+    // The record that gets an answer but 0 counts too, and at the limit no more.
+    for (before, named) in [(0, 1), (u64::MAX - 2, u64::MAX - 1), (u64::MAX - 1, u64::MAX), (u64::MAX, u64::MAX)] {
+        for (record, answer) in [([0; 6], 3), (take(0, 2, E), 4), (event(0, EXIT_HARD), 6), (release(0, 0), 5)] {
+            let mut fed = Fed::lying(0, 1, 1, [record[0], 0, 0, 0, 0], before, Bench::new(2));
+            assert_eq!(fed.feed(&record[1..]), (answer, named));
+            assert_eq!(fed, Fed::lying(answer, 1, 0, [0; 5], named, Bench::new(2)));
+            fed.stands(answer, named);
+        }
+    }
+    // Each byte of the number has its place.
+    for byte in 0..8 {
+        let number = (0xFF << (8 * byte)) - 1;
+        let mut fed = Fed::lying(0, 1, 0, [0; 5], number, Bench::new(2));
+        assert_eq!(fed.feed(&[]), (0, number));
+        assert_eq!(fed.feed(&take(0, 0, E)), (0, number + 1));
+        assert_eq!(fed.feed[8..16], (number + 1).to_le_bytes());
+    }
+}
+
+#[test]
+fn each_clause_of_the_unfit_feed() {
+    let mut met = Vec::new();
+    let mut violate = |clause: &'static str, fed: &Fed| {
+        assert_eq!(unfit_feed(&fed.feed), Some(clause), "{:?}", fed.feed);
+        fed.stands(11, 0);
+        // A desk that is closed, unfit, short: all the same.
+        for b in [lent(0, 0, 0), lent_for(8), Bench { desk: [&[8, 1][..], &[0; 636]].concat(), ..lent_for(8) }] {
+            Fed { b, ..fed.clone() }.stands(11, 0);
+        }
+        if !met.contains(&clause) {
+            met.push(clause);
+        }
+    };
+    let lying = |answer, opened, kept, loose, number| Fed::lying(answer, opened, kept, loose, number, Bench::new(8));
+    let fit = |fed: &Fed| assert_eq!(unfit_feed(&fed.feed), None, "{:?}", fed.feed);
+
+    for fed in [lying(0, 0, 0, [0; 5], 0), lying(2, 0, 0, [0; 5], 0), lying(0, 1, 2, [1, 2, 0, 0, 0], 5), lying(4, 1, 0, [0; 5], 9)] {
+        fit(&fed);
+        for length in 0..16 {
+            violate(FEED_CLAUSES[0], &Fed { feed: fed.feed[..length].to_vec(), ..fed.clone() });
+        }
+        for length in 16..20 {
+            fit(&Fed { feed: fed.feed[..length].to_vec(), ..fed.clone() });
+        }
+        for opened in 2..=255 {
+            let mut other = fed.clone();
+            other.feed[1] = opened;
+            violate(FEED_CLAUSES[1], &other);
+        }
+    }
+    for kept in 0..=255 {
+        let before = lying(0, 0, kept, [0; 5], 0);
+        let after = lying(0, 1, kept, [0; 5], 7);
+        if kept > 3 {
+            violate(FEED_CLAUSES[2], &before);
+        } else {
+            fit(&before);
+        }
+        if kept > 5 {
+            violate(FEED_CLAUSES[2], &after);
+        } else {
+            fit(&after);
+        }
+    }
+    for place in 0..5u8 {
+        let mut loose = [0; 5];
+        for byte in [1, 0x4C, 255] {
+            loose[place as usize] = byte;
+            for kept in 0..=5 {
+                for opened in 0..=1 {
+                    let fed = lying(0, opened, kept, loose, 0);
+                    if opened == 0 && kept > 3 {
+                        violate(FEED_CLAUSES[2], &fed);
+                    } else if place >= kept {
+                        violate(FEED_CLAUSES[3], &fed);
+                    } else {
+                        fit(&fed);
+                    }
+                }
+            }
+            violate(FEED_CLAUSES[3], &lying(2, 0, 0, loose, 0));
+            violate(FEED_CLAUSES[3], &lying(3, 1, 0, loose, 1));
+        }
+    }
+    for kept in 1..=5 {
+        if kept <= 3 {
+            violate(FEED_CLAUSES[4], &lying(2, 0, kept, [0; 5], 0));
+        }
+        for answer in [1, 3, 4, 5, 6, 7, 8, 10, 11] {
+            violate(FEED_CLAUSES[4], &lying(answer, 1, kept, [0; 5], 1));
+        }
+    }
+    for answer in 0..=255 {
+        let before = lying(answer, 0, 0, [0; 5], 0);
+        if answer == 0 || answer == 2 {
+            fit(&before);
+        } else {
+            violate(FEED_CLAUSES[5], &before);
+        }
+        let after = lying(answer, 1, 0, [0; 5], 1);
+        if [0, 1, 3, 4, 5, 6, 7, 8, 10, 11].contains(&answer) {
+            fit(&after);
+        } else {
+            violate(FEED_CLAUSES[7], &after);
+        }
+    }
+    for number in (0..64).map(|bit| 1 << bit).chain([u64::MAX]) {
+        violate(FEED_CLAUSES[6], &lying(0, 0, 0, [0; 5], number));
+        violate(FEED_CLAUSES[6], &lying(0, 0, 3, [0x4C, 0x48, 1, 0, 0], number));
+        violate(FEED_CLAUSES[6], &lying(2, 0, 0, [0; 5], number));
+        for answer in [0, 1, 3, 4, 5, 6, 7, 8, 10, 11] {
+            fit(&lying(answer, 1, 0, [0; 5], number));
+        }
+        fit(&lying(0, 1, 5, [255; 5], number));
+    }
+    for answer in [1, 3, 4, 5, 6, 7, 8, 10, 11] {
+        violate(FEED_CLAUSES[8], &lying(answer, 1, 0, [0; 5], 0));
+    }
+    fit(&lying(0, 1, 0, [0; 5], 0));
+    met.sort_by_key(|name| FEED_CLAUSES.iter().position(|clause| clause == name));
+    assert_eq!(met, FEED_CLAUSES);
+}
+
+/// The fit feeds by their shapes: before the header is complete, refused there,
+/// between or within records, stopped at a record.
+fn fit_shape(feed: &[u8]) -> bool {
+    let Some(&[answer, opened, kept, a, b, c, d, e, ref number @ ..]) = feed.get(..16) else {
+        return false;
+    };
+    let zero = number.iter().all(|&x| x == 0);
+    match (answer, opened, kept, [a, b, c, d, e]) {
+        (0, 0, 0, [0, 0, 0, 0, 0]) => zero,
+        (0, 0, 1, [_, 0, 0, 0, 0]) => zero,
+        (0, 0, 2, [_, _, 0, 0, 0]) => zero,
+        (0, 0, 3, [_, _, _, 0, 0]) => zero,
+        (2, 0, 0, [0, 0, 0, 0, 0]) => zero,
+        (0, 1, 0, [0, 0, 0, 0, 0]) => true,
+        (0, 1, 1, [_, 0, 0, 0, 0]) => true,
+        (0, 1, 2, [_, _, 0, 0, 0]) => true,
+        (0, 1, 3, [_, _, _, 0, 0]) => true,
+        (0, 1, 4, [_, _, _, _, 0]) => true,
+        (0, 1, 5, _) => true,
+        (1 | 3..=8 | 10 | 11, 1, 0, [0, 0, 0, 0, 0]) => !zero,
+        _ => false,
+    }
+}
+
+#[test]
+fn fit_feeds_by_their_shapes() {
+    let (mut fits, mut unfits) = (0u64, 0u64);
+    for answer in (0..=13).chain([255]) {
+        for opened in [0, 1, 2, 255] {
+            for kept in (0..=8).chain([255]) {
+                for pattern in 0..32u8 {
+                    for number in [0, 1, 256, u64::MAX] {
+                        let loose = [0, 1, 2, 3, 4].map(|i| (pattern >> i & 1) * 0x4C);
+                        let fed = Fed::lying(answer, opened, kept, loose, number, lent(0, 0, 0));
+                        let fit = fit_shape(&fed.feed);
+                        assert_eq!(unfit_feed(&fed.feed).is_none(), fit, "{:?}", fed.feed);
+                        if fit {
+                            fits += 1;
+                        } else {
+                            unfits += 1;
+                            fed.stands(11, 0);
+                        }
+                    }
+                }
+            }
+        }
+    }
+    assert!(fits > 200 && unfits > 50_000, "{fits} fit, {unfits} unfit");
+}
+
+#[test]
+fn any_bytes_at_all() {
+    // Feeds and benches of any bytes: judged as they stand by the loose bytes and the piece
+    // in a row, or refused.
+    let mut dice = Dice(0xABCD_EF01_2345_6789);
+    let mut seen = [0u64; 12];
+    let mut unfits = 0;
+    for _ in 0..60_000 {
+        let mut b = match dice.under(4) {
+            0 => lent(dice.under(700) as usize, dice.under(30) as usize, dice.under(20) as usize),
+            1 => lent_for(3),
+            _ => Bench::new(3),
+        };
+        if dice.under(3) == 0 {
+            for _ in 0..1 + dice.under(3) {
+                let buffer = match dice.under(8) {
+                    0 => &mut b.sheet,
+                    1 => &mut b.slip,
+                    _ => &mut b.desk,
+                };
+                if !buffer.is_empty() {
+                    let at = dice.under(buffer.len().min(40) as u64) as usize;
+                    buffer[at] = dice.under(4) as u8;
+                }
+            }
+        }
+        let answer = if dice.under(3) == 0 { dice.under(13) as u8 } else { 0 };
+        let opened = u8::from(dice.under(4) != 0);
+        let kept = if answer == 0 { dice.under(7) as u8 } else { 0 };
+        let stream: Vec<u8> = match dice.under(4) {
+            0 => (0..dice.under(40)).map(|_| dice.next() as u8).collect(),
+            1 => log(dice.under(5) as u8, &[take(0, 1, E), take(0, 2, E), take(0, 1, E)]),
+            _ => (0..1 + dice.under(5)).flat_map(|_| random_record(&mut dice, 3, &MODES)).collect(),
+        };
+        let kept_here = stream.len().min(usize::from(kept)).min(5);
+        let mut loose = [0; 5];
+        loose[..kept_here].copy_from_slice(&stream[..kept_here]);
+        let number = if opened == 0 { 0 } else { dice.next() >> dice.under(64) };
+        let mut fed = Fed::lying(answer, opened, kept_here as u8, loose, number, b);
+        if dice.under(10) == 0 {
+            fed.feed[dice.under(20) as usize] = dice.next() as u8;
+        }
+        if dice.under(20) == 0 {
+            fed.feed.truncate(dice.under(20) as usize);
+        }
+        let piece = &stream[kept_here..];
+        let before = fed.clone();
+        let mut told = fed.feed(piece);
+        if !fit_shape(&before.feed) {
+            unfits += 1;
+            assert_eq!(told, (11, 0));
+            assert_eq!(fed, before);
+            before.stands(11, 0);
+            continue;
+        }
+        // What should lie there, item by item.
+        let mut expected = before.clone();
+        let (mut answer, mut opened) = (before.feed[0], before.feed[1]);
+        let mut number = u64::from_le_bytes(before.feed[8..16].try_into().unwrap());
+        let mut row = [&before.feed[3..3 + usize::from(before.feed[2])], piece].concat();
+        for ended in [false, true] {
+            while answer == 0 {
+                let whole = [4, 6][usize::from(opened)];
+                if row.len() < whole && !(ended && (opened == 0 || !row.is_empty())) {
+                    break;
+                }
+                let item: Vec<u8> = row.drain(..whole.min(row.len())).collect();
+                if opened == 1 {
+                    number = number.checked_add(1).unwrap_or(number);
+                    answer = expected.b.step(&item);
+                    continue;
+                }
+                answer = 2;
+                if item.len() == 4 && item[..3] == [0x4C, 0x48, 1] {
+                    answer = open(item[3].into(), &mut expected.b.desk, &mut expected.b.sheet);
+                }
+                opened = u8::from(answer == 0);
+            }
+            if answer != 0 {
+                row.clear();
+            }
+            let mut loose = [0; 5];
+            loose[..row.len()].copy_from_slice(&row);
+            let past = before.feed[16..].to_vec();
+            expected.feed = Fed::lying(answer, opened, row.len() as u8, loose, number, lent(0, 0, 0)).feed;
+            expected.feed.truncate(16);
+            expected.feed.extend(past);
+            assert_eq!((told, &fed), ((answer, number), &expected), "{before:?} {piece:?}");
+            assert!(fit_shape(&fed.feed));
+            if !ended {
+                told = fed.end();
+            }
+        }
+        seen[usize::from(answer)] += 1;
+        if answer != 0 {
+            fed.stands(answer, number);
+        }
+    }
+    assert!(unfits > 3_000, "{unfits} unfit");
+    for answer in [0, 1, 2, 3, 4, 5, 6, 7, 8, 10, 11] {
+        assert!(seen[answer] > 20, "answer {answer}: {seen:?}");
+    }
+}
+
+#[test]
+fn a_bench_written_meanwhile() {
+    // "if nobody else writes them meanwhile"; if somebody does, the step judges the bench
+    // as it stands when a record is complete, and before that it isn't looked at.
+    let mut start = Fed::new(lent_for(8));
+    assert_eq!(start.feed(&log(8, &[take(0, 1, E)])), (0, 1));
+    for (change, answer) in [
+        (&(|_: &mut Bench| ()) as &dyn Fn(&mut Bench), 0),
+        (&|b| b.desk[1] = 1, 10),
+        (&|b| b.desk[1] = 2, 11),
+        (&|b| b.desk.truncate(637), 11),
+        (&|b| b.sheet.truncate(63), 11),
+        (&|b| b.slip.truncate(24), 11),
+        (&|b| b.desk[0] = 2, 4),
+        (&|b| b.sheet[2 * 8 + 1] = EN, 1),
+    ] {
+        let mut fed = start.clone();
+        change(&mut fed.b);
+        let as_changed = fed.b.clone();
+        assert_eq!(fed.feed(&[]), (0, 1));
+        assert_eq!(fed.end(), (0, 1));
+        assert_eq!(fed.feed(&take(0, 2, E)[..5]), (0, 1));
+        assert_eq!(fed.b, as_changed);
+        assert_eq!(fed.feed(&take(0, 2, E)[5..]), (answer, 2));
+        let mut stepped = as_changed;
+        assert_eq!(stepped.step(&take(0, 2, E)), answer);
+        assert_eq!(fed.b, stepped);
+        if answer != 0 {
+            fed.stands(answer, 2);
+        }
+    }
+    // A second header is a record like any other.
+    assert_eq!(start.feed(&log(8, &[take(0, 2, E)])), (3, 2));
+}
+
 // ----------------------------------------------------------------------- time
 
 #[test]

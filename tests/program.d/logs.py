@@ -84,6 +84,20 @@ def long_log(number):
     return header(1) + (acquire + by_try + release * 2) * (number // 4 - 1) + acquire + release + by_try + acquire
 
 
+def counted_log(number):
+    """A clean log of very many records."""
+    return header(1) + (record(0, ACQUIRE) + record(0, RELEASE)) * (number // 2) + record(0, HARD_ON) * (number % 2)
+
+
+def divided_logs():
+    """As decided_logs, of few records, and where one of them or the loose bytes begin: the last that matters, or one before it."""
+    for name in ("fault", "refused 5", "refused 3, first byte", "refused 3, mode"):
+        for back in (0, 2):
+            yield f"{name} at record 9, record {9 - back} cut", deciding_log(name, 9), end_of(9), end_of(8 - back)
+    for loose in range(RECORD):
+        yield f"{loose} bytes behind record 3", clean_log(3, loose), None, end_of(3 if loose else 2)
+
+
 def decided_logs(numbers, names):
     """(name, log, the offset from which nothing matters any more, or None where the end of the log matters)."""
     for number in numbers:

@@ -15,6 +15,12 @@ use Rattle.rules.specs.Limits.{maxClasses}
 use Rattle.rules.specs.Cycle.{Entry, entryAt, following}
 use Rattle.log.specs.declared.Outcome.{Outcome}
 
+-- What came of a log whose last answer, or first answer but 0, has a number: of records, or of its record.
+abbrev pub outcomeOf : (answer number : ℕ) → Outcome
+outcomeOf zero n = Outcome.Clean n
+outcomeOf (suc zero) n = Outcome.Fault n
+outcomeOf (suc (suc a)) n = Outcome.Refused (suc (suc a)) n
+
 -- The decimal digits of n, in at most `most` places.
 unfoldable pub digitsIn : (most n : ℕ) → List ℕ
 digitsIn zero n = []

@@ -1,10 +1,10 @@
-// Document 01, "Logs for the bench": the header and the records of a log, what comes of a log, and its text.
+// Document 01, "Logs for the bench": what comes of a log, and its text.
+use answers::FAULT;
+use answers::OK;
 use layout::COUNT_AT;
 use layout::ENTRIES_AT;
 use layout::ENTRY_SIZE;
 use layout::MAX_CLASSES;
-use record::SIZE;
-use validator::step;
 ghost use mathlib.Core.Path.{_≡_};
 ghost use mathlib.Core.List.{_++_};
 ghost use Prim.Native.Nat.{_+_, _*_, _<_, _≤_};
@@ -13,10 +13,7 @@ ghost use Rattle.rules.specs.Limits.{maxClasses};
 ghost use Rattle.layout.specs.Layout.{slipSize, entriesAt, entrySize, countOf};
 ghost use Rattle.search.specs.Reports.{nextPlace};
 ghost use Rattle.layout.specs.Slip.{kindOfByte, sourceOfByte, entriesOf};
-ghost use Rattle.log.specs.Log.{headerClasses, nextRecord, ValidatedNext, Kept};
-ghost use Rattle.log.specs.Text.{digits, kindText, sourceText, cycleText, cleanText, refusedText, faultText, lineSize, entryLineSize, cycleSize, Appended, EntryPut, Showable, textOf, isAnswer};
-
-pub const HEADER_SIZE: usize = 4;
+ghost use Rattle.log.specs.Text.{digits, kindText, sourceText, cycleText, cleanText, refusedText, faultText, lineSize, entryLineSize, cycleSize, Appended, EntryPut, Showable, textOf, isAnswer, outcomeOf};
 
 // Room for the longest text: a line, and a line for each entry of a cycle.
 pub const TEXT_SIZE: usize = 64 + 16 * MAX_CLASSES;
@@ -32,92 +29,23 @@ pub enum Outcome {
     Unread,
 }
 
-const MOST_CLASSES: u8 = MAX_CLASSES as u8;
+// What the answer at the end of a log, or the first answer but 0, and the number with it say.
+pub fn outcome_of(answer: u8, number: u64) -> Outcome
+    ensures { λ r. ⌜ r ≡ outcomeOf answer number ⌝ }
+{
+    if answer == OK {
+        return Outcome::Clean(number);
+    }
+    if answer == FAULT {
+        return Outcome::Fault(number);
+    }
+    Outcome::Refused(answer, number)
+}
 
 fn wide(byte: u8) -> u64
     ensures { λ r. ⌜ r ≡ byte ⌝ }
 {
     byte as u64
-}
-
-// The number of classes in a header, 0 where it is not a good one.
-pub fn header_classes(bytes: &[u8]) -> u64
-    ensures { λ r. ⌜ r ≡ headerClasses (now (bytes .entry)) ⌝ }
-{
-    if bytes.len() != HEADER_SIZE {
-        return 0;
-    }
-    if bytes[0] != 0x4C {
-        return 0;
-    }
-    if bytes[1] != 0x48 {
-        return 0;
-    }
-    if bytes[2] != 1 {
-        return 0;
-    }
-    if MOST_CLASSES < bytes[3] {
-        return 0;
-    }
-    wide(bytes[3])
-}
-
-// The next record of the bytes that are left: six, or at the end of the input what is left. Nothing where more is to be read.
-pub fn next_record(bytes: &[u8], ended: bool) -> &[u8]
-    ensures { λ r. ⌜ now r ≡ nextRecord (now (bytes .entry)) ended ⌝ }
-{
-    if SIZE <= bytes.len() {
-        return &bytes[..SIZE];
-    }
-    if ended {
-        return bytes;
-    }
-    &bytes[..0]
-}
-
-// What came of the bytes that are left: how many the next record took, and its answer.
-pub struct Answered {
-    pub taken: usize,
-    pub answer: u8,
-}
-
-// Validates the next record of the bytes that are left, if there is one.
-pub fn validate_next(
-    desk: &mut [u8],
-    sheet: &mut [u8],
-    slip: &mut [u8],
-    bytes: &[u8],
-    ended: bool,
-) -> Answered
-    ensures { λ r. ⌜ ValidatedNext (now (desk .entry)) (now (sheet .entry)) (now (slip .entry)) (now (bytes .entry)) ended (r .taken) (r .answer) (now (desk .exit)) (now (sheet .exit)) (now (slip .exit)) ⌝ }
-{
-    let next = next_record(bytes, ended);
-    let taken = next.len();
-    if taken == 0 {
-        return Answered {
-            taken: 0,
-            answer: 0,
-        };
-    }
-    let answer = step(desk, sheet, slip, next);
-    Answered {
-        taken: taken,
-        answer: answer,
-    }
-}
-
-// Moves the bytes that are left to the front of the buffer, and counts them.
-pub fn loose_to_front(buf: &mut [u8], at: usize, until: usize) -> usize
-    requires { ⌜ (at ≤ until) × (until ≤ length (now buf)) ⌝ }
-    ensures { λ r. ⌜ Kept (now (buf .entry)) at until (now (buf .exit)) r ⌝ }
-{
-    let n = until - at;
-    let mut i = 0;
-    while i < n {
-        buf[i] = buf[at + i];
-        i += 1;
-    }
-    n
 }
 
 fn put_word(out: &mut [u8], at: usize, word: &[u8]) -> usize

@@ -29,7 +29,8 @@ use Rattle.fit.proofs.Fitting.{fit-valid, stand-encodes}
 use Rattle.fit.proofs.Settled.{settled-desk-after, settled-sheet-after}
 use Rattle.validator.specs.Step.{Validated}
 use Rattle.question.specs.Question.{Asked}
-use Rattle.plungerowl.specs.Runs.{Buffers, Called, Ran, Opening}
+use Rattle.validator.specs.Calls.{Buffers, Called}
+use Rattle.plungerowl.specs.Runs.{Ran, Opening}
 use Rattle.plungerowl.specs.Demands.{SameStep, ClosedByFault, FaultExactly, DrawnFromRecords, Balanced}
 use Rattle.plungerowl.proofs.Runs.{held-fit, validated-by, slip-long, run-holds, opening-holds}
 

@@ -1,2 +1,7 @@
 pub mod Runs
 pub mod Demands
+pub mod Records
+pub mod Logs
+pub mod Wholes
+pub mod Feeds
+pub mod Settled

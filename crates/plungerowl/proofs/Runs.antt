@@ -1,5 +1,5 @@
 -- Runs of the calls are runs of the rules. Assumes nothing.
-use mathlib.Core.Path.{_≡_, refl, sym, ap, ap₂, _∙_, subst₂}
+use mathlib.Core.Path.{_≡_, refl, sym, ap, ap₂, _∙_, subst, subst₂}
 use native.Mathlib.Decide.{ℕ-discrete}
 use mathlib.Core.Bool.{Bool, true, false, cond}
 use mathlib.Core.List.{List, _∷_}
@@ -17,14 +17,15 @@ use Rattle.rules.proofs.Booleans.{and-cases, and-both}
 use Rattle.rules.proofs.MoreEvidence.{more-evidence}
 use Rattle.validity.specs.Valid.{Valid}
 use Rattle.validity.proofs.Kept.{valid-start, valid-step}
-use Rattle.layout.specs.Layout.{slipSize}
+use Rattle.layout.specs.Layout.{deskSize, sheetSize, slipSize, KeepsPast}
 use Rattle.layout.specs.Decoding.{StandFor}
 use Rattle.layout.specs.Fit.{classesFit, fitsAll}
 use Rattle.fit.proofs.Fitting.{encodes-stand}
 use Rattle.opening.specs.Open.{opens, openedDesk, openedSheet, Opened}
 use Rattle.opening.proofs.Opens.{open-encodes}
 use Rattle.validator.specs.Step.{Validated}
-use Rattle.plungerowl.specs.Runs.{Buffers, Called, Ran, no-call, call, Opening}
+use Rattle.validator.specs.Calls.{Buffers, Called}
+use Rattle.plungerowl.specs.Runs.{Ran, no-call, call, Opening}
 
 -- The buffers encode a state of the rules, and the step will not find them unfit.
 pub record Holds (K : ℕ) (s : State) (b : Buffers) : Type 0 where
@@ -67,31 +68,43 @@ run-answers h (call t w) =
     let j = validated-by h t in
     ap₂ {C = List ℕ} _∷_ (j .number-is) (run-answers (step-holds h j) w)
 
-opened-true : {K : ℕ} {desk sheet desk′ sheet′ : List ℕ} → Opened K desk sheet 0 desk′ sheet′ → opens K desk sheet ≡ true
+pub opened-true : {K : ℕ} {desk sheet desk′ sheet′ : List ℕ} → Opened K desk sheet 0 desk′ sheet′ → opens K desk sheet ≡ true
 opened-true {K} {desk} {sheet} o = by (opens K desk sheet) refl
   where
     by : (b : Bool) → opens K desk sheet ≡ b → opens K desk sheet ≡ true
     by true e = e
     by false e = absurd (let z : 0 ≡ badOpening = o .answer ∙ ap (λ (t : Bool). cond t 0 badOpening) e in omega arith)
 
-pub opening-holds : {K : ℕ} {b : Buffers} → Opening K b → Holds K start b
+-- What an opening that was not refused leaves.
+pub record OpenedAs (K : ℕ) (desk sheet desk′ sheet′ : List ℕ) : Type 0 where
+  pub some : 1 ≤ K
+  pub few : K ≤ maxClasses
+  pub stands : StandFor K start desk′ sheet′
+  pub keeps-desk : KeepsPast deskSize desk desk′
+  pub keeps-sheet : KeepsPast (sheetSize K) sheet sheet′
+
+pub opened-as : {K : ℕ} {desk sheet desk′ sheet′ : List ℕ} → Opened K desk sheet 0 desk′ sheet′ → OpenedAs K desk sheet desk′ sheet′
 unfolding opens
-opening-holds {K} {b} o =
-    let e = opened-true (o .opened) in
-    let f = open-encodes K (o .desk-before) (o .sheet-before) e in
+opened-as {K} {desk} {sheet} {desk′} {sheet′} o =
+    let e = opened-true o in
+    let f = open-encodes K desk sheet e in
     let c = and-cases (leb 1 K) (leb K maxClasses) (and-cases (classesFit K) _ e .0) in
     let some = leb-true 1 K (c .0) in
     let few = leb-true K maxClasses (c .1) in
+    let d : openedDesk K desk ≡ desk′ = sym (o .desk ∙ ap (λ (t : Bool). cond t (openedDesk K desk) desk) e) in
+    let s : openedSheet K sheet ≡ sheet′ = sym (o .sheet ∙ ap (λ (t : Bool). cond t (openedSheet K sheet) sheet) e) in
     record {
       some = some;
       few = few;
-      valid = valid-start K;
-      stands = subst₂ (λ (x y : List ℕ). StandFor K start x y)
-          (sym (o .opened .desk ∙ ap (λ (t : Bool). cond t (openedDesk K (o .desk-before)) (o .desk-before)) e))
-          (sym (o .opened .sheet ∙ ap (λ (t : Bool). cond t (openedSheet K (o .sheet-before)) (o .sheet-before)) e))
-          (encodes-stand some few (valid-start K) (f .encodes));
-      room = o .room;
+      stands = subst₂ (λ (x y : List ℕ). StandFor K start x y) d s (encodes-stand some few (valid-start K) (f .encodes));
+      keeps-desk = subst (λ (x : List ℕ). KeepsPast deskSize desk x) d (f .keeps-desk);
+      keeps-sheet = subst (λ (x : List ℕ). KeepsPast (sheetSize K) sheet x) s (f .keeps-sheet);
     }
+
+pub opening-holds : {K : ℕ} {b : Buffers} → Opening K b → Holds K start b
+opening-holds {K} o =
+    let f = opened-as (o .opened) in
+    record { some = f .some; few = f .few; valid = valid-start K; stands = f .stands; room = o .room }
 
 -- Demand 3, of two runs of the exported calls, each from its own opening with the same K.
 pub two-runs : {K : ℕ} {b₁ b₁′ b₂ b₂′ : Buffers} {xs ys : List Bytes} {given₁ given₂ : List ℕ} → Opening K b₁ → Ran b₁ xs given₁ b₁′ → Opening K b₂

@@ -14,7 +14,7 @@ use Rattle.layout.specs.Layout.{closedOf}
 use Rattle.layout.specs.Fit.{fitsAll}
 use Rattle.layout.specs.Decoding.{view, StandFor}
 use Rattle.validator.specs.Step.{Reported}
-use Rattle.plungerowl.specs.Runs.{Buffers}
+use Rattle.validator.specs.Calls.{Buffers}
 
 -- Two results of one call of the step: the number and every byte are the same, but for the slip of a fault, whose cycle is the program's choice.
 pub record SameStep (answer answer′ : ℕ) (b b′ : Buffers) : Type 0 where

@@ -5,17 +5,7 @@ use lib.ListN.{length}
 use Rattle.rules.specs.Record.{Bytes}
 use Rattle.layout.specs.Layout.{slipSize}
 use Rattle.opening.specs.Open.{Opened}
-use Rattle.validator.specs.Step.{Stepped}
-
--- The three buffers that are lent to the calls.
-pub record Buffers : Type 0 where
-  pub desk : List ℕ
-  pub sheet : List ℕ
-  pub slip : List ℕ
-
--- A call of the step: the buffers, the record, the answer, the buffers left.
-abbrev pub Called : Buffers → Bytes → ℕ → Buffers → Type 0
-Called b r answer b′ = Stepped (b .desk) (b .sheet) (b .slip) r answer (b′ .desk) (b′ .sheet) (b′ .slip)
+use Rattle.validator.specs.Calls.{Buffers, Called}
 
 -- Calls of the step, one record a call, each handed the buffers as the last left them: the buffers, the records, the answers, the buffers left.
 pub data Ran : Buffers → List Bytes → List ℕ → Buffers → Type 0 where

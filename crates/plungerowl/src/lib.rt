@@ -2,8 +2,10 @@
 use opening::open;
 use question::ask;
 use validator::step;
+ghost use Rattle.feed.specs.Calls.{Started, FedPiece, FedEnd};
 ghost use Rattle.opening.specs.Open.{Opened};
 ghost use Rattle.question.specs.Question.{Asked};
+ghost use Rattle.validator.specs.Calls.{buffers};
 ghost use Rattle.validator.specs.Step.{Stepped};
 
 // Opens desk and sheet for a number of lock classes.
@@ -42,4 +44,45 @@ pub extern "C" fn plungerowl_ask(
     *word = found.word;
     *count = found.count;
     found.answer
+}
+
+// A fresh feed, for a log in pieces.
+#[no_mangle]
+pub extern "C" fn plungerowl_feed_start(feed: &mut [u8]) -> u8
+    ensures { λ r. ⌜ Started (now (feed .entry)) r (now (feed .exit)) ⌝ }
+{
+    feed::start(feed)
+}
+
+// Feeds a piece of the log. With answer 0 `record` is the number of records judged so far, else that of the record that got the answer.
+#[no_mangle]
+pub extern "C" fn plungerowl_feed(
+    feed: &mut [u8],
+    desk: &mut [u8],
+    sheet: &mut [u8],
+    slip: &mut [u8],
+    piece: &[u8],
+    record: &mut u64,
+) -> u8
+    ensures { λ r. ⌜ FedPiece (now (feed .entry)) (buffers (now (desk .entry)) (now (sheet .entry)) (now (slip .entry))) (now (piece .entry)) r (now («record» .exit)) (now (feed .exit)) (buffers (now (desk .exit)) (now (sheet .exit)) (now (slip .exit))) ⌝ }
+{
+    let said = feed::feed_piece(feed, desk, sheet, slip, piece);
+    *record = said.number;
+    said.answer
+}
+
+// Ends the log.
+#[no_mangle]
+pub extern "C" fn plungerowl_feed_end(
+    feed: &mut [u8],
+    desk: &mut [u8],
+    sheet: &mut [u8],
+    slip: &mut [u8],
+    record: &mut u64,
+) -> u8
+    ensures { λ r. ⌜ FedEnd (now (feed .entry)) (buffers (now (desk .entry)) (now (sheet .entry)) (now (slip .entry))) r (now («record» .exit)) (now (feed .exit)) (buffers (now (desk .exit)) (now (sheet .exit)) (now (slip .exit))) ⌝ }
+{
+    let said = feed::feed_end(feed, desk, sheet, slip);
+    *record = said.number;
+    said.answer
 }

@@ -14,3 +14,4 @@ pub mod Run
 pub mod TwoRuns
 pub mod Balance
 pub mod Examples
+pub mod Log

@@ -1,8 +1,8 @@
 -- `replay::main` meets its contract. Assumes nothing.
 use mathlib.Core.Path.{sym}
 use lib.Seq.{length-take-le}
+use Rattle.replay.proofs.Reading.{shown}
 use borrow.Author.Needs.{needs}
-use Rattle.replay.proofs.Passing.{shown}
 use Rattle.replay.proofs.main.Statement.{statement}
 use Rattle.replay.proofs.main.Tie as tie
 
@@ -18,6 +18,9 @@ slice-aggregate-replay-3 c = search needs
 slice-aggregate-replay-4 : tie.Need-slice-aggregate-replay-4
 slice-aggregate-replay-4 c = search needs
 
+slice-aggregate-replay-5 : tie.Need-slice-aggregate-replay-5
+slice-aggregate-replay-5 c = search needs
+
 replay-requires : tie.Need-replay-requires
 replay-requires c κs = search needs
 
@@ -28,7 +31,7 @@ slice-aggregate-put-text-2 : tie.Need-slice-aggregate-put-text-2
 slice-aggregate-put-text-2 c = search needs
 
 put-text-requires : tie.Need-put-text-requires
-put-text-requires c κs = (search needs, search needs, shown (c .before .before .before .before .before .before .replay .ensures))
+put-text-requires c κs = (search needs, search needs, shown (c .before .before .before .before .before .before .before .replay .ensures))
 
 is-answer-requires : tie.Need-is-answer-requires
 is-answer-requires c κs = search needs
@@ -55,6 +58,7 @@ main-spec =
     slice-aggregate-replay-2
     slice-aggregate-replay-3
     slice-aggregate-replay-4
+    slice-aggregate-replay-5
     replay-requires
     slice-aggregate-put-text
     slice-aggregate-put-text-2

@@ -1,39 +1,22 @@
 -- `replay::replay` meets its contract. Assumes nothing.
-use mathlib.Core.Path.{sym}
-use native.Mathlib.Omega.{arith}
-use lib.Seq.{length-take-le}
+use Rattle.validator.specs.Calls.{buffers}
+use Rattle.replay.specs.Replayed.{unread, whole}
+use Rattle.replay.proofs.Reading.{started-well}
 use borrow.Author.Needs.{needs}
-use Rattle.replay.proofs.Passing.{replayed}
-use Rattle.replay.specs.Outcomes.{buffers, unread, bad-header}
 use Rattle.replay.proofs.replay.Statement.{statement}
 use Rattle.replay.proofs.replay.Tie as tie
 
-read-header-requires : tie.Need-read-header-requires
-read-header-requires c κs = search needs
+start-requires : tie.Need-start-requires
+start-requires c κs = search needs
+
+feed-input-requires : tie.Need-feed-input-requires
+feed-input-requires c κs = search needs
 
 same-length : tie.Need-same-length
 same-length c = search needs
 
-returns : tie.Need-returns
-returns c = unread
-
 same-length-2 : tie.Need-same-length-2
 same-length-2 c = search needs
-
-returns-2 : tie.Need-returns-2
-returns-2 c = bad-header
-
-slice-reshare-prefix-header-classes : tie.Need-slice-reshare-prefix-header-classes
-slice-reshare-prefix-header-classes c = search needs
-
-slice-aggregate-header-classes : tie.Need-slice-aggregate-header-classes
-slice-aggregate-header-classes c = sym (length-take-le 4 (c .before .before .before .before .before .read-header .last .0) (omega arith))
-
-header-classes-requires : tie.Need-header-classes-requires
-header-classes-requires c κs = search needs
-
-open-requires : tie.Need-open-requires
-open-requires c κs = search needs
 
 same-length-3 : tie.Need-same-length-3
 same-length-3 c = search needs
@@ -44,11 +27,14 @@ same-length-4 c = search needs
 same-length-5 : tie.Need-same-length-5
 same-length-5 c = search needs
 
-returns-3 : tie.Need-returns-3
-returns-3 c = bad-header
+returns : tie.Need-returns
+returns c = unread
 
-validate-requires : tie.Need-validate-requires
-validate-requires c κs = search needs
+feed-end-requires : tie.Need-feed-end-requires
+feed-end-requires c κs = search needs
+
+outcome-of-requires : tie.Need-outcome-of-requires
+outcome-of-requires c κs = search needs
 
 same-length-6 : tie.Need-same-length-6
 same-length-6 c = search needs
@@ -62,35 +48,46 @@ same-length-8 c = search needs
 same-length-9 : tie.Need-same-length-9
 same-length-9 c = search needs
 
-returns-4 : tie.Need-returns-4
-returns-4 c =
-    let j = c .before .before .before .before .before .before .before .before in
-    let i = j .before .before .before .before .before in
-    let o = i .before .before .before .before .before in
-    let s = o .before .before .before .before .before .before .before .before .before .before .before .before .before .before .before in
-    let last = j .validate .last in
-    replayed (s .args .slip .now) (j .validate .result) (buffers (last .0) (last .1 .0) (last .1 .1 .0)) (o .«open» .ensures) (i .if3 .left) (s .pre .1) (j .validate .ensures)
+same-length-10 : tie.Need-same-length-10
+same-length-10 c = search needs
+
+returns-2 : tie.Need-returns-2
+returns-2 c =
+    let a = c .before .before .before .before .before .before .before .before .before .before .before .before .before .before .before .before .before .before .before .before .before .before .before .before .before .before .before .before .before .before .before .before .before .before .before .before .before .before .before .before in
+    let t = c .before .before .before .before .before .before .before .before .before .before .before .before .before .before .before .before .before .before .before .before .before .before .before .before .before .feed-input in
+    let e = c .before .before .before .before .before .before .before .before .before .feed-end in
+    whole
+    (record {
+      before = a .args .feed .now;
+      fresh = c .before .before .before .before .before .before .before .before .before .before .before .before .before .before .before .before .before .before .before .before .before .before .before .before .before .before .before .before .before .before .before .before .before .start .last .0;
+      fed = t .last .0;
+      after = e .last .0;
+      between = buffers (t .last .1 .0) (t .last .1 .1 .0) (t .last .1 .1 .1 .0);
+      answer = e .result .answer;
+      number = e .result .number;
+      started = started-well (a .pre) (c .before .before .before .before .before .before .before .before .before .before .before .before .before .before .before .before .before .before .before .before .before .before .before .before .before .before .before .before .before .before .before .before .before .start .ensures);
+      taken = t .ensures;
+      ended = e .ensures;
+      outcome-is = c .outcome-of .ensures;
+    })
 
 pub replay-spec : {M : Type 1} → statement M
 replay-spec =
     tie.close
     (tie.spec
-    read-header-requires
+    start-requires
+    feed-input-requires
     same-length
-    returns
     same-length-2
-    returns-2
-    slice-reshare-prefix-header-classes
-    slice-aggregate-header-classes
-    header-classes-requires
-    open-requires
     same-length-3
     same-length-4
     same-length-5
-    returns-3
-    validate-requires
+    returns
+    feed-end-requires
+    outcome-of-requires
     same-length-6
     same-length-7
     same-length-8
     same-length-9
-    returns-4)
+    same-length-10
+    returns-2)

@@ -1,0 +1,569 @@
+//! Logs in pieces: the promise that a feed keeps, and the cases with feeds.
+
+use crate::gen::{
+    any_buffers, any_k, any_style, case, clean_style, damaged, fit_desk, hand_logs, try_style, violate, Kind, Shadow, BIG,
+};
+use crate::rng::Rng;
+use crate::run::{Call, Case, Rec};
+use reference::{CLAUSES, DESK, FEED, FEED_CLAUSES, LOOSE};
+
+/// The parts of the promise. A wrong cutting breaks all of them; the first is named.
+pub const PROMISE: [&str; 3] = ["the same over another cut", "as the whole log", "as single steps"];
+
+// Where things lie in a feed.
+pub const ANSWER: usize = 0;
+pub const OPENED: usize = 1;
+pub const KEPT: usize = 2;
+pub const KEEP: usize = 3;
+pub const NUMBER: usize = KEEP + LOOSE;
+
+/// How many bytes make the next item of a fit feed whole.
+pub fn whole(feed: &[u8]) -> usize {
+    if feed[OPENED] == 1 { 6 } else { 4 }
+}
+
+pub fn number(feed: &[u8]) -> u64 {
+    u64::from_le_bytes(feed[NUMBER..FEED].try_into().unwrap())
+}
+
+/// Whether a fit feed gets something whole by this piece.
+pub fn completes(feed: &[u8], piece: &[u8]) -> bool {
+    feed[ANSWER] == 0 && usize::from(feed[KEPT]) + piece.len() >= whole(feed)
+}
+
+/// A case of a feed alone, with nobody else writing: where it stands at first, and what comes.
+pub struct Fed {
+    /// Whether it begins with a start.
+    pub started: bool,
+    pub answer: u8,
+    pub opened: bool,
+    pub loose: Vec<u8>,
+    pub number: u64,
+    pub bytes: Vec<u8>,
+    /// Whether an end came after these bytes where something was not whole.
+    pub ended: bool,
+}
+
+impl Fed {
+    pub fn of(case: &Case) -> Option<Fed> {
+        let started = matches!(case.calls.first(), Some(Call::FeedStart)) && case.feed.len() >= FEED;
+        let (feed, calls) = if started { (&[0; FEED][..], &case.calls[1..]) } else { (&case.feed[..], &case.calls[..]) };
+        let alone = calls.iter().all(|call| matches!(call, Call::Feed(_) | Call::FeedEnd));
+        if calls.is_empty() || !alone || reference::unfit_feed(feed).is_some() {
+            return None;
+        }
+        let (opened, loose) = (feed[OPENED] == 1, feed[KEEP..KEEP + usize::from(feed[KEPT])].to_vec());
+        let (mut bytes, mut ended) = (Vec::new(), false);
+        for call in calls {
+            let got = loose.len() + bytes.len();
+            match call {
+                Call::Feed(piece) => bytes.extend_from_slice(piece),
+                _ => ended |= if opened { got % 6 != 0 } else { got < 4 || (got - 4) % 6 != 0 },
+            }
+            if ended {
+                break;
+            }
+        }
+        Some(Fed { started, answer: feed[ANSWER], opened, loose, number: number(feed), bytes, ended })
+    }
+
+    /// The bytes in other pieces: in one, each alone, or with all sorts of lengths.
+    pub fn other_cut(&self) -> impl Iterator<Item = &[u8]> {
+        const LENGTHS: [usize; 9] = [1, 0, 2, 7, 5, 3, 11, 6, 4];
+        let sum = self.bytes.iter().fold(self.bytes.len(), |sum, &b| sum + usize::from(b));
+        let mut rest = Some(&self.bytes[..]);
+        let mut turn = sum / 3;
+        std::iter::from_fn(move || {
+            let left = rest?;
+            turn += 1;
+            let length = match sum % 3 {
+                0 => left.len(),
+                1 => 1,
+                _ => LENGTHS[turn % LENGTHS.len()],
+            };
+            let (piece, after) = left.split_at(length.min(left.len()));
+            rest = (!after.is_empty()).then_some(after);
+            Some(piece)
+        })
+    }
+}
+
+// ------------------------------------------------------------------------ logs
+
+fn header(k: u8) -> Vec<u8> {
+    vec![0x4C, 0x48, 1, k]
+}
+
+pub fn log_of<'a>(k: u8, records: impl IntoIterator<Item = &'a Rec>) -> Vec<u8> {
+    let mut log = header(k);
+    records.into_iter().for_each(|record| log.extend_from_slice(record.slice()));
+    log
+}
+
+/// A header that is refused, if K is not refused already.
+fn damage_header(rng: &mut Rng, log: &mut [u8]) {
+    let at = rng.pick(&[0, 1, 2, 3, 3]);
+    log[at] = match at {
+        3 => rng.pick(&[0, 0, 0, 65, 66, 255]),
+        _ => log[at] ^ 1 << rng.under(8),
+    };
+}
+
+/// A log from opening with its K and buffers for it. Most records are accepted; some come after the one that stops it.
+fn any_log(rng: &mut Rng) -> (Vec<u8>, (Vec<u8>, Vec<u8>, Vec<u8>)) {
+    let faults = rng.mille(350);
+    let k = if faults && rng.mille(700) { rng.pick(&[1, 1, 2, 4]) } else { any_k(rng) };
+    let mut style = any_style(rng, k);
+    style.damaged = rng.pick(&[0, 0, 10, 100]);
+    if faults {
+        // Over tries of one class in several modes there are several cycles.
+        (style.avoid, style.unordered, style.modes) = (0, 1000, rng.pick(&[[1, 1, 1, 0, 0, 0], [1, 0, 0, 2, 1, 2]]));
+        style.weights = [6, 1, 1];
+        style.cores.truncate(2);
+    }
+    let refused = rng.pick(&[0, 0, 300, 1000]);
+    let most = rng.pick(if faults { &[5, 20, 30] } else { &[0, 1, 2, 5, 20, 50][..] });
+    let (mut shadow, mut records, mut behind) = (Shadow::opened(k), Vec::new(), 0);
+    for _ in 0..most {
+        let (record, answer) = shadow.next(rng, &style);
+        if answer < 2 || rng.mille(refused) {
+            records.push(record);
+            behind += usize::from(behind > 0 || answer != 0);
+        }
+        if behind > 3 {
+            break;
+        }
+    }
+    let mut log = log_of(k as u8, &records);
+    if rng.mille(200) {
+        damage_header(rng, &mut log);
+    }
+    match rng.under(3) {
+        0 => log.truncate(log.len() - rng.under(log.len().min(6))),
+        1 => log.extend(rng.bytes(6)),
+        _ => {}
+    }
+    let mut buffers = any_buffers(rng, k);
+    if rng.mille(200) {
+        let (desk, sheet, slip) = &mut buffers;
+        match rng.under(4) {
+            0 => desk.truncate(rng.pick(&[0, 1, DESK - 60, DESK - 1])),
+            1 => sheet.truncate(rng.pick(&[0, k * k - 1])),
+            _ => slip.truncate(rng.pick(&[0, 3 * k])),
+        }
+    }
+    (log, buffers)
+}
+
+/// Random pieces of it.
+fn cut<'a>(rng: &mut Rng, log: &'a [u8]) -> Vec<&'a [u8]> {
+    let longest = rng.pick(&[1, 2, 5, 6, 7, 12, 40, log.len().max(1)]);
+    let empty = rng.pick(&[0, 0, 100, 300]);
+    let (mut pieces, mut rest) = (Vec::new(), log);
+    while !rest.is_empty() {
+        let length = if rng.mille(empty) { 0 } else { rng.between(1, longest).min(rest.len()) };
+        let (piece, after) = rest.split_at(length);
+        pieces.push(piece);
+        rest = after;
+    }
+    pieces
+}
+
+/// A start, pieces, and ends: between records mostly, now and then elsewhere, behind, and after a stop.
+pub fn cut_log(rng: &mut Rng) -> Case {
+    let (log, buffers) = any_log(rng);
+    let (between, elsewhere) = rng.pick(&[(0, 0), (300, 0), (1000, 0), (300, 5), (500, 60)]);
+    let mut calls = vec![Call::FeedStart];
+    let mut got = 0;
+    for piece in cut(rng, &log) {
+        got += piece.len();
+        calls.push(Call::Feed(piece.to_vec()));
+        let at_record = got >= 4 && (got - 4) % 6 == 0;
+        if rng.mille(if at_record { between } else { elsewhere }) {
+            calls.push(Call::FeedEnd);
+        }
+    }
+    if rng.mille(700) {
+        calls.push(Call::FeedEnd);
+        for _ in 0..rng.under(4) {
+            let n = rng.pick(&[0, 1, 6, 9]);
+            let piece = if rng.mille(500) { rng.bytes(n) } else { Rec::new(0, 2, 0, 0).slice().to_vec() };
+            calls.push(if rng.mille(300) { Call::FeedEnd } else { Call::Feed(piece) });
+        }
+    }
+    let size = if rng.mille(50) { rng.pick(&[FEED - 1, FEED - 1, FEED - 1, 8, 0]) } else { FEED + rng.pick(&[0, 0, 1, 7]) };
+    Case { feed: rng.bytes(size), ..case(buffers, calls) }
+}
+
+/// A clean log of more than 65,536 bytes, and perhaps what is not clean behind it.
+fn long_log(rng: &mut Rng) -> (Vec<u8>, usize) {
+    let k = rng.pick(&[4, 5, 8]);
+    let style = if rng.mille(500) { clean_style(k) } else { try_style(k) };
+    let (mut shadow, mut log) = (Shadow::opened(k), header(k as u8));
+    let length = rng.between(65_600, 70_000);
+    while log.len() < length && shadow.desk[1] == 0 {
+        let (record, answer) = shadow.next(rng, &style);
+        if answer < 2 {
+            log.extend_from_slice(record.slice());
+        }
+    }
+    let n = rng.pick(&[0, 3, 20]);
+    log.extend(rng.bytes(n));
+    (log, k)
+}
+
+/// Its first piece has more than 65,536 bytes, or all pieces together have.
+fn long_cut_log(rng: &mut Rng) -> Case {
+    let (log, k) = long_log(rng);
+    let (first, longest) = rng.pick(&[(log.len(), 1), (65_537, 400), (65_560, 9), (66_000, 66_000), (0, 5000), (7, 700)]);
+    let (mut calls, mut rest) = (vec![Call::FeedStart], &log[..]);
+    let mut length = first;
+    while !rest.is_empty() {
+        let (piece, after) = rest.split_at(length.min(rest.len()));
+        calls.push(Call::Feed(piece.to_vec()));
+        rest = after;
+        length = rng.between(longest / 2, longest);
+    }
+    calls.extend([Call::FeedEnd, Call::Feed(vec![0x4C])]);
+    Case { feed: rng.bytes(FEED), ..case(any_buffers(rng, k), calls) }
+}
+
+// ----------------------------------------------------------------------- feeds
+
+pub fn feed_of(answer: u8, opened: bool, loose: &[u8], number: u64) -> Vec<u8> {
+    let mut feed = vec![answer, u8::from(opened), loose.len() as u8];
+    feed.extend_from_slice(loose);
+    feed.resize(NUMBER, 0);
+    feed.extend(number.to_le_bytes());
+    feed
+}
+
+fn any_number(rng: &mut Rng) -> u64 {
+    match rng.under(7) {
+        0 | 1 => u64::MAX - rng.under(3) as u64,
+        2 => rng.pick(&BIG) - 1,
+        3 => rng.pick(&[255, (1 << 32) - 1]),
+        4 => rng.next() >> rng.under(64),
+        _ => rng.under(3) as u64,
+    }
+}
+
+/// A fit feed that no start need lead to, before or after the header.
+fn any_feed(rng: &mut Rng, opened: bool, item: &[u8]) -> Vec<u8> {
+    let stands = rng.mille(350);
+    let answer = match (stands, opened) {
+        (false, _) => 0,
+        (true, false) => 2,
+        (true, true) => rng.pick(&[1, 3, 4, 5, 6, 7, 8, 10, 11]),
+    };
+    let kept = if stands { 0 } else { rng.under(if opened { 6 } else { 4 }) };
+    let mut loose = item[..kept].to_vec();
+    if kept > 0 && rng.mille(200) {
+        loose[rng.under(kept)] = rng.byte();
+    }
+    let number = if opened { any_number(rng).max(u64::from(stands)) } else { 0 };
+    feed_of(answer, opened, &loose, number)
+}
+
+/// Violates one clause of the feed's fit test (by its place in FEED_CLAUSES) in a fit feed.
+fn violate_feed(rng: &mut Rng, clause: usize, feed: &mut Vec<u8>) {
+    let not_0 = rng.between(1, 255) as u8;
+    match FEED_CLAUSES[clause] {
+        "feed too short" => feed.truncate(rng.pick(&[FEED - 1, FEED - 1, 8, 1, 0])),
+        "byte 1 over 1" => {
+            *feed = feed_of(0, false, &[], 0);
+            feed[OPENED] = rng.pick(&[2, 2, 3, 128, 255]);
+        }
+        "too many loose bytes" => {
+            // Those of a record before the header, or more than there is room for.
+            *feed = feed_of(0, rng.mille(300), &[0x4C, 0x48, 1, 2], 0);
+            feed[KEPT] = if feed[OPENED] == 0 { rng.pick(&[4, 5]) } else { rng.pick(&[6, 7, 255]) };
+        }
+        "unused loose byte not 0" => {
+            let kept = usize::from(feed[KEPT]);
+            // With all places used there is none to spoil.
+            let last = if kept == LOOSE { LOOSE - 1 } else { kept };
+            feed[KEPT] = last as u8;
+            feed[KEEP + rng.pick(&[last, LOOSE - 1])] = not_0;
+        }
+        "loose bytes beside a standing answer" => {
+            feed[ANSWER] = if feed[OPENED] == 1 { 3 } else { 2 };
+            feed[KEPT] = rng.between(1, whole(feed) - 1) as u8;
+            feed[NUMBER] = feed[OPENED];
+        }
+        "before opening, an answer but 0 and 2" => {
+            *feed = feed_of(rng.pick(&[1, 3, 10, 11, 255]), false, &[], 0);
+        }
+        "before opening, a record number" => {
+            *feed = feed_of(rng.pick(&[0, 2]), false, &[], 0);
+            feed[NUMBER + rng.under(8)] = not_0;
+        }
+        "after opening, no answer of a step" => {
+            let number = any_number(rng);
+            *feed = feed_of(rng.pick(&[2, 9, 12, 13, 255]), true, &[], number);
+        }
+        "after opening, a standing answer at record 0" => {
+            *feed = feed_of(rng.pick(&[1, 3, 4, 5, 6, 7, 8, 10, 11]), true, &[], 0);
+        }
+        other => panic!("no way to violate {other}"),
+    }
+}
+
+/// Any feed with any buffers, and also with other calls between.
+fn any_calls(rng: &mut Rng) -> Case {
+    let k = any_k(rng);
+    let opened = rng.mille(750);
+    let record = if rng.mille(850) { Rec::new(rng.under(8) as u8, rng.pick(&[0, 2, 2, 3, 8]), 0, 0) } else { damaged(rng, k) };
+    let item = if opened { Rec { len: 6, ..record } } else { Rec::of(&header(k as u8)) };
+    let mut feed = any_feed(rng, opened, item.slice());
+    let extra = rng.pick(&[0, 0, 1, 7]);
+    feed.extend(rng.bytes(extra));
+    // An opened desk, one that no opening leads to, a closed one, or an unfit one.
+    let mut buffers = fit_desk(rng, k);
+    match rng.under(5) {
+        0 => {
+            let s = Shadow::opened(k);
+            buffers = (s.desk, s.sheet, s.slip);
+        }
+        1 | 2 => buffers.0[1] = 1,
+        3 => drop(violate(rng, rng.clone().under(CLAUSES.len()), &mut buffers)),
+        _ => {}
+    }
+    if rng.mille(500) {
+        violate_feed(rng, rng.clone().under(FEED_CLAUSES.len()), &mut feed);
+    } else if rng.mille(70) {
+        let at = rng.under(FEED);
+        feed[at] = rng.byte();
+    }
+    rng.next();
+    let others = rng.mille(300);
+    let mut calls = Vec::new();
+    let kept = feed.get(KEPT).map_or(0, |&kept| usize::from(kept).min(item.slice().len()));
+    for turn in 0..rng.between(1, 6) {
+        calls.push(match rng.under(if others { 14 } else { 9 }) {
+            0..3 => Call::FeedEnd,
+            3 => Call::Feed(Vec::new()),
+            4 => {
+                let n = rng.under(16);
+                Call::Feed(rng.bytes(n))
+            }
+            // What makes the first item whole, or the next, and more.
+            5..9 => {
+                let mut piece = item.slice()[if turn == 0 { kept } else { 0 }..].to_vec();
+                for _ in 0..rng.under(3) {
+                    piece.extend_from_slice(Rec::new(rng.under(8) as u8, 2, 0, 0).slice());
+                }
+                piece.truncate(rng.between(1, piece.len().max(1)).max(rng.under(30)));
+                Call::Feed(piece)
+            }
+            9 => Call::FeedStart,
+            10 => Call::Open(k as u64),
+            11 => Call::Ask(0),
+            _ => Call::Step(record),
+        });
+    }
+    Case { feed, ..case(buffers, calls) }
+}
+
+/// An end over each number of loose bytes and each sort of desk, and what comes after it.
+fn end_over_loose(rng: &mut Rng) -> Case {
+    let k = any_k(rng);
+    let opened = rng.mille(850);
+    let item = if opened { Rec::new(rng.under(8) as u8, 2, 0, 0) } else { Rec::of(&header(k as u8)) };
+    let kept = if rng.mille(100) { 0 } else { rng.between(1, item.slice().len() - 1) };
+    let mut loose = item.slice()[..kept].to_vec();
+    if rng.mille(100) {
+        loose = rng.bytes(kept);
+    }
+    let number = if opened && rng.mille(700) { any_number(rng) } else { 0 };
+    let feed = match rng.mille(250) {
+        false => feed_of(0, opened, &loose, number),
+        true if opened => feed_of(rng.pick(&[1, 3, 4, 5, 6, 7, 8, 10, 11]), true, &[], number.max(1)),
+        true => feed_of(2, false, &[], 0),
+    };
+    let s = Shadow::opened(k);
+    let mut buffers = if rng.mille(800) { (s.desk, s.sheet, s.slip) } else { fit_desk(rng, k) };
+    match rng.under(3) {
+        0 => buffers.0[1] = 1,
+        1 if rng.mille(400) => buffers.2.truncate(rng.pick(&[0, 3 * k])),
+        1 => drop(violate(rng, rng.clone().under(CLAUSES.len()), &mut buffers)),
+        _ => {}
+    }
+    let mut calls = vec![Call::FeedEnd, Call::Feed(item.slice()[kept..].to_vec()), Call::FeedEnd];
+    if rng.mille(200) {
+        calls.remove(0);
+    }
+    Case { feed, ..case(buffers, calls) }
+}
+
+// ---------------------------------------------------------------------- random
+
+pub const CUT_LOG: &str = "log in pieces";
+pub const KINDS: [Kind; 4] = [
+    Kind { name: CUT_LOG, weight: 150, make: cut_log },
+    Kind { name: "long log in pieces", weight: 5, make: long_cut_log },
+    Kind { name: "any feed", weight: 170, make: any_calls },
+    Kind { name: "end over loose bytes", weight: 130, make: end_over_loose },
+];
+
+// ----------------------------------------------------------------------- fixed
+
+pub const HAND_LOGS: &str = "hand logs in two pieces";
+pub const EACH_CUT: &str = "each cut of short logs";
+pub const EACH_FEED_BYTE: &str = "each feed byte";
+pub const EACH_FEED_SIZE: &str = "each feed size";
+pub const EACH_STAND: &str = "each feed over each desk";
+pub const LONG_PIECES: &str = "long pieces";
+
+/// Logs to be cut in all ways, with the lengths of sheet and slip.
+fn short_logs() -> Vec<(Vec<u8>, usize, usize)> {
+    let take = |class, mode| Rec::new(0, 0, class, mode);
+    let (on, refused) = (Rec::new(1, 2, 0, 0), Rec::new(0, 9, 0, 0));
+    let bad = |at: usize, byte| {
+        let mut log = header(2);
+        log[at] = byte;
+        (log, 4, 7)
+    };
+    let mut logs = vec![
+        // A header that is refused by each of its bytes, or by a short sheet; a slip too short for the first record.
+        bad(0, 0),
+        bad(1, 0x4B),
+        bad(2, 2),
+        bad(3, 0),
+        bad(3, 65),
+        (header(2), 3, 7),
+        (log_of(2, &[on]), 4, 6),
+        // Clean; a fault, and a record behind it; refused, and a record behind it.
+        (log_of(2, &[take(1, 0), on]), 4, 7),
+        (log_of(1, &[take(0, 0), take(0, 2), on]), 1, 4),
+        (log_of(1, &[refused, on]), 1, 4),
+    ];
+    for (log, ..) in &mut logs {
+        log.extend([0x4C, 0x4B]);
+    }
+    logs
+}
+
+/// The cases made by hand and those that go through all of a small space, until one is answered with false.
+pub fn fixed(each: &mut dyn FnMut(Case) -> bool) {
+    let mut each = |name: &'static str, feed: Vec<u8>, case: Case| each(Case { name, feed, ..case });
+    let rng = &mut Rng::new(20_260_102);
+    // Each size, fit in what there is, or full of anything.
+    for size in 0..40 {
+        for fresh in [false, true] {
+            for start in [false, true] {
+                let feed = if fresh { vec![0; size] } else { rng.bytes(size) };
+                let mut calls = vec![Call::Feed(header(2)), Call::FeedEnd, Call::FeedStart, Call::Feed(vec![0x4C])];
+                calls.rotate_left(if start { 2 } else { 0 });
+                if !each(EACH_FEED_SIZE, feed, case(any_buffers(rng, 2), calls)) {
+                    return;
+                }
+            }
+        }
+    }
+    // A feed with each number of loose bytes over a desk that is open, closed, and unfit by each clause alone; with
+    // small numbers and with those near the top.
+    for kept in 0..6 {
+        for stand in 0..CLAUSES.len() + 2 {
+            for number in [0, 254, u64::MAX - 2, u64::MAX - 1, u64::MAX] {
+                let s = Shadow::opened(3);
+                let mut buffers = (s.desk, s.sheet, s.slip);
+                match stand {
+                    0 => {}
+                    1 => buffers.0[1] = 1,
+                    _ => assert!(violate(rng, stand - 2, &mut buffers)),
+                }
+                let record = Rec::new(0, 2, 0, 0);
+                let feed = feed_of(0, true, &record.slice()[..kept], number);
+                let rest = record.slice()[kept..].to_vec();
+                let two = [record.slice(), record.slice()].concat();
+                for calls in [
+                    vec![Call::FeedEnd, Call::Feed(rest.clone()), Call::FeedEnd],
+                    vec![Call::Feed(rest.clone()), Call::FeedEnd, Call::Feed(two.clone()), Call::Feed(Vec::new())],
+                    vec![Call::Feed(Vec::new()), Call::Feed([&rest[..], &two].concat()), Call::FeedEnd],
+                ] {
+                    if !each(EACH_STAND, feed.clone(), case(buffers.clone(), calls)) {
+                        return;
+                    }
+                }
+            }
+        }
+    }
+    // Each byte of a feed with each value, where it is of the loose bytes or of the number with some.
+    for base in [
+        feed_of(0, false, &[], 0),
+        feed_of(0, false, &[0x4C, 0x48], 0),
+        feed_of(2, false, &[], 0),
+        feed_of(0, true, &[], 1),
+        feed_of(0, true, &[0x4C, 0x4B, 0, 2, 0], 255),
+        feed_of(7, true, &[], 1),
+    ] {
+        for at in 0..FEED {
+            for value in (0..=255).filter(|value| at < KEEP || [0, 1, 2, 127, 128, 255].contains(value)) {
+                let mut feed = base.clone();
+                feed[at] = value;
+                let s = Shadow::opened(2);
+                let piece = if base[OPENED] == 1 { vec![0; 3] } else { vec![0x4C, 0x48, 1, 2] };
+                let calls = vec![Call::Feed(piece), Call::FeedEnd];
+                if !each(EACH_FEED_BYTE, feed, case((s.desk, s.sheet, s.slip), calls)) {
+                    return;
+                }
+            }
+        }
+    }
+    // Hand logs cut at each place, with an end between records, and one behind.
+    for log in hand_logs() {
+        let bytes = log_of(log.k as u8, &log.records);
+        for at in 0..=bytes.len() {
+            let between = at >= 4 && (at - 4) % 6 == 0;
+            let mut calls = vec![Call::FeedStart, Call::Feed(bytes[..at].to_vec())];
+            calls.extend(between.then_some(Call::FeedEnd));
+            calls.extend([Call::Feed(bytes[at..].to_vec()), Call::FeedEnd]);
+            if !each(HAND_LOGS, rng.bytes(FEED), case(any_buffers(rng, log.k), calls)) {
+                return;
+            }
+        }
+    }
+    // Every cut into four pieces, empty ones too, and at each of the four places an end or none.
+    for (log, sheet, slip) in short_logs() {
+        for b in 0..=log.len() {
+            for (a, c) in (0..=b).flat_map(|a| (b..=log.len()).map(move |c| (a, c))) {
+                let pieces = [&log[..a], &log[a..b], &log[b..c], &log[c..]];
+                for ends in each_ends(&[a, b, c, log.len()]) {
+                    let mut calls = vec![Call::FeedStart];
+                    for (i, piece) in pieces.iter().enumerate() {
+                        calls.push(Call::Feed(piece.to_vec()));
+                        if ends >> i & 1 == 1 {
+                            calls.push(Call::FeedEnd);
+                        }
+                    }
+                    let buffers = (vec![0xEE; DESK], vec![0xEE; sheet], vec![0xEE; slip]);
+                    if !each(EACH_CUT, vec![0xEE; FEED], case(buffers, calls)) {
+                        return;
+                    }
+                }
+            }
+        }
+    }
+    // Pieces around 65,536 bytes, and a log of more in small ones.
+    for (first, then) in [(65_535, 1), (65_536, 4000), (65_537, 7), (70_000, 1), (1, 65_536), (1000, 1000), (12, 13)] {
+        let mut log = log_of(1, std::iter::repeat_n(&Rec::new(3, 3, 0, 0), 11_000));
+        log.extend_from_slice(&[0x4C, 0x4B, 3]);
+        let mut calls = vec![Call::FeedStart];
+        calls.push(Call::Feed(log[..first.min(log.len())].to_vec()));
+        calls.extend(log[first.min(log.len())..].chunks(then).map(|piece| Call::Feed(piece.to_vec())));
+        calls.extend([Call::FeedEnd, Call::FeedEnd]);
+        if !each(LONG_PIECES, vec![7; FEED], case(any_buffers(rng, 1), calls)) {
+            return;
+        }
+    }
+}
+
+/// Which of four places have an end: all sixteen ways, but for those that differ only after one that stops the feed.
+fn each_ends(places: &[usize; 4]) -> Vec<u8> {
+    let stops = |i: usize| places[i] < 4 || (places[i] - 4) % 6 != 0;
+    let first_stop = |ends: u8| (0..4).find(|&i| ends >> i & 1 == 1 && stops(i)).unwrap_or(4);
+    // After a stop each place has one.
+    let behind = |ends: u8| (0..4).filter(|&i| i > first_stop(ends)).all(|i| ends >> i & 1 == 1);
+    (0..16).filter(|&ends| behind(ends)).collect()
+}

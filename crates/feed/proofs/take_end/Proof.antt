@@ -1,0 +1,60 @@
+-- `feed::take_end` meets its contract. Assumes nothing.
+use native.Mathlib.Omega.{arith}
+use borrow.Author.Tests.{not-true, not-false}
+use Rattle.feed.specs.Fed.{stands}
+use Rattle.feed.proofs.Turns.{counted-within, end-in-header, end-between, end-in-record}
+use borrow.Author.Needs.{needs}
+use Rattle.feed.proofs.take_end.Statement.{statement}
+use Rattle.feed.proofs.take_end.Tie as tie
+
+returns : tie.Need-returns
+returns c = (stands (c .if1 .taken), c .before .before .before .before .before .pre .1)
+
+between-units-requires : tie.Need-between-units-requires
+between-units-requires c κs = search needs
+
+returns-2 : tie.Need-returns-2
+returns-2 c = (end-in-header (c .before .before .before .before .before .before .before .before .args .p) _ (c .before .before .before .if1 .left) (not-true _ (c .before .if2 .taken)) (c .between-units .ensures .0), omega (arith, c .between-units .ensures .1))
+
+returns-3 : tie.Need-returns-3
+returns-3 c = (end-between (c .before .before .before .before .before .before .before .before .args .p) _ (c .before .before .before .if1 .left) (not-false _ (c .before .if2 .left)) (c .if3 .taken), c .before .before .before .before .before .before .before .before .pre .1)
+
+array-share-prefix-unit : tie.Need-array-share-prefix-unit
+array-share-prefix-unit c = counted-within (c .before .before .before .before .before .before .before .before .before .before .before .before .args .p) (c .before .before .before .before .before .before .before .before .before .before .before .before .pre .0)
+
+slice-aggregate-judge : tie.Need-slice-aggregate-judge
+slice-aggregate-judge c = c .before .before .before .before .before .before .before .before .before .before .before .before .before .pre .0
+
+judge-requires : tie.Need-judge-requires
+judge-requires c κs = search needs
+
+same-length : tie.Need-same-length
+same-length c = search needs
+
+same-length-2 : tie.Need-same-length-2
+same-length-2 c = search needs
+
+same-length-3 : tie.Need-same-length-3
+same-length-3 c = search needs
+
+returns-4 : tie.Need-returns-4
+returns-4 c =
+    let a = c .before .before .before .before .before .before .before .before .before .before .before .before .before .before .before .before .before .before .before .before in
+    let j = c .before .before .before .before .before .before .judge .ensures in
+    (end-in-record (a .args .p) _ (c .before .before .before .before .before .before .before .before .before .before .before .before .before .before .before .if1 .left) (not-false _ (c .before .before .before .before .before .before .before .before .before .before .before .before .before .if2 .left)) (a .pre .0) (c .before .before .before .before .before .before .before .before .before .before .before .before .if3 .left) (j .0), omega (arith, j .1))
+
+pub take-end-spec : {M : Type 1} → statement M
+take-end-spec =
+    tie.close
+    (tie.spec
+    returns
+    between-units-requires
+    returns-2
+    returns-3
+    array-share-prefix-unit
+    slice-aggregate-judge
+    judge-requires
+    same-length
+    same-length-2
+    same-length-3
+    returns-4)

@@ -1,0 +1,211 @@
+// Document 02, b: a log in pieces. The one place that cuts a log into its header and its records.
+use answers::BAD_OPENING;
+use answers::OK;
+use answers::UNFIT;
+use layout::MAX_CLASSES;
+use opening::open;
+use progress::FEED_SIZE;
+use progress::HEADER_SIZE;
+use progress::Progress;
+use progress::between_units;
+use progress::fits_feed;
+use progress::load;
+use progress::save;
+use progress::unit_size;
+use progress::with_part;
+use reader::next_part;
+use validator::step;
+ghost use mathlib.Core.Path.{_≡_};
+ghost use Prim.Native.Nat.{_+_, _<_, _≤_};
+ghost use lib.ListN.{length};
+ghost use Rattle.rules.specs.Log.{unitSize, headerClasses};
+ghost use Rattle.progress.specs.Feed.{mostLoose};
+ghost use Rattle.progress.specs.Code.{feedOf, Counted};
+ghost use Rattle.validator.specs.Calls.{buffers};
+ghost use Rattle.feed.specs.Fed.{more, Judged, PartTaken, Fed, Ended};
+ghost use Rattle.feed.specs.Calls.{Started, FedPiece, FedEnd};
+
+const MOST_CLASSES: u8 = MAX_CLASSES as u8;
+
+fn wide(byte: u8) -> u64
+    ensures { λ r. ⌜ r ≡ byte ⌝ }
+{
+    byte as u64
+}
+
+// The number of classes in a header, 0 where it is not a good one.
+fn header_classes(bytes: &[u8]) -> u64
+    ensures { λ r. ⌜ r ≡ headerClasses (now (bytes .entry)) ⌝ }
+{
+    if bytes.len() != HEADER_SIZE {
+        return 0;
+    }
+    if bytes[0] != 0x4C {
+        return 0;
+    }
+    if bytes[1] != 0x48 {
+        return 0;
+    }
+    if bytes[2] != 1 {
+        return 0;
+    }
+    if MOST_CLASSES < bytes[3] {
+        return 0;
+    }
+    wide(bytes[3])
+}
+
+// One record more; the number stays where it would pass 2 to the 64, which no log under that many bytes brings it to.
+fn one_more(number: u64) -> u64
+    ensures { λ r. ⌜ r ≡ more number ⌝ }
+{
+    if number < u64::MAX {
+        return number + 1;
+    }
+    number
+}
+
+// Judges a unit: the header, which opens the desk, or a record.
+fn judge(
+    desk: &mut [u8],
+    sheet: &mut [u8],
+    slip: &mut [u8],
+    opened: bool,
+    number: u64,
+    unit: &[u8],
+) -> Progress
+    ensures { λ r. ⌜ Judged opened number (buffers (now (desk .entry)) (now (sheet .entry)) (now (slip .entry))) (now (unit .entry)) (feedOf r) (buffers (now (desk .exit)) (now (sheet .exit)) (now (slip .exit))) × (r .count ≡ 0) ⌝ }
+{
+    if opened {
+        let answer = step(desk, sheet, slip, unit);
+        return between_units(answer, true, one_more(number));
+    }
+    let answer = open(header_classes(unit), desk, sheet);
+    between_units(answer, answer == OK, number)
+}
+
+// Takes a part of a piece, which goes at most to the end of the unit: a unit that it completes is judged.
+fn take_part(
+    desk: &mut [u8],
+    sheet: &mut [u8],
+    slip: &mut [u8],
+    p: Progress,
+    part: &[u8],
+) -> Progress
+    requires { ⌜ Counted p × (p .count + length (now part) ≤ unitSize (p .opened)) ⌝ }
+    ensures { λ r. ⌜ PartTaken (feedOf p) (buffers (now (desk .entry)) (now (sheet .entry)) (now (slip .entry))) (now (part .entry)) (feedOf r) (buffers (now (desk .exit)) (now (sheet .exit)) (now (slip .exit))) × Counted r ⌝ }
+{
+    let size = unit_size(p.opened);
+    if part.len() == size {
+        return judge(desk, sheet, slip, p.opened, p.number, part);
+    }
+    let next = with_part(p, part);
+    let count = next.count;
+    if count < size {
+        return next;
+    }
+    let unit = next.loose;
+    judge(desk, sheet, slip, p.opened, p.number, &unit[..count])
+}
+
+// Takes a piece, up to the first answer but 0.
+fn take_piece(
+    desk: &mut [u8],
+    sheet: &mut [u8],
+    slip: &mut [u8],
+    first: Progress,
+    piece: &[u8],
+) -> Progress
+    requires { ⌜ Counted first × (first .count < unitSize (first .opened)) ⌝ }
+    ensures { λ r. ⌜ Fed (feedOf first) (buffers (now (desk .entry)) (now (sheet .entry)) (now (slip .entry))) (now (piece .entry)) (feedOf r) (buffers (now (desk .exit)) (now (sheet .exit)) (now (slip .exit))) × (r .count ≤ mostLoose) ⌝ }
+{
+    let mut now = first;
+    let mut at = 0;
+    while at < piece.len() {
+        if now.answer != OK {
+            return now;
+        }
+        let part = next_part(piece, at, unit_size(now.opened) - now.count);
+        at += part.len();
+        now = take_part(desk, sheet, slip, now, part);
+    }
+    now
+}
+
+// The end of the log.
+fn take_end(desk: &mut [u8], sheet: &mut [u8], slip: &mut [u8], p: Progress) -> Progress
+    requires { ⌜ Counted p × (p .count ≤ mostLoose) ⌝ }
+    ensures { λ r. ⌜ Ended (feedOf p) (buffers (now (desk .entry)) (now (sheet .entry)) (now (slip .entry))) (feedOf r) (buffers (now (desk .exit)) (now (sheet .exit)) (now (slip .exit))) × (r .count ≤ mostLoose) ⌝ }
+{
+    if p.answer != OK {
+        return p;
+    }
+    if !p.opened {
+        return between_units(BAD_OPENING, false, p.number);
+    }
+    let count = p.count;
+    if count == 0 {
+        return p;
+    }
+    let unit = p.loose;
+    judge(desk, sheet, slip, true, p.number, &unit[..count])
+}
+
+// What a call of the feed says: the standing answer and its number.
+pub struct Said {
+    pub answer: u8,
+    pub number: u64,
+}
+
+// A fresh feed.
+pub fn start(feed: &mut [u8]) -> u8
+    ensures { λ r. ⌜ Started (now (feed .entry)) r (now (feed .exit)) ⌝ }
+{
+    if feed.len() < FEED_SIZE {
+        return BAD_OPENING;
+    }
+    save(feed, between_units(OK, false, 0));
+    OK
+}
+
+// A piece of the log.
+pub fn feed_piece(
+    feed: &mut [u8],
+    desk: &mut [u8],
+    sheet: &mut [u8],
+    slip: &mut [u8],
+    piece: &[u8],
+) -> Said
+    ensures { λ r. ⌜ FedPiece (now (feed .entry)) (buffers (now (desk .entry)) (now (sheet .entry)) (now (slip .entry))) (now (piece .entry)) (r .answer) (r .number) (now (feed .exit)) (buffers (now (desk .exit)) (now (sheet .exit)) (now (slip .exit))) ⌝ }
+{
+    if !fits_feed(feed) {
+        return Said {
+            answer: UNFIT,
+            number: 0,
+        };
+    }
+    let next = take_piece(desk, sheet, slip, load(feed), piece);
+    save(feed, next);
+    Said {
+        answer: next.answer,
+        number: next.number,
+    }
+}
+
+// The end of the log.
+pub fn feed_end(feed: &mut [u8], desk: &mut [u8], sheet: &mut [u8], slip: &mut [u8]) -> Said
+    ensures { λ r. ⌜ FedEnd (now (feed .entry)) (buffers (now (desk .entry)) (now (sheet .entry)) (now (slip .entry))) (r .answer) (r .number) (now (feed .exit)) (buffers (now (desk .exit)) (now (sheet .exit)) (now (slip .exit))) ⌝ }
+{
+    if !fits_feed(feed) {
+        return Said {
+            answer: UNFIT,
+            number: 0,
+        };
+    }
+    let next = take_end(desk, sheet, slip, load(feed));
+    save(feed, next);
+    Said {
+        answer: next.answer,
+        number: next.number,
+    }
+}

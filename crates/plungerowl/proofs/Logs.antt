@@ -1,0 +1,302 @@
+-- A feed that takes a log leaves what the rules say of its bytes. Assumes nothing.
+use mathlib.Core.Path.{_≡_, refl, sym, ap, ap₂, subst, subst₂, _∙_}
+use mathlib.Core.Bool.{Bool, true, false, cond, not, _&&_, _||_, false≢true}
+use mathlib.Core.List.{List, [], _∷_, _++_, append-assoc, append-nil}
+use Prim.Native.Nat.{ℕ, zero, suc, _+_, _*_, _-_, _^_, _≤_, _<_}
+use native.Mathlib.Numerals.{add-one}
+use native.Mathlib.Decide.{ℕ-discrete, decLt}
+use native.Mathlib.Omega.{arith}
+use lib.Dec.{leb, eqb}
+use lib.ListN.{length, getD, take, drop, length-append}
+use lib.Seq.{take-at, drop-at, take-all, take-nil}
+use borrow.Author.Tests.{lt-ltb, le-leb, lt-leb, leb-true, leb-false}
+use Rattle.rules.specs.Record.{Bytes}
+use Rattle.rules.specs.Verdict.{number, badOpening, unfit}
+use Rattle.rules.specs.Run.{State, start, step}
+use Rattle.rules.specs.Log.{headerSize, recordSize, unitSize, headerClasses, recordsOf, looseOf, shortRecord, Outcome, judge}
+use Rattle.rules.proofs.Booleans.{and-cases}
+use Rattle.layout.specs.Layout.{deskSize, sheetSize, slipSize, KeepsPast, classesOf}
+use Rattle.layout.specs.Decoding.{StandFor}
+use Rattle.layout.specs.Fit.{fits, fitsAll}
+use Rattle.opening.specs.Open.{Opened, opens, openedDesk, openedSheet}
+use Rattle.validator.specs.Step.{Reported, Validated}
+use Rattle.validator.specs.Calls.{Buffers, Called}
+use Rattle.progress.specs.Feed.{Feed, fresh}
+use Rattle.progress.specs.Code.{unitBegun, withPart}
+use Rattle.feed.specs.Fed.{more, Judged, header, a-record, Fed, stopped, kept, judged, Ended, stands, no-header, between, short}
+use Rattle.feed.proofs.Turns.{one-counted}
+use Rattle.validity.proofs.Kept.{valid-start}
+use Rattle.plungerowl.specs.Logs.{classesIn, recordsIn, refuseFirst, outcomeFor, LeftBy, WholeLog, short-header, bad-header, by-rules}
+use Rattle.plungerowl.proofs.Runs.{Holds, validated-by, step-holds, OpenedAs, opened-as}
+use Rattle.plungerowl.proofs.Records.{no-records, all-loose, cut-length, first-record, same-loose, judge-on, judge-stops, judge-stopped, judge-more, judge-last}
+
+-- ---- The buffers over several records.
+
+keeps-trans : {n : ℕ} {x y z : List ℕ} → KeepsPast n x y → KeepsPast n y z → KeepsPast n x z
+keeps-trans p q = record { long = q .long ∙ p .long; past = λ j h. q .past j h ∙ p .past j h }
+
+keeps-all : (n : ℕ) (x : List ℕ) → KeepsPast n x x
+keeps-all n x = record { long = refl; past = λ j h. refl }
+
+-- A step.
+left-by-step : {K : ℕ} {s : State} {r : Bytes} {b b′ : Buffers} {answer : ℕ} (n : ℕ)
+    → Validated K s r (b .desk) (b .sheet) (b .slip) answer (b′ .desk) (b′ .sheet) (b′ .slip)
+    → LeftBy K (record { answer = number (step K s r .answer); at = n; state = step K s r .state }) b b′
+left-by-step n v =
+    record {
+      stands = v .stands;
+      keeps-desk = v .keeps-desk;
+      keeps-sheet = v .keeps-sheet;
+      unreported = λ h. v .unreported (λ z. h (sym (v .number-is) ∙ z));
+      reported = λ h. v .reported (v .number-is ∙ h);
+    }
+
+-- Nothing was reported, and more follows.
+pub left-then : {K : ℕ} {o o′ : Outcome} {b b₁ b₂ : Buffers} → LeftBy K o b b₁ → (o .answer ≡ 1 → ⊥) → LeftBy K o′ b₁ b₂ → LeftBy K o′ b b₂
+left-then v n w =
+    let e = v .unreported n in
+    record {
+      stands = w .stands;
+      keeps-desk = keeps-trans (v .keeps-desk) (w .keeps-desk);
+      keeps-sheet = keeps-trans (v .keeps-sheet) (w .keeps-sheet);
+      unreported = λ h. w .unreported h ∙ e;
+      reported = λ h. rw (← e) (w .reported h);
+    }
+
+-- ---- Records.
+
+-- A feed after the records of some bytes, whose outcome is o.
+pub record Tells (o : Outcome) (bytes : List ℕ) (f : Feed) : Type 0 where
+  pub answer-is : f .answer ≡ o .answer
+  pub number-is : f .number ≡ o .at
+  pub opened-is : f .opened ≡ true
+  pub loose-is : o .answer ≡ 0 → f .loose ≡ looseOf bytes
+
+pub record After (K : ℕ) (o : Outcome) (bytes : List ℕ) (f : Feed) (b b′ : Buffers) : Type 0 where
+  pub tells : Tells o bytes f
+  pub left : LeftBy K o b b′
+  pub holds : Holds K (o .state) b′
+
+-- A stopped feed takes nothing.
+pub takes-nothing : {f f′ : Feed} {b b′ : Buffers} {bytes : List ℕ} → (f .answer ≡ 0 → ⊥) → Fed f b bytes f′ b′ → (f′ ≡ f) × (b′ ≡ b)
+takes-nothing n (stopped m) = (refl, refl)
+takes-nothing n (kept e h) = absurd (n e)
+takes-nothing n (judged unit rest e q l j r) = absurd (n e)
+
+counted-one : {m : ℕ} (n : ℕ) → m ≡ n → n < 2 ^ 64 - 1 → more m ≡ suc n
+counted-one n e h = rw e (sym (one-counted n h) ∙ add-one n)
+
+module _ {K : ℕ} {s : State} {f : Feed} {b : Buffers} (n : ℕ) (H : Holds K s b) (e : f .answer ≡ 0) (o : f .opened ≡ true) (i : f .loose ≡ [])
+    (m : f .number ≡ n) where
+  after-none : (bytes : List ℕ) → length (f .loose ++ bytes) < unitSize (f .opened) → After K (judge K s n (recordsOf bytes)) bytes (withPart f bytes) b b
+  after-none bytes h =
+      let l : length bytes < recordSize = rw (i, o) at h in
+      rw (no-records bytes l)
+      (record {
+        tells = record { answer-is = e; number-is = m; opened-is = o; loose-is = λ _. ap (λ (t : List ℕ). t ++ bytes) i ∙ sym (all-loose bytes l) };
+        left =
+            record {
+              stands = H .stands;
+              keeps-desk = keeps-all deskSize (b .desk);
+              keeps-sheet = keeps-all (sheetSize K) (b .sheet);
+              unreported = λ _. refl;
+              reported = λ z. absurd (omega arith);
+            };
+        holds = H;
+      })
+
+-- The first record, and what comes of the others.
+module _ {K : ℕ} {s : State} {b b₁ : Buffers} {answer : ℕ} (n : ℕ) (unit rest : List ℕ) (H : Holds K s b) (l : length unit ≡ recordSize)
+    (t : Called b unit answer b₁) where
+  after-clean : {f₂ : Feed} {b₂ : Buffers} → answer ≡ 0 → After K (judge K (step K s unit .state) (suc n) (recordsOf rest)) rest f₂ b₁ b₂
+      → After K (judge K s n (recordsOf (unit ++ rest))) (unit ++ rest) f₂ b b₂
+  after-clean {f₂} {b₂} z w =
+      let v = validated-by H {b′ = b₁} t in
+      let q : judge K (step K s unit .state) (suc n) (recordsOf rest) ≡ judge K s n (recordsOf (unit ++ rest)) =
+      sym (ap (judge K s n) (first-record unit rest l) ∙ judge-on K s n unit (recordsOf rest) (sym (v .number-is) ∙ z)) in
+      subst (λ (x : Outcome). After K x (unit ++ rest) f₂ b b₂) q
+      (record {
+        tells =
+            record {
+              answer-is = w .tells .answer-is;
+              number-is = w .tells .number-is;
+              opened-is = w .tells .opened-is;
+              loose-is = λ y. w .tells .loose-is y ∙ sym (same-loose unit rest l);
+            };
+        left = left-then {b₁ = b₁} (left-by-step (suc n) v) (λ y. absurd (let x = v .number-is in omega arith)) (w .left);
+        holds = w .holds;
+      })
+
+  after-stop : (answer ≡ 0 → ⊥) → (k : ℕ) → k ≡ suc n → After K (judge K s n (recordsOf (unit ++ rest))) (unit ++ rest) (unitBegun answer true k) b b₁
+  after-stop z k c =
+      let v = validated-by H {b′ = b₁} t in
+      let q : record { answer = number (step K s unit .answer); at = suc n; state = step K s unit .state } ≡ judge K s n (recordsOf (unit ++ rest)) =
+      sym (ap (judge K s n) (first-record unit rest l) ∙ judge-stops K s n unit (recordsOf rest) (λ y. z (v .number-is ∙ y))) in
+      subst (λ (x : Outcome). After K x (unit ++ rest) (unitBegun answer true k) b b₁) q
+      (record {
+        tells = record { answer-is = v .number-is; number-is = c; opened-is = refl; loose-is = λ y. absurd (z (v .number-is ∙ y)) };
+        left = left-by-step (suc n) v;
+        holds = step-holds H v;
+      })
+
+-- What judging a record says.
+pub record RecordJudged (number : ℕ) (b : Buffers) (unit : List ℕ) (f : Feed) (b′ : Buffers) : Type 0 where
+  pub answer : ℕ
+  pub called : Called b unit answer b′
+  pub is : f ≡ unitBegun answer true (more number)
+
+pub record-judged : {o : Bool} {n : ℕ} {b b′ : Buffers} {unit : List ℕ} {f : Feed} → o ≡ true → Judged o n b unit f b′ → RecordJudged n b unit f b′
+record-judged e (header u p z) = absurd (false≢true (sym u ∙ e))
+record-judged e (a-record {answer} u t) = record { answer = answer; called = t; is = refl }
+
+-- The record at the front, where `go` says what comes of the others.
+after-record : {K : ℕ} {s : State} {b b₁ b₂ : Buffers} {f₁ f₂ : Feed} (n k : ℕ) (unit rest bytes : List ℕ) → Holds K s b → bytes ≡ unit ++ rest
+    → length unit ≡ recordSize → more k ≡ suc n → (j : RecordJudged k b unit f₁ b₁)
+    → (j .answer ≡ 0 → After K (judge K (step K s unit .state) (suc n) (recordsOf rest)) rest f₂ b₁ b₂) → Fed f₁ b₁ rest f₂ b₂
+    → After K (judge K s n (recordsOf bytes)) bytes f₂ b b₂
+after-record {b₁ = b₁} n k unit rest bytes H w d c j go r =
+    rw w
+    (elim (ℕ-discrete (j .answer) 0) [
+      | yes z ↦ after-clean {b₁ = b₁} n unit rest H d (j .called) z (go z)
+      | no z ↦
+          let x = takes-nothing (λ y. z (ap (λ (g : Feed). g .answer) (sym (j .is)) ∙ y)) r in
+          rw (x .0, x .1, j .is) (after-stop {b₁ = b₁} n unit rest H d (j .called) z (more k) c)
+    ])
+
+room-for : (n : ℕ) (unit rest bytes : List ℕ) → bytes ≡ unit ++ rest → length unit ≡ recordSize → n + length bytes < 2 ^ 64
+    → (n < 2 ^ 64 - 1) × (suc n + length rest < 2 ^ 64)
+room-for n unit rest bytes w d h =
+    let a : length bytes ≡ length unit + length rest = ap length w ∙ length-append unit rest in
+    (omega arith, omega arith)
+
+pub records-fed : {K : ℕ} {s : State} {f f′ : Feed} {b b′ : Buffers} {bytes : List ℕ} (n : ℕ) → Holds K s b → f .answer ≡ 0 → f .opened ≡ true
+    → f .loose ≡ [] → f .number ≡ n → n + length bytes < 2 ^ 64 → Fed f b bytes f′ b′ → After K (judge K s n (recordsOf bytes)) bytes f′ b b′
+records-fed n H e o i m h (stopped x) = absurd (x e)
+records-fed {bytes = bytes} n H e o i m h (kept y k) = after-none n H e o i m bytes k
+records-fed {f = f} {bytes = bytes} n H e o i m h (judged {f₁ = f₁} {b₁ = b₁} unit rest y q l j r) =
+    let w : bytes ≡ unit ++ rest = ap (λ (x : List ℕ). x ++ bytes) (sym i) ∙ q in
+    let d : length unit ≡ recordSize = l ∙ ap unitSize o in
+    let z = room-for n unit rest bytes w d h in
+    let c : more (f .number) ≡ suc n = counted-one n m (z .0) in
+    let g = record-judged o j in
+    after-record n (f .number) unit rest bytes H w d c g
+    (λ x. records-fed (suc n) (step-holds H (validated-by H {b′ = b₁} (g .called)))
+    (ap (λ (v : Feed). v .answer) (g .is) ∙ x) (ap (λ (v : Feed). v .opened) (g .is)) (ap (λ (v : Feed). v .loose) (g .is))
+    (ap (λ (v : Feed). v .number) (g .is) ∙ c) (z .1) r)
+    r
+
+-- ---- The end behind records.
+
+few-judged : (K : ℕ) (s : State) (n : ℕ) (rs : List Bytes) → judge K s n rs .at ≤ n + length rs
+few-judged K s n [] = omega arith
+few-judged K s n (r ∷ rs) = elim (ℕ-discrete (number (step K s r .answer)) 0) [
+  | yes e ↦ let h = few-judged K (step K s r .state) (suc n) rs in rw (judge-on K s n r rs e) (omega arith)
+  | no m ↦ rw (judge-stops K s n r rs m) (omega arith)
+]
+
+short-one : (loose : List ℕ) → 0 < length loose → shortRecord true loose ≡ loose ∷ []
+short-one [] h = absurd (omega arith)
+short-one (x ∷ l) h = refl
+
+-- What the end makes of it.
+pub record AtEnd (o : Outcome) (f : Feed) : Type 0 where
+  pub answer-is : f .answer ≡ o .answer
+  pub number-is : f .number ≡ o .at
+
+-- The outcome with the end, where o is that without it.
+abbrev withEnd : ℕ → State → ℕ → List ℕ → Outcome
+withEnd K s n bytes = judge K s n (recordsOf bytes ++ shortRecord true (looseOf bytes))
+
+module _ (K : ℕ) (s : State) (n : ℕ) (bytes : List ℕ) {f : Feed} {b b₁ : Buffers} (h : n + length bytes < 2 ^ 64)
+    (A : After K (judge K s n (recordsOf bytes)) bytes f b b₁) where
+  same-end : withEnd K s n bytes ≡ judge K s n (recordsOf bytes) → AtEnd (withEnd K s n bytes) f × LeftBy K (withEnd K s n bytes) b b₁
+  same-end e = rw e (record { answer-is = A .tells .answer-is; number-is = A .tells .number-is }, A .left)
+
+  short-end : {f₂ : Feed} {b₂ : Buffers} → f .answer ≡ 0 → 0 < length (f .loose) → RecordJudged (f .number) b₁ (f .loose) f₂ b₂
+      → AtEnd (withEnd K s n bytes) f₂ × LeftBy K (withEnd K s n bytes) b b₂
+  short-end {f₂} {b₂} e l j =
+      let o = judge K s n (recordsOf bytes) in
+      let z : o .answer ≡ 0 = sym (A .tells .answer-is) ∙ e in
+      let v = validated-by (A .holds) {b′ = b₂} (j .called) in
+      let x : f .loose ≡ looseOf bytes = A .tells .loose-is z in
+      let q : withEnd K s n bytes ≡ record { answer = number (step K (o .state) (f .loose) .answer); at = suc (o .at); state = step K (o .state) (f .loose) .state } =
+      judge-more K s n (recordsOf bytes) (shortRecord true (looseOf bytes)) z
+      ∙ ap (λ (t : List ℕ). judge K (o .state) (o .at) (shortRecord true t)) (sym x)
+      ∙ ap (judge K (o .state) (o .at)) (short-one (f .loose) l)
+      ∙ judge-last K (o .state) (o .at) (f .loose) in
+      let r = few-judged K s n (recordsOf bytes) in
+      let y : length (f .loose) ≡ length (looseOf bytes) = ap length x in
+      let c : more (f .number) ≡ suc (o .at) = counted-one (o .at) (A .tells .number-is) (omega (arith, cut-length bytes)) in
+      rw q (
+        record {
+          answer-is = ap (λ (g : Feed). g .answer) (j .is) ∙ v .number-is;
+          number-is = ap (λ (g : Feed). g .number) (j .is) ∙ c;
+        },
+        left-then {b₁ = b₁} (A .left) (λ w. absurd (omega arith)) (left-by-step (suc (o .at)) v),
+      )
+
+  pub ended-after : {f₂ : Feed} {b₂ : Buffers} → Ended f b₁ f₂ b₂ → AtEnd (withEnd K s n bytes) f₂ × LeftBy K (withEnd K s n bytes) b b₂
+  ended-after (stands x) = same-end (judge-stopped K s n (recordsOf bytes) (shortRecord true (looseOf bytes)) (λ z. x (A .tells .answer-is ∙ z)))
+  ended-after (no-header e u) = absurd (false≢true (sym u ∙ A .tells .opened-is))
+  ended-after (between e u l) =
+      let x : looseOf bytes ≡ [] = sym (A .tells .loose-is (sym (A .tells .answer-is) ∙ e)) ∙ l in
+      same-end (ap (λ (t : List ℕ). judge K s n (recordsOf bytes ++ shortRecord true t)) x ∙ ap (judge K s n) (append-nil (recordsOf bytes)))
+  ended-after (short e u l j) = short-end e l (record-judged refl j)
+
+-- ---- A slip that is too short.
+
+pub same-buffers : (b b′ : Buffers) → b′ .desk ≡ b .desk → b′ .sheet ≡ b .sheet → b′ .slip ≡ b .slip → b′ ≡ b
+same-buffers b b′ d s p =
+    ap₂ (λ (x y : List ℕ). record { desk = x; sheet = y; slip = b′ .slip }) d s
+    ∙ ap (λ (z : List ℕ). record { desk = b .desk; sheet = b .sheet; slip = z }) p
+
+pub refuse-state : (rs : List Bytes) → refuseFirst rs .state ≡ start
+refuse-state [] = refl
+refuse-state (r ∷ rs) = refl
+
+pub refuse-answer : (rs : List Bytes) → refuseFirst rs .answer ≡ 1 → ⊥
+refuse-answer [] e = omega arith
+refuse-answer (r ∷ rs) e = omega arith
+
+module _ {b : Buffers} (u : fitsAll (b .desk) (b .sheet) (b .slip) ≡ false) where
+  refused-record : {n : ℕ} {unit : List ℕ} {f : Feed} {b′ : Buffers} → n ≡ 0 → RecordJudged n b unit f b′ → (f ≡ unitBegun unfit true 1) × (b′ ≡ b)
+  refused-record {b′ = b′} z j =
+      let v = j .called .is-unfit u in
+      (j .is ∙ ap₂ (λ (a m : ℕ). unitBegun a true m) (v .0) (counted-one 0 z (omega arith)), same-buffers b b′ (v .1) (v .2) (v .3))
+
+  -- The first record is refused, and what stands behind it is not looked at.
+  pub tight-fed : {f f′ : Feed} {b′ : Buffers} {bytes : List ℕ} → f .answer ≡ 0 → f .opened ≡ true → f .loose ≡ [] → f .number ≡ 0 → Fed f b bytes f′ b′
+      → Tells (refuseFirst (recordsOf bytes)) bytes f′ × (b′ ≡ b)
+  tight-fed e o i m (stopped x) = absurd (x e)
+  tight-fed {bytes = bytes} e o i m (kept y k) =
+      let l : length bytes < recordSize = rw (i, o) at k in (
+        rw (no-records bytes l)
+            (record { answer-is = e; number-is = m; opened-is = o; loose-is = λ _. ap (λ (t : List ℕ). t ++ bytes) i ∙ sym (all-loose bytes l) }),
+        refl,
+      )
+  tight-fed {bytes = bytes} e o i m (judged unit rest y q l j r) =
+      let w : bytes ≡ unit ++ rest = ap (λ (x : List ℕ). x ++ bytes) (sym i) ∙ q in
+      let d : length unit ≡ recordSize = l ∙ ap unitSize o in
+      let g = refused-record m (record-judged o j) in
+      let x = takes-nothing (λ z. absurd (let a = ap (λ (v : Feed). v .answer) (g .0) in omega arith)) r in (
+        rw (x .0, g .0, w, first-record unit rest d)
+            (record { answer-is = refl; number-is = refl; opened-is = refl; loose-is = λ z. absurd (omega arith) }),
+        x .1 ∙ g .1,
+      )
+
+  pub tight-ended : {f f′ : Feed} {b′ : Buffers} (bytes : List ℕ) → Tells (refuseFirst (recordsOf bytes)) bytes f → Ended f b f′ b′
+      → AtEnd (refuseFirst (recordsOf bytes ++ shortRecord true (looseOf bytes))) f′ × (b′ ≡ b)
+  tight-ended bytes t w = by (recordsOf bytes) t w
+    where
+      by : {f f′ : Feed} {b′ : Buffers} (rs : List Bytes) → Tells (refuseFirst rs) bytes f → Ended f b f′ b′
+          → AtEnd (refuseFirst (rs ++ shortRecord true (looseOf bytes))) f′ × (b′ ≡ b)
+      by (r ∷ rs) t (stands x) = (record { answer-is = t .answer-is; number-is = t .number-is }, refl)
+      by (r ∷ rs) t (no-header e o) = absurd (let a = t .answer-is in omega arith)
+      by (r ∷ rs) t (between e o l) = absurd (let a = t .answer-is in omega arith)
+      by (r ∷ rs) t (short e o l j) = absurd (let a = t .answer-is in omega arith)
+      by [] t (stands x) = absurd (x (t .answer-is))
+      by [] t (no-header e o) = absurd (false≢true (sym o ∙ t .opened-is))
+      by [] t (between e o l) = (rw (← t .loose-is refl, l) (record { answer-is = t .answer-is; number-is = t .number-is }), refl)
+      by {f} [] t (short e o l j) =
+          let g = refused-record (t .number-is) (record-judged refl j) in
+          (rw (← t .loose-is refl, short-one (f .loose) l, g .0) (record { answer-is = refl; number-is = refl }), g .1)

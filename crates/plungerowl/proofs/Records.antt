@@ -1,0 +1,90 @@
+-- The records of a log, one after another, and what comes of them. Assumes nothing.
+use mathlib.Core.Path.{_≡_, refl, sym, ap, ap₂, subst, _∙_}
+use mathlib.Core.Bool.{Bool, true, false, cond}
+use mathlib.Core.List.{List, [], _∷_, _++_}
+use Prim.Native.Nat.{ℕ, zero, suc, _+_, _*_, _/_, _≤_, _<_}
+use native.Mathlib.Decide.{ℕ-discrete}
+use native.Mathlib.Omega.{arith}
+use lib.Dec.{eqb}
+use lib.ListN.{length, take, drop, length-append, length-drop}
+use lib.Seq.{take-at, drop-at, drop-drop}
+use borrow.Author.Tests.{eq-eqb, ne-eqb}
+use Rattle.rules.specs.Record.{Bytes}
+use Rattle.rules.specs.Verdict.{number}
+use Rattle.rules.specs.Run.{State, step}
+use Rattle.rules.specs.Log.{recordSize, firstRecords, recordsOf, looseOf, Outcome, judge}
+
+-- ---- Cutting.
+
+pub no-records : (bytes : List ℕ) → length bytes < recordSize → recordsOf bytes ≡ []
+unfolding recordsOf
+no-records bytes h = let z : length bytes / recordSize ≡ 0 = omega arith in rw z refl
+
+pub all-loose : (bytes : List ℕ) → length bytes < recordSize → looseOf bytes ≡ bytes
+unfolding looseOf
+all-loose bytes h = let z : recordSize * (length bytes / recordSize) ≡ 0 = omega arith in rw z refl
+
+module _ (r rest : List ℕ) (e : length r ≡ recordSize) where
+  one-more-record : length (r ++ rest) / recordSize ≡ suc (length rest / recordSize)
+  one-more-record = let l = length-append r rest in omega arith
+
+  pub first-record : recordsOf (r ++ rest) ≡ r ∷ recordsOf rest
+  unfolding recordsOf
+  first-record = rw (one-more-record, take-at r rest recordSize e, drop-at r rest recordSize e) refl
+
+  pub same-loose : looseOf (r ++ rest) ≡ looseOf rest
+  unfolding looseOf
+  same-loose =
+      let q : recordSize * (length (r ++ rest) / recordSize) ≡ recordSize + recordSize * (length rest / recordSize) = let m = one-more-record in omega arith in
+      rw q (sym (drop-drop (recordSize * (length rest / recordSize)) recordSize (r ++ rest)) ∙ rw (drop-at r rest recordSize e) refl)
+
+first-length : (n : ℕ) (bytes : List ℕ) → length (firstRecords n bytes) ≡ n
+first-length zero bytes = refl
+first-length (suc n) bytes = ap suc (first-length n (drop recordSize bytes))
+
+-- Every byte is in a record or loose.
+pub cut-length : (bytes : List ℕ) → recordSize * length (recordsOf bytes) + length (looseOf bytes) ≡ length bytes
+unfolding recordsOf looseOf
+cut-length bytes = rw (first-length (length bytes / recordSize) bytes, length-drop) (omega arith)
+
+-- ---- Judging.
+
+module _ (K : ℕ) where
+  pub judge-on : (s : State) (n : ℕ) (r : Bytes) (rs : List Bytes) → number (step K s r .answer) ≡ 0
+      → judge K s n (r ∷ rs) ≡ judge K (step K s r .state) (suc n) rs
+  judge-on s n r rs e = rw (eq-eqb (number (step K s r .answer)) 0 e) refl
+
+  pub judge-stops : (s : State) (n : ℕ) (r : Bytes) (rs : List Bytes) → (number (step K s r .answer) ≡ 0 → ⊥)
+      → judge K s n (r ∷ rs) ≡ record { answer = number (step K s r .answer); at = suc n; state = step K s r .state }
+  judge-stops s n r rs h = rw (ne-eqb (number (step K s r .answer)) 0 h) refl
+
+  -- Records behind an answer but 0 are not looked at; behind others they are judged from where those led.
+  pub judge-stopped : (s : State) (n : ℕ) (rs xs : List Bytes) → (judge K s n rs .answer ≡ 0 → ⊥) → judge K s n (rs ++ xs) ≡ judge K s n rs
+  judge-stopped s n [] xs h = absurd (h refl)
+  judge-stopped s n (r ∷ rs) xs h = elim (ℕ-discrete (number (step K s r .answer)) 0) [
+    | yes e ↦
+        judge-on s n r (rs ++ xs) e
+        ∙ judge-stopped (step K s r .state) (suc n) rs xs (λ z. h (ap (λ (o : Outcome). o .answer) (judge-on s n r rs e) ∙ z))
+        ∙ sym (judge-on s n r rs e)
+    | no m ↦ judge-stops s n r (rs ++ xs) m ∙ sym (judge-stops s n r rs m)
+  ]
+
+  pub judge-more : (s : State) (n : ℕ) (rs xs : List Bytes) → judge K s n rs .answer ≡ 0
+      → judge K s n (rs ++ xs) ≡ judge K (judge K s n rs .state) (judge K s n rs .at) xs
+  judge-more s n [] xs h = refl
+  judge-more s n (r ∷ rs) xs h = elim (ℕ-discrete (number (step K s r .answer)) 0) [
+    | yes e ↦
+        judge-on s n r (rs ++ xs) e
+        ∙ judge-more (step K s r .state) (suc n) rs xs (sym (ap (λ (o : Outcome). o .answer) (judge-on s n r rs e)) ∙ h)
+        ∙ ap (λ (o : Outcome). judge K (o .state) (o .at) xs) (sym (judge-on s n r rs e))
+    | no m ↦ absurd (m (sym (ap (λ (o : Outcome). o .answer) (judge-stops s n r rs m)) ∙ h))
+  ]
+
+  pub judge-last : (s : State) (n : ℕ) (r : Bytes)
+      → judge K s n (r ∷ []) ≡ record { answer = number (step K s r .answer); at = suc n; state = step K s r .state }
+  judge-last s n r = elim (ℕ-discrete (number (step K s r .answer)) 0) [
+    | yes e ↦
+        judge-on s n r [] e
+        ∙ ap (λ (a : ℕ). record { answer = a; at = suc n; state = step K s r .state }) (sym e)
+    | no m ↦ judge-stops s n r [] m
+  ]

@@ -1,0 +1,97 @@
+-- Document 02, b: what comes of a log, from its bytes alone; and a log in pieces, over the calls of the feed.
+use mathlib.Core.Path.{_≡_}
+use mathlib.Core.Bool.{Bool, true, false, cond}
+use mathlib.Core.List.{List, [], _∷_, _++_}
+use mathlib.Core.Logic.{_⊎_}
+use Prim.Native.Nat.{ℕ, _≤_, _<_}
+use lib.Dec.{leb}
+use lib.ListN.{length, take, drop}
+use Rattle.rules.specs.Record.{Bytes}
+use Rattle.rules.specs.Verdict.{closed, malformed, refusalNumber, badOpening, unfit}
+use Rattle.rules.specs.Run.{start}
+use Rattle.rules.specs.Log.{headerSize, headerClasses, recordsOf, looseOf, shortRecord, Outcome, judge}
+use Rattle.layout.specs.Layout.{deskSize, sheetSize, slipSize, KeepsPast}
+use Rattle.layout.specs.Decoding.{StandFor}
+use Rattle.opening.specs.Open.{opens}
+use Rattle.validator.specs.Step.{Reported}
+use Rattle.validator.specs.Calls.{Buffers}
+use Rattle.progress.specs.Feed.{view}
+use Rattle.feed.specs.Calls.{FedPiece, FedEnd}
+use Rattle.plungerowl.specs.Demands.{SameStep}
+
+-- ---- A log, from its bytes.
+
+-- The number of classes that a log's header gives.
+abbrev pub classesIn : (log : List ℕ) → ℕ
+classesIn log = headerClasses (take headerSize log)
+
+-- The records behind the header, at the end of the log with the loose bytes as a short one.
+abbrev pub recordsIn : (log : List ℕ) (ended : Bool) → List Bytes
+recordsIn log ended = recordsOf (drop headerSize log) ++ shortRecord ended (looseOf (drop headerSize log))
+
+-- Opening does not see the slip: where that is too short, the first record gets 11 and nothing is drawn.
+abbrev pub refuseFirst : List Bytes → Outcome
+refuseFirst [] = record { answer = 0; at = 0; state = start }
+refuseFirst (r ∷ rs) = record { answer = unfit; at = 1; state = start }
+
+-- The records are judged by the rules, from the state that opening gives.
+abbrev pub outcomeFor : (K : ℕ) (room : Bool) → List Bytes → Outcome
+outcomeFor K true rs = judge K start 0 rs
+outcomeFor K false rs = refuseFirst rs
+
+-- The buffers then: desk and sheet stand for the rules' state, and no byte past the sizes is touched; the slip is written with a fault only.
+pub record LeftBy (K : ℕ) (o : Outcome) (b b′ : Buffers) : Type 0 where
+  pub stands : StandFor K (o .state) (b′ .desk) (b′ .sheet)
+  pub keeps-desk : KeepsPast deskSize (b .desk) (b′ .desk)
+  pub keeps-sheet : KeepsPast (sheetSize K) (b .sheet) (b′ .sheet)
+  pub unreported : (o .answer ≡ 1 → ⊥) → b′ .slip ≡ b .slip
+  pub reported : o .answer ≡ 1 → Reported K (o .state .graph) (b .slip) (b′ .slip)
+
+-- The whole log: a short header is refused at the end and not before, a bad one or too little room for opening at once, each with 2 at record 0 and
+-- nothing changed; behind a good one the records are judged, up to the first answer but 0.
+pub data WholeLog (b : Buffers) (log : List ℕ) (ended : Bool) : (answer number : ℕ) → Buffers → Type 0 where
+  short-header : length log < headerSize → WholeLog b log ended (cond ended badOpening 0) 0 b
+  bad-header : headerSize ≤ length log → opens (classesIn log) (b .desk) (b .sheet) ≡ false → WholeLog b log ended badOpening 0 b
+  by-rules : {b′ : Buffers} (o : Outcome) → headerSize ≤ length log → opens (classesIn log) (b .desk) (b .sheet) ≡ true
+      → o ≡ outcomeFor (classesIn log) (leb (slipSize (classesIn log)) (length (b .slip))) (recordsIn log ended) → LeftBy (classesIn log) o b b′
+      → WholeLog b log ended (o .answer) (o .at) b′
+
+-- ---- A log in pieces.
+
+-- The pieces put together.
+abbrev pub joined : List (List ℕ) → List ℕ
+joined [] = []
+joined (p ∷ ps) = p ++ joined ps
+
+-- Calls of the feed, one piece a call, each handed the buffers as the last left them; an end call that answers 0 may stand anywhere among them.
+pub data FeedRan : (feed : List ℕ) → Buffers → List (List ℕ) → (feed′ : List ℕ) → Buffers → Type 0 where
+  no-piece : {feed : List ℕ} {b : Buffers} → FeedRan feed b [] feed b
+  piece : {feed feed′ feed″ p : List ℕ} {b b′ b″ : Buffers} {ps : List (List ℕ)} {answer number : ℕ} → FedPiece feed b p answer number feed′ b′
+      → FeedRan feed′ b′ ps feed″ b″ → FeedRan feed b (p ∷ ps) feed″ b″
+  end-between : {feed feed′ feed″ : List ℕ} {b b′ b″ : Buffers} {ps : List (List ℕ)} {number : ℕ} → FedEnd feed b 0 number feed′ b′
+      → FeedRan feed′ b′ ps feed″ b″ → FeedRan feed b ps feed″ b″
+
+-- The last call, and what it adds to the log: a piece, or its end.
+pub data LastCall (feed : List ℕ) (b : Buffers) : (bytes : List ℕ) (ended : Bool) (answer number : ℕ) (feed′ : List ℕ) → Buffers → Type 0 where
+  a-piece : {p feed′ : List ℕ} {b′ : Buffers} {answer number : ℕ} → FedPiece feed b p answer number feed′ b′ → LastCall feed b p false answer number feed′ b′
+  the-end : {feed′ : List ℕ} {b′ : Buffers} {answer number : ℕ} → FedEnd feed b answer number feed′ b′ → LastCall feed b [] true answer number feed′ b′
+
+-- ---- What the calls of the feed leave as it was, and what they settle.
+
+-- A step with a short record: "11, 10 or else 3"; no byte changes.
+pub record ShortRefused (answer : ℕ) (b b′ : Buffers) : Type 0 where
+  pub number-is : (answer ≡ unfit) ⊎ ((answer ≡ refusalNumber closed) ⊎ (answer ≡ refusalNumber malformed))
+  pub same : b′ ≡ b
+
+-- A call that repeats what stands, and changes no byte of the four buffers.
+pub record Repeated (feed : List ℕ) (b : Buffers) (answer number : ℕ) (feed′ : List ℕ) (b′ : Buffers) : Type 0 where
+  pub answer-is : answer ≡ view feed .answer
+  pub number-is : number ≡ view feed .number
+  pub same-feed : feed′ ≡ feed
+  pub same : b′ ≡ b
+
+-- Two results of one call of the feed: the same but for the slip of a fault, whose cycle is the program's choice.
+pub record SameFeed (answer answer′ number number′ : ℕ) (feed feed′ : List ℕ) (b b′ : Buffers) : Type 0 where
+  pub step : SameStep answer answer′ b b′
+  pub record-is : number ≡ number′
+  pub feed-is : feed ≡ feed′

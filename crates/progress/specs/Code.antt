@@ -1,0 +1,28 @@
+-- The feed that a value of the code stands for, and the two ways in which it goes on.
+use mathlib.Core.Path.{_≡_}
+use mathlib.Core.Bool.{Bool}
+use mathlib.Core.List.{List, [], _++_}
+use Prim.Native.Nat.{ℕ, _≤_}
+use lib.ListN.{length, take, drop}
+use Rattle.progress.specs.declared.Progress.{Progress}
+use Rattle.progress.specs.Feed.{Feed, mostLoose, looseAt}
+
+-- Of the array the first `count` bytes are the loose ones.
+abbrev pub feedOf : Progress → Feed
+feedOf p = record { answer = p .answer; opened = p .opened; loose = take (p .count) (p .loose); number = p .number }
+
+-- The count is the number of loose bytes.
+abbrev pub Counted : Progress → Type 0
+Counted p = p .count ≡ length (feedOf p .loose)
+
+-- A unit was judged, and the next has no byte yet.
+abbrev pub unitBegun : (answer : ℕ) (opened : Bool) (number : ℕ) → Feed
+unitBegun answer opened number = record { answer = answer; opened = opened; loose = []; number = number }
+
+-- The next unit has a part more.
+abbrev pub withPart : Feed → List ℕ → Feed
+withPart f part = record { answer = f .answer; opened = f .opened; loose = f .loose ++ part; number = f .number }
+
+-- The array has the bytes that stand in the places of the loose ones.
+pub record LooseIn (feed array : List ℕ) : Type 0 where
+  pub same : (n : ℕ) → n ≤ mostLoose → take n array ≡ take n (drop looseAt feed)

@@ -1,0 +1,142 @@
+"""What host/test_formats and host/test_feed_formats share: the page that they read, the library, and the sizes and places of desk, sheet and slip.
+
+The arguments are theirs: PATH/SHARED_LIBRARY [PAGE [--first]]. What the page says is read from it and tried: every cell that says what a record or a byte
+does. --first: stop at what is wrong first."""
+import ctypes, re, sys
+from pathlib import Path
+
+root = Path(__file__).resolve().parent.parent
+library = ctypes.CDLL(str(Path(sys.argv[1]).resolve()))
+header = {name.replace("_", " ").lower(): int(value) for name, value in
+          re.findall(r"PLUNGEROWL_(\w+) = (\d+)", (root / "include/plungerowl.h").read_text(encoding="utf-8"))}
+page = (Path(sys.argv[2]) if len(sys.argv) > 2 else root / "docs/FORMATS.md").read_text(encoding="utf-8")
+for call in "open", "step", "ask", "feed_start", "feed", "feed_end":
+    getattr(library, f"plungerowl_{call}").restype = ctypes.c_uint8
+checks = wrong = 0
+FILL = 0xEE
+
+
+def check(what, is_, want):
+    global checks, wrong
+    checks += 1
+    if is_ != want:
+        wrong += 1
+        print(f"wrong: {what}: the page has {want}, it is {is_}")
+        if "--first" in sys.argv:
+            sys.exit(1)
+
+
+def tables(head):
+    """The rows of each table whose head begins so, as lists of cells."""
+    for start in re.finditer(re.escape("\n" + head), page):
+        lines = page[start.start() + 1:].split("\n")[2:]
+        rows = lines[:next(i for i, line in enumerate(lines) if not line.startswith("|"))]
+        yield [[cell.strip() for cell in row.strip("|").split("|")] for row in rows]
+
+
+def table(head, count):
+    found = list(tables(head))
+    check(f"tables under {head}", 1, len(found))
+    check(f"rows under {head}", count, len(found[0]))
+    return found[0]
+
+
+def heads(head):
+    """The heads of the columns of the table whose head begins so."""
+    return [cell.strip() for cell in page[page.index("\n" + head) + 1:].split("\n")[0].strip("|").split("|")]
+
+
+def said(pattern, as_=lambda group: int(group) if group.isdigit() else group):
+    """The groups of the sentence, which the page has once, whatever is between its words."""
+    found = re.findall(pattern.replace(" ", r"\s+"), page)
+    if len(found) != 1:
+        sys.exit(f"wrong: the page has {len(found)} times: {pattern}")
+    groups = found[0] if isinstance(found[0], tuple) else (found[0],)
+    return [as_(group) for group in groups]
+
+
+def numbers(text):
+    return list(map(int, re.findall(r"\d+", text)))
+
+
+def octets(text):
+    return list(bytes.fromhex(text.replace(" ", "")))
+
+
+class Buffers:
+    """Buffers of the given sizes, or of those that the page has for K; opened."""
+
+    def __init__(self, k=8, desk=None, sheet=None, slip=None):
+        sizes = (DESK if desk is None else desk, k * k if sheet is None else sheet, SLIP[0] + SLIP[1] * k if slip is None else slip)
+        self.k = k
+        self.desk, self.sheet, self.slip = ((ctypes.c_uint8 * n).from_buffer_copy(bytes([FILL]) * n) for n in sizes)
+        self.opened = library.plungerowl_open(ctypes.c_uint64(k), *self.lent()[:4])
+
+    def lent(self):
+        return [x for b in (self.desk, self.sheet, self.slip) for x in (b, ctypes.c_size_t(len(b)))]
+
+    def step(self, record):
+        return library.plungerowl_step(*self.lent(), bytes(record), ctypes.c_size_t(len(record)))
+
+    def steps(self, *records):
+        return [self.step(r) for r in records]
+
+    def ask(self, class_):
+        word, count = ctypes.c_uint64(), ctypes.c_uint32()
+        answer = library.plungerowl_ask(*self.lent()[:4], ctypes.c_uint64(class_), ctypes.byref(word), ctypes.byref(count))
+        return answer, word.value, count.value
+
+    def copy(self):
+        return [list(self.desk), list(self.sheet), list(self.slip)]
+
+
+def record(kind, class_=0, mode=0, core=0):
+    return [0x4C, 0x4B, core, kind, class_, mode]
+
+
+ACQUIRE, RELEASE, HARD_ON, HARD_OFF, SOFT_ON, SOFT_OFF, ENTER_SOFT, EXIT_SOFT, ENTER_HARD, EXIT_HARD = range(10)
+MODES, TRY = 6, 3
+
+# ---- sizes and places
+
+DESK, = said(r"\n(\d+) bytes: where every core stands")
+SLIP = said(r"\n(\d+) \+ (\d+) K bytes, written with a fault")
+ROWS = [r"0", r"(\d+)", r"(\d+) \+ i", r"(\d+) \+ f", r"(\d+) \+ c", r"(\d+) \+ (\d+) f \+ p", r"(\d+) \+ \((\d+) f \+ p\) / 8, rounded down"]
+rows = table("| byte | has |", len(ROWS))
+_, (closed_at,), (states_at,), (depths_at,), (marks_at,), (held_at, depth), (origins_at, again) = (
+    map(int, re.fullmatch(pattern, cells[0]).groups()) for pattern, cells in zip(ROWS, rows))
+cores, classes, frames, last_state = 8, 64, 24, 8
+check("the numbers in the desk's rows", [[], [0, 1], [0, last_state], [0, depth], [classes], [0, depth - 1, 0, 0], [depth, 8, 0]],
+      [numbers(has) for _, has in rows])
+check("the depth of the origin bits", depth, again)
+picture = re.search(r"\n    ( *0   1 .*)\n(?:.*\n){3}(.*)C: closed", page)
+offsets = [0, closed_at, states_at, depths_at, marks_at, held_at, origins_at, DESK]
+check("the offsets in the desk's picture", offsets, numbers(picture[1]))
+check("the sizes in the desk's picture", [b - a for a, b in zip(offsets, offsets[1:])],
+      [numbers(part)[-1] for part in re.split(r"\s{3,}", picture[2].strip())])
+check("the sums in the desk's picture", [(f"{frames} x {depth}", str(frames * depth)), (f"{frames * depth} / 8", str(frames * depth // 8))],
+      re.findall(r"(\d+ [x/] \d+) = (\d+)", picture[2]))
+check("opening", [Buffers(desk=DESK).opened, Buffers(desk=DESK - 1).opened], [0, 2])
+b = Buffers(desk=DESK + 9, sheet=64 + 9)
+check("the desk opened", list(b.desk), [8] + [0] * said(r"0 to the other (\d+) bytes of the desk")[0] + [FILL] * 9)
+check("the sheet opened", list(b.sheet), [0] * 64 + [FILL] * 9)
+check("the slip's picture", SLIP * 2, said(r"\n    0 1 2 3 4 5 6 7 (\d+) \+ (\d+)n (\d+) \+ (\d+)K\n"))
+check("the slip's size", [Buffers(slip=n).step(record(HARD_ON)) for n in (25, 24)], [0, 11])
+check("the limits", [classes, cores, cores - 1, depth],
+      said(r"K, the number of lock classes, is 1 to (\d+); (\d+) cores, 0 to (\d+); (\d+) held locks in a frame"))
+
+
+def origin_place(frame, place):
+    """The byte and the value of an origin bit, by the page's row."""
+    return origins_at + (depth * frame + place) // 8, 1 << (depth * frame + place) % 8
+
+
+def in_state(state, core=0, k=8):
+    b = Buffers(k)
+    b.desk[states_at + core] = state
+    return b
+
+
+def finish(name):
+    print(f"{name}: {checks} checks of docs/FORMATS.md, {wrong} wrong")
+    sys.exit(1 if wrong else 0)
