@@ -401,7 +401,7 @@ fn end_over_loose(rng: &mut Rng) -> Case {
 pub const CUT_LOG: &str = "log in pieces";
 pub const KINDS: [Kind; 4] = [
     Kind { name: CUT_LOG, weight: 150, make: cut_log },
-    Kind { name: "long log in pieces", weight: 5, make: long_cut_log },
+    Kind { name: "long log in pieces", weight: 3, make: long_cut_log },
     Kind { name: "any feed", weight: 170, make: any_calls },
     Kind { name: "end over loose bytes", weight: 130, make: end_over_loose },
 ];

@@ -401,7 +401,7 @@ pub const SIGHTS: &[Sight] = &[
     at_feed("record over a cut and more in one piece", 1300, |l| {
         l.opened() && l.kept() > 0 && l.piece(|_| true) && l.records() > 1
     }),
-    at_feed("piece of more than 65,535 bytes", 21, |l| l.piece(|p| p.len() > 65_535)),
+    at_feed("piece of more than 65,535 bytes", 12, |l| l.piece(|p| p.len() > 65_535)),
     at_feed("empty piece before the header", 150, |l| l.piece(|p| p.is_empty()) && !l.opened() && l.kept() == 0),
     at_feed("empty piece over loose bytes", 1000, |l| l.piece(|p| p.is_empty()) && l.kept() > 0),
     at_feed("empty piece between records", 210, |l| l.piece(|p| p.is_empty()) && l.opened() && l.kept() == 0),

@@ -12,7 +12,7 @@ use Rattle.rules.specs.Log.{unitSize}
 use Rattle.validator.specs.Calls.{Buffers}
 use Rattle.progress.specs.Feed.{Feed}
 use Rattle.progress.specs.Code.{unitBegun, withPart}
-use Rattle.feed.specs.Fed.{Judged, header, a-record, PartTaken, not-yet, complete, Fed, stopped, kept, judged}
+use Rattle.feed.specs.Fed.{UnitValidated, header, a-record, PartTaken, not-yet, complete, Fed, stopped, kept, completed}
 
 pub some-unit : (opened : Bool) → 0 < unitSize opened
 some-unit true = omega arith
@@ -29,16 +29,16 @@ fed-none f b h = elim (ℕ-discrete (f .answer) 0) [
   | no n ↦ stopped n
 ]
 
-judged-none : {o : Bool} {n : ℕ} {b b′ : Buffers} {u : List ℕ} {f : Feed} → Judged o n b u f b′ → Fed f b′ [] f b′
-judged-none (header {answer} {b′} o p s) = fed-none (unitBegun answer (eqb answer 0) _) b′ (some-unit (eqb answer 0))
-judged-none (a-record {answer} {b′} o t) = fed-none (unitBegun answer true _) b′ (some-unit true)
+unit-none : {o : Bool} {n : ℕ} {b b′ : Buffers} {u : List ℕ} {f : Feed} → UnitValidated o n b u f b′ → Fed f b′ [] f b′
+unit-none (header {answer} {b′} o p s) = fed-none (unitBegun answer (eqb answer 0) _) b′ (some-unit (eqb answer 0))
+unit-none (a-record {answer} {b′} o t) = fed-none (unitBegun answer true _) b′ (some-unit true)
 
 -- ---- Bytes, and then more.
 
 still-stopped : {f f₂ : Feed} {b b₂ : Buffers} (xs : List ℕ) {ys : List ℕ} → (f .answer ≡ 0 → ⊥) → Fed f b ys f₂ b₂ → Fed f b (xs ++ ys) f₂ b₂
 still-stopped xs n (stopped m) = stopped m
 still-stopped xs n (kept e h) = absurd (n e)
-still-stopped xs n (judged unit rest e q l j r) = absurd (n e)
+still-stopped xs n (completed unit rest e q l j r) = absurd (n e)
 
 behind-kept : (f : Feed) {f₂ : Feed} {b b₂ : Buffers} (xs : List ℕ) {ys : List ℕ} → f .answer ≡ 0 → Fed (withPart f xs) b ys f₂ b₂
     → Fed f b (xs ++ ys) f₂ b₂
@@ -46,19 +46,19 @@ behind-kept f xs e (stopped m) = absurd (m e)
 behind-kept f {b = b} xs {ys} e (kept d h) =
     subst (λ (l : List ℕ). Fed f b (xs ++ ys) (record { answer = f .answer; opened = f .opened; loose = l; number = f .number }) b)
     (sym (append-assoc (f .loose) xs ys)) (kept e (rw (← append-assoc) h))
-behind-kept f xs {ys} e (judged unit rest d q l j r) = judged unit rest e (sym (append-assoc (f .loose) xs ys) ∙ q) l j r
+behind-kept f xs {ys} e (completed unit rest d q l j r) = completed unit rest e (sym (append-assoc (f .loose) xs ys) ∙ q) l j r
 
 pub fed-append : {f f₁ f₂ : Feed} {b b₁ b₂ : Buffers} {xs ys : List ℕ} → Fed f b xs f₁ b₁ → Fed f₁ b₁ ys f₂ b₂ → Fed f b (xs ++ ys) f₂ b₂
 fed-append {xs = xs} (stopped n) s = still-stopped xs n s
 fed-append {f = f} {xs = xs} (kept e h) s = behind-kept f xs e s
-fed-append {f = f} {xs = xs} {ys = ys} (judged unit rest e q l j r) s =
-    judged unit (rest ++ ys) e (sym (append-assoc (f .loose) xs ys) ∙ ap (λ (t : List ℕ). t ++ ys) q ∙ append-assoc unit rest ys) l j (fed-append r s)
+fed-append {f = f} {xs = xs} {ys = ys} (completed unit rest e q l j r) s =
+    completed unit (rest ++ ys) e (sym (append-assoc (f .loose) xs ys) ∙ ap (λ (t : List ℕ). t ++ ys) q ∙ append-assoc unit rest ys) l j (fed-append r s)
 
 -- ---- A turn of the loop over a piece.
 
 part-fed : {f f′ : Feed} {b b′ : Buffers} {part : List ℕ} → f .answer ≡ 0 → PartTaken f b part f′ b′ → Fed f b part f′ b′
 part-fed e (not-yet h) = kept e h
-part-fed {f = f} {part = part} e (complete l j) = judged (f .loose ++ part) [] e (sym (append-nil _)) l j (judged-none j)
+part-fed {f = f} {part = part} e (complete l j) = completed (f .loose ++ part) [] e (sym (append-nil _)) l j (unit-none j)
 
 -- What a part of the piece has.
 front-length : (n : ℕ) (l : List ℕ) → take (length (take n l)) l ≡ take n l
@@ -82,10 +82,10 @@ module _ (piece part : List ℕ) (at wanted : ℕ) (e : part ≡ take wanted (dr
 
 -- ---- What is kept is less than a unit.
 
-judged-loose : {o : Bool} {n : ℕ} {b b′ : Buffers} {u : List ℕ} {f : Feed} → Judged o n b u f b′ → length (f .loose) < unitSize (f .opened)
-judged-loose (header {answer} o p s) = some-unit (eqb answer 0)
-judged-loose (a-record o t) = some-unit true
+unit-loose : {o : Bool} {n : ℕ} {b b′ : Buffers} {u : List ℕ} {f : Feed} → UnitValidated o n b u f b′ → length (f .loose) < unitSize (f .opened)
+unit-loose (header {answer} o p s) = some-unit (eqb answer 0)
+unit-loose (a-record o t) = some-unit true
 
 pub part-loose : {f f′ : Feed} {b b′ : Buffers} {part : List ℕ} → PartTaken f b part f′ b′ → length (f′ .loose) < unitSize (f′ .opened)
 part-loose (not-yet h) = h
-part-loose (complete l j) = judged-loose j
+part-loose (complete l j) = unit-loose j

@@ -16,7 +16,7 @@ use Rattle.progress.specs.declared.Progress.{Progress}
 use Rattle.progress.specs.Feed.{Feed, fresh, feedSize, mostLoose, view, fits}
 use Rattle.progress.specs.Code.{feedOf, Counted, unitBegun, withPart}
 use Rattle.progress.proofs.Fitness.{FitFacts, fit-facts, formed-loose}
-use Rattle.feed.specs.Fed.{more, Judged, header, a-record, PartTaken, not-yet, complete, Ended, stands, no-header, between, short}
+use Rattle.feed.specs.Fed.{more, UnitValidated, header, a-record, PartTaken, not-yet, complete, Ended, stands, no-header, between, short}
 use Rattle.feed.specs.Calls.{holding, Started, GoesOn, FeedCall}
 
 pub unit-most : (opened : Bool) → unitSize opened ≤ recordSize
@@ -40,11 +40,11 @@ counted-none p e = rw e refl
 
 module _ {opened : Bool} {number answer : ℕ} {b b′ : Buffers} {unit : List ℕ} (f : Feed) where
   pub is-record : (n : ℕ) → opened ≡ true → Called b unit answer b′ → n ≡ more number → f ≡ unitBegun answer true n
-      → Judged opened number b unit f b′
+      → UnitValidated opened number b unit f b′
   is-record n o t e q = rw (q, e) (a-record o t)
 
   pub is-header : (K : ℕ) → opened ≡ false → K ≡ headerClasses unit → Opened K (b .desk) (b .sheet) answer (b′ .desk) (b′ .sheet) → b′ .slip ≡ b .slip
-      → f ≡ unitBegun answer (eqb answer 0) number → Judged opened number b unit f b′
+      → f ≡ unitBegun answer (eqb answer 0) number → UnitValidated opened number b unit f b′
   is-header K o k p s q = rw q (header o (subst (λ (n : ℕ). Opened n (b .desk) (b .sheet) answer (b′ .desk) (b′ .sheet)) k p) s)
 
 -- ---- A part of a piece.
@@ -55,10 +55,10 @@ nothing-in (x ∷ l) h = absurd (omega arith)
 
 module _ (p : Progress) (part : List ℕ) (k : Counted p) where
   pub whole-part : {f′ : Feed} {b b′ : Buffers} → p .count + length part ≤ unitSize (p .opened) → length part ≡ unitSize (p .opened)
-      → Judged (p .opened) (p .number) b part f′ b′ → PartTaken (feedOf p) b part f′ b′
+      → UnitValidated (p .opened) (p .number) b part f′ b′ → PartTaken (feedOf p) b part f′ b′
   whole-part {f′} {b} {b′} h e j =
       let z : take (p .count) (p .loose) ++ part ≡ part = ap (λ (l : List ℕ). l ++ part) (nothing-in (take (p .count) (p .loose)) (omega arith)) in
-      complete (ap length z ∙ e) (subst (λ (l : List ℕ). Judged (p .opened) (p .number) b l f′ b′) (sym z) j)
+      complete (ap length z ∙ e) (subst (λ (l : List ℕ). UnitValidated (p .opened) (p .number) b l f′ b′) (sym z) j)
 
   module _ (next : Progress) (q : feedOf next ≡ withPart (feedOf p) part) (c : next .count ≡ p .count + length part) where
     longer : length (take (p .count) (p .loose) ++ part) ≡ next .count
@@ -71,9 +71,9 @@ module _ (p : Progress) (part : List ℕ) (k : Counted p) where
     part-kept b h = rw q (not-yet (rw longer h))
 
     pub part-completes : {f′ : Feed} {b b′ : Buffers} → next .count ≡ unitSize (p .opened)
-        → Judged (p .opened) (p .number) b (take (next .count) (next .loose)) f′ b′ → PartTaken (feedOf p) b part f′ b′
+        → UnitValidated (p .opened) (p .number) b (take (next .count) (next .loose)) f′ b′ → PartTaken (feedOf p) b part f′ b′
     part-completes {f′} {b} {b′} e j =
-        complete (longer ∙ e) (subst (λ (l : List ℕ). Judged (p .opened) (p .number) b l f′ b′) (ap (λ (f : Feed). f .loose) q) j)
+        complete (longer ∙ e) (subst (λ (l : List ℕ). UnitValidated (p .opened) (p .number) b l f′ b′) (ap (λ (f : Feed). f .loose) q) j)
 
 -- ---- The end.
 
@@ -85,7 +85,7 @@ module _ (p : Progress) (b : Buffers) (e : p .answer ≡ 0) where
   end-between o z = between e o (rw z refl)
 
   pub end-in-record : {f′ : Feed} {b′ : Buffers} → p .opened ≡ true → Counted p → (p .count ≡ 0 → ⊥)
-      → Judged true (p .number) b (take (p .count) (p .loose)) f′ b′ → Ended (feedOf p) b f′ b′
+      → UnitValidated true (p .number) b (take (p .count) (p .loose)) f′ b′ → Ended (feedOf p) b f′ b′
   end-in-record o k n j = short e o (omega arith) j
 
 -- ---- The calls.

@@ -16,26 +16,26 @@ use Rattle.progress.specs.Code.{unitBegun, withPart}
 unfoldable pub more : ℕ → ℕ
 more n = cond (ltb n (2 ^ 64 - 1)) (suc n) n
 
--- A unit is judged: the header opens desk and sheet, or is refused with 2; a record is handed to the step and counted.
-pub data Judged (opened : Bool) (number : ℕ) (b : Buffers) (unit : List ℕ) : Feed → Buffers → Type 0 where
+-- A unit is validated: the header opens desk and sheet, or is refused with 2; a record is handed to the step and counted.
+pub data UnitValidated (opened : Bool) (number : ℕ) (b : Buffers) (unit : List ℕ) : Feed → Buffers → Type 0 where
   header : {answer : ℕ} {b′ : Buffers} → opened ≡ false → Opened (headerClasses unit) (b .desk) (b .sheet) answer (b′ .desk) (b′ .sheet)
-      → b′ .slip ≡ b .slip → Judged opened number b unit (unitBegun answer (eqb answer 0) number) b′
+      → b′ .slip ≡ b .slip → UnitValidated opened number b unit (unitBegun answer (eqb answer 0) number) b′
   a-record : {answer : ℕ} {b′ : Buffers} → opened ≡ true → Called b unit answer b′
-      → Judged opened number b unit (unitBegun answer true (more number)) b′
+      → UnitValidated opened number b unit (unitBegun answer true (more number)) b′
 
--- A part of a piece that goes at most to the end of the unit: it is kept, or it completes the unit, which is judged.
+-- A part of a piece that goes at most to the end of the unit: it is kept, or it completes the unit, which is validated.
 pub data PartTaken (f : Feed) (b : Buffers) (part : List ℕ) : Feed → Buffers → Type 0 where
   not-yet : length (f .loose ++ part) < unitSize (f .opened) → PartTaken f b part (withPart f part) b
-  complete : {f′ : Feed} {b′ : Buffers} → length (f .loose ++ part) ≡ unitSize (f .opened) → Judged (f .opened) (f .number) b (f .loose ++ part) f′ b′
+  complete : {f′ : Feed} {b′ : Buffers} → length (f .loose ++ part) ≡ unitSize (f .opened) → UnitValidated (f .opened) (f .number) b (f .loose ++ part) f′ b′
       → PartTaken f b part f′ b′
 
--- "Header and records are judged when complete": bytes that do not complete the unit are kept; else it is judged and the bytes behind it are taken.
+-- "Header and records are judged when complete": bytes that do not complete the unit are kept; else it is validated and the bytes behind it are taken.
 -- "Once an answer but 0 has come, further pieces change nothing."
 pub data Fed : Feed → Buffers → List ℕ → Feed → Buffers → Type 0 where
   stopped : {f : Feed} {b : Buffers} {bytes : List ℕ} → (f .answer ≡ 0 → ⊥) → Fed f b bytes f b
   kept : {f : Feed} {b : Buffers} {bytes : List ℕ} → f .answer ≡ 0 → length (f .loose ++ bytes) < unitSize (f .opened) → Fed f b bytes (withPart f bytes) b
-  judged : {f f₁ f₂ : Feed} {b b₁ b₂ : Buffers} {bytes : List ℕ} (unit rest : List ℕ) → f .answer ≡ 0 → f .loose ++ bytes ≡ unit ++ rest
-      → length unit ≡ unitSize (f .opened) → Judged (f .opened) (f .number) b unit f₁ b₁ → Fed f₁ b₁ rest f₂ b₂ → Fed f b bytes f₂ b₂
+  completed : {f f₁ f₂ : Feed} {b b₁ b₂ : Buffers} {bytes : List ℕ} (unit rest : List ℕ) → f .answer ≡ 0 → f .loose ++ bytes ≡ unit ++ rest
+      → length unit ≡ unitSize (f .opened) → UnitValidated (f .opened) (f .number) b unit f₁ b₁ → Fed f₁ b₁ rest f₂ b₂ → Fed f b bytes f₂ b₂
 
 -- "An end call refuses a missing or short header with 2 at record 0, and after it loose bytes, as a short next record; after an earlier answer but 0
 -- it repeats that one; else it gives 0 and pieces may follow."
@@ -43,5 +43,5 @@ pub data Ended (f : Feed) (b : Buffers) : Feed → Buffers → Type 0 where
   stands : (f .answer ≡ 0 → ⊥) → Ended f b f b
   no-header : f .answer ≡ 0 → f .opened ≡ false → Ended f b (unitBegun badOpening false (f .number)) b
   between : f .answer ≡ 0 → f .opened ≡ true → f .loose ≡ [] → Ended f b f b
-  short : {f′ : Feed} {b′ : Buffers} → f .answer ≡ 0 → f .opened ≡ true → 0 < length (f .loose) → Judged true (f .number) b (f .loose) f′ b′
+  short : {f′ : Feed} {b′ : Buffers} → f .answer ≡ 0 → f .opened ≡ true → 0 < length (f .loose) → UnitValidated true (f .number) b (f .loose) f′ b′
       → Ended f b f′ b′

@@ -22,7 +22,7 @@ ghost use Rattle.rules.specs.Log.{unitSize, headerClasses};
 ghost use Rattle.progress.specs.Feed.{mostLoose};
 ghost use Rattle.progress.specs.Code.{feedOf, Counted};
 ghost use Rattle.validator.specs.Calls.{buffers};
-ghost use Rattle.feed.specs.Fed.{more, Judged, PartTaken, Fed, Ended};
+ghost use Rattle.feed.specs.Fed.{more, UnitValidated, PartTaken, Fed, Ended};
 ghost use Rattle.feed.specs.Calls.{Started, FedPiece, FedEnd};
 
 const MOST_CLASSES: u8 = MAX_CLASSES as u8;
@@ -65,8 +65,8 @@ fn one_more(number: u64) -> u64
     number
 }
 
-// Judges a unit: the header, which opens the desk, or a record.
-fn judge(
+// Validates a unit: the header, which opens the desk, or a record.
+fn validate_unit(
     desk: &mut [u8],
     sheet: &mut [u8],
     slip: &mut [u8],
@@ -74,7 +74,7 @@ fn judge(
     number: u64,
     unit: &[u8],
 ) -> Progress
-    ensures { λ r. ⌜ Judged opened number (buffers (now (desk .entry)) (now (sheet .entry)) (now (slip .entry))) (now (unit .entry)) (feedOf r) (buffers (now (desk .exit)) (now (sheet .exit)) (now (slip .exit))) × (r .count ≡ 0) ⌝ }
+    ensures { λ r. ⌜ UnitValidated opened number (buffers (now (desk .entry)) (now (sheet .entry)) (now (slip .entry))) (now (unit .entry)) (feedOf r) (buffers (now (desk .exit)) (now (sheet .exit)) (now (slip .exit))) × (r .count ≡ 0) ⌝ }
 {
     if opened {
         let answer = step(desk, sheet, slip, unit);
@@ -84,7 +84,7 @@ fn judge(
     between_units(answer, answer == OK, number)
 }
 
-// Takes a part of a piece, which goes at most to the end of the unit: a unit that it completes is judged.
+// Takes a part of a piece, which goes at most to the end of the unit: a unit that it completes is validated.
 fn take_part(
     desk: &mut [u8],
     sheet: &mut [u8],
@@ -97,7 +97,7 @@ fn take_part(
 {
     let size = unit_size(p.opened);
     if part.len() == size {
-        return judge(desk, sheet, slip, p.opened, p.number, part);
+        return validate_unit(desk, sheet, slip, p.opened, p.number, part);
     }
     let next = with_part(p, part);
     let count = next.count;
@@ -105,7 +105,7 @@ fn take_part(
         return next;
     }
     let unit = next.loose;
-    judge(desk, sheet, slip, p.opened, p.number, &unit[..count])
+    validate_unit(desk, sheet, slip, p.opened, p.number, &unit[..count])
 }
 
 // Takes a piece, up to the first answer but 0.
@@ -148,7 +148,7 @@ fn take_end(desk: &mut [u8], sheet: &mut [u8], slip: &mut [u8], p: Progress) -> 
         return p;
     }
     let unit = p.loose;
-    judge(desk, sheet, slip, true, p.number, &unit[..count])
+    validate_unit(desk, sheet, slip, true, p.number, &unit[..count])
 }
 
 // What a call of the feed says: the standing answer and its number.

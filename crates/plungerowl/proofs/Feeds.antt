@@ -26,12 +26,12 @@ use Rattle.progress.specs.Feed.{Feed, fresh, feedSize, mostLoose, bytesOf, view
 use Rattle.progress.specs.Code.{unitBegun, withPart}
 use Rattle.progress.proofs.Fitness.{fit-facts, formed-loose, going-on, at-unit}
 use Rattle.progress.proofs.Kept.{view-back, fits-back, bytes-back}
-use Rattle.feed.specs.Fed.{more, Judged, header, a-record, Fed, stopped, kept, judged, Ended, stands, no-header, between, short}
+use Rattle.feed.specs.Fed.{more, UnitValidated, header, a-record, Fed, stopped, kept, completed, Ended, stands, no-header, between, short}
 use Rattle.feed.specs.Calls.{holding, Started, GoesOn, FeedCall, FedPiece, FedEnd}
 use Rattle.feed.proofs.Cuts.{some-unit, fed-none, fed-append}
 use Rattle.feed.proofs.Turns.{one-counted, stays-counted, unit-most}
 use Rattle.plungerowl.specs.Logs.{WholeLog, joined, FeedRan, no-piece, piece, end-between, LastCall, a-piece, the-end, ShortRefused, Repeated, SameFeed}
-use Rattle.plungerowl.proofs.Logs.{same-buffers, takes-nothing, record-judged}
+use Rattle.plungerowl.proofs.Logs.{same-buffers, takes-nothing, record-validated}
 use Rattle.plungerowl.proofs.Wholes.{repeats, log-going, log-ended}
 
 -- ---- What a feed's bytes hold.
@@ -110,9 +110,9 @@ unfolding isStepAnswer
 zero-or-two true a e n z = rw e refl
 zero-or-two false a e n z = rw (e, z) refl
 
-proper-judged : {o : Bool} {n : ℕ} {b b′ : Buffers} {u : List ℕ} {f : Feed} → n < 2 ^ 64 → (o ≡ false → n ≡ 0) → Judged o n b u f b′ → Proper f
-proper-judged {n = n} {b = b} {u = u} h z (header {answer} o p s) = record { formed = begun (eqb answer 0) answer n (zero-or-two (opens (headerClasses u) (b .desk) (b .sheet)) answer (p .answer) n (z o)); small = h }
-proper-judged {n = n} h z (a-record {answer} {b′ = b₁} o t) =
+proper-unit : {o : Bool} {n : ℕ} {b b′ : Buffers} {u : List ℕ} {f : Feed} → n < 2 ^ 64 → (o ≡ false → n ≡ 0) → UnitValidated o n b u f b′ → Proper f
+proper-unit {n = n} {b = b} {u = u} h z (header {answer} o p s) = record { formed = begun (eqb answer 0) answer n (zero-or-two (opens (headerClasses u) (b .desk) (b .sheet)) answer (p .answer) n (z o)); small = h }
+proper-unit {n = n} h z (a-record {answer} {b′ = b₁} o t) =
     let c = counts n h in
     record { formed = begun true answer (more n) (and-both (step-answer {b′ = b₁} t) (or-right (eqb answer 0) (le-leb 1 (more n) (c .0)))); small = c .1 }
 
@@ -123,13 +123,13 @@ proper-fed : {f f′ : Feed} {b b′ : Buffers} {bytes : List ℕ} → Proper f 
 proper-fed p (stopped n) = p
 proper-fed {f} {bytes = bytes} p (kept e h) =
     record { formed = sym (going-on (withPart f bytes) _ refl h e) ∙ formed-stands f (p .formed); small = p .small }
-proper-fed p (judged unit rest e q l j r) = proper-fed (proper-judged (p .small) (proper-numbered p) j) r
+proper-fed p (completed unit rest e q l j r) = proper-fed (proper-unit (p .small) (proper-numbered p) j) r
 
 proper-ended : {f f′ : Feed} {b b′ : Buffers} → Proper f → Ended f b f′ b′ → Proper f′
 proper-ended p (stands n) = p
 proper-ended {f} p (no-header e o) = record { formed = begun false badOpening (f .number) (rw (proper-numbered p o) refl); small = p .small }
 proper-ended p (between e o l) = p
-proper-ended p (short e o l j) = proper-judged (p .small) (λ z. absurd (false≢true (sym z))) j
+proper-ended p (short e o l j) = proper-unit (p .small) (λ z. absurd (false≢true (sym z))) j
 
 -- ---- The calls.
 
@@ -191,7 +191,7 @@ nothing-ended p (stands n) z = (refl, refl)
 nothing-ended p (no-header e o) z = absurd (omega arith)
 nothing-ended p (between e o l) z = (refl, refl)
 nothing-ended {f} {b′ = b′} p (short e o l j) z =
-    let g = record-judged refl j in
+    let g = record-validated refl j in
     let k = formed-loose f (p .formed) in
     absurd
     (short-not-clean (short-refused {b′ = b′} (λ y. absurd (let u : unitSize (f .opened) ≡ recordSize = ap unitSize o in omega arith)) (g .called))
@@ -278,15 +278,15 @@ header-clean : (t : Bool) (a : ℕ) → a ≡ cond t 0 badOpening → a ≡ 1 �
 header-clean true a e z = omega arith
 header-clean false a e z = omega arith
 
-judged-shown : {o : Bool} {n : ℕ} {b b′ : Buffers} {u : List ℕ} {f : Feed} → Judged o n b u f b′ → f .answer ≡ 1 → countOf (b′ .slip) ≤ maxClasses
-judged-shown {b = b} {u = u} (header {answer} o p s) z = absurd (header-clean (opens (headerClasses u) (b .desk) (b .sheet)) answer (p .answer) z)
-judged-shown (a-record {b′ = b′} o t) z = fault-shown {b′ = b′} t z
+unit-shown : {o : Bool} {n : ℕ} {b b′ : Buffers} {u : List ℕ} {f : Feed} → UnitValidated o n b u f b′ → f .answer ≡ 1 → countOf (b′ .slip) ≤ maxClasses
+unit-shown {b = b} {u = u} (header {answer} o p s) z = absurd (header-clean (opens (headerClasses u) (b .desk) (b .sheet)) answer (p .answer) z)
+unit-shown (a-record {b′ = b′} o t) z = fault-shown {b′ = b′} t z
 
 fed-shown : {f f′ : Feed} {b b′ : Buffers} {bytes : List ℕ} → (f .answer ≡ 1 → ⊥) → Fed f b bytes f′ b′ → f′ .answer ≡ 1 → countOf (b′ .slip) ≤ maxClasses
 fed-shown n (stopped m) z = absurd (n z)
 fed-shown n (kept e h) z = absurd (n z)
-fed-shown n (judged {f₁ = f₁} unit rest e q l j r) z = elim (ℕ-discrete (f₁ .answer) 1) [
-  | yes y ↦ let x = takes-nothing (λ w. absurd (omega arith)) r in rw (x .1) (judged-shown j y)
+fed-shown n (completed {f₁ = f₁} unit rest e q l j r) z = elim (ℕ-discrete (f₁ .answer) 1) [
+  | yes y ↦ let x = takes-nothing (λ w. absurd (omega arith)) r in rw (x .1) (unit-shown j y)
   | no y ↦ fed-shown y r z
 ]
 
@@ -295,7 +295,7 @@ ended-shown : {f f′ : Feed} {b b′ : Buffers} → (f .answer ≡ 1 → countO
 ended-shown g (stands n) z = g z
 ended-shown g (no-header e o) z = absurd (omega arith)
 ended-shown g (between e o l) z = g z
-ended-shown g (short e o l j) z = judged-shown j z
+ended-shown g (short e o l j) z = unit-shown j z
 
 pub run-shown : {b b′ : Buffers} {log : List ℕ} {answer number : ℕ} → EndedRun b log answer number b′ → answer ≡ 1 → countOf (b′ .slip) ≤ maxClasses
 run-shown r z = ended-shown (fed-shown (λ e. omega arith) (r .fed)) (r .ended) (sym (r .answer-is) ∙ z)

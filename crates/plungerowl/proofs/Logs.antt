@@ -13,7 +13,7 @@ use borrow.Author.Tests.{lt-ltb, le-leb, lt-leb, leb-true, leb-false}
 use Rattle.rules.specs.Record.{Bytes}
 use Rattle.rules.specs.Verdict.{number, badOpening, unfit}
 use Rattle.rules.specs.Run.{State, start, step}
-use Rattle.rules.specs.Log.{headerSize, recordSize, unitSize, headerClasses, recordsOf, looseOf, shortRecord, Outcome, judge}
+use Rattle.rules.specs.Log.{headerSize, recordSize, unitSize, headerClasses, recordsOf, looseOf, shortRecord, Outcome, validate}
 use Rattle.rules.proofs.Booleans.{and-cases}
 use Rattle.layout.specs.Layout.{deskSize, sheetSize, slipSize, KeepsPast, classesOf}
 use Rattle.layout.specs.Decoding.{StandFor}
@@ -23,12 +23,12 @@ use Rattle.validator.specs.Step.{Reported, Validated}
 use Rattle.validator.specs.Calls.{Buffers, Called}
 use Rattle.progress.specs.Feed.{Feed, fresh}
 use Rattle.progress.specs.Code.{unitBegun, withPart}
-use Rattle.feed.specs.Fed.{more, Judged, header, a-record, Fed, stopped, kept, judged, Ended, stands, no-header, between, short}
+use Rattle.feed.specs.Fed.{more, UnitValidated, header, a-record, Fed, stopped, kept, completed, Ended, stands, no-header, between, short}
 use Rattle.feed.proofs.Turns.{one-counted}
 use Rattle.validity.proofs.Kept.{valid-start}
 use Rattle.plungerowl.specs.Logs.{classesIn, recordsIn, refuseFirst, outcomeFor, LeftBy, WholeLog, short-header, bad-header, by-rules}
 use Rattle.plungerowl.proofs.Runs.{Holds, validated-by, step-holds, OpenedAs, opened-as}
-use Rattle.plungerowl.proofs.Records.{no-records, all-loose, cut-length, first-record, same-loose, judge-on, judge-stops, judge-stopped, judge-more, judge-last}
+use Rattle.plungerowl.proofs.Records.{no-records, all-loose, cut-length, first-record, same-loose, validate-on, validate-stops, validate-stopped, validate-more, validate-last}
 
 -- ---- The buffers over several records.
 
@@ -81,14 +81,14 @@ pub record After (K : ℕ) (o : Outcome) (bytes : List ℕ) (f : Feed) (b b′ :
 pub takes-nothing : {f f′ : Feed} {b b′ : Buffers} {bytes : List ℕ} → (f .answer ≡ 0 → ⊥) → Fed f b bytes f′ b′ → (f′ ≡ f) × (b′ ≡ b)
 takes-nothing n (stopped m) = (refl, refl)
 takes-nothing n (kept e h) = absurd (n e)
-takes-nothing n (judged unit rest e q l j r) = absurd (n e)
+takes-nothing n (completed unit rest e q l j r) = absurd (n e)
 
 counted-one : {m : ℕ} (n : ℕ) → m ≡ n → n < 2 ^ 64 - 1 → more m ≡ suc n
 counted-one n e h = rw e (sym (one-counted n h) ∙ add-one n)
 
 module _ {K : ℕ} {s : State} {f : Feed} {b : Buffers} (n : ℕ) (H : Holds K s b) (e : f .answer ≡ 0) (o : f .opened ≡ true) (i : f .loose ≡ [])
     (m : f .number ≡ n) where
-  after-none : (bytes : List ℕ) → length (f .loose ++ bytes) < unitSize (f .opened) → After K (judge K s n (recordsOf bytes)) bytes (withPart f bytes) b b
+  after-none : (bytes : List ℕ) → length (f .loose ++ bytes) < unitSize (f .opened) → After K (validate K s n (recordsOf bytes)) bytes (withPart f bytes) b b
   after-none bytes h =
       let l : length bytes < recordSize = rw (i, o) at h in
       rw (no-records bytes l)
@@ -108,12 +108,12 @@ module _ {K : ℕ} {s : State} {f : Feed} {b : Buffers} (n : ℕ) (H : Holds K s
 -- The first record, and what comes of the others.
 module _ {K : ℕ} {s : State} {b b₁ : Buffers} {answer : ℕ} (n : ℕ) (unit rest : List ℕ) (H : Holds K s b) (l : length unit ≡ recordSize)
     (t : Called b unit answer b₁) where
-  after-clean : {f₂ : Feed} {b₂ : Buffers} → answer ≡ 0 → After K (judge K (step K s unit .state) (suc n) (recordsOf rest)) rest f₂ b₁ b₂
-      → After K (judge K s n (recordsOf (unit ++ rest))) (unit ++ rest) f₂ b b₂
+  after-clean : {f₂ : Feed} {b₂ : Buffers} → answer ≡ 0 → After K (validate K (step K s unit .state) (suc n) (recordsOf rest)) rest f₂ b₁ b₂
+      → After K (validate K s n (recordsOf (unit ++ rest))) (unit ++ rest) f₂ b b₂
   after-clean {f₂} {b₂} z w =
       let v = validated-by H {b′ = b₁} t in
-      let q : judge K (step K s unit .state) (suc n) (recordsOf rest) ≡ judge K s n (recordsOf (unit ++ rest)) =
-      sym (ap (judge K s n) (first-record unit rest l) ∙ judge-on K s n unit (recordsOf rest) (sym (v .number-is) ∙ z)) in
+      let q : validate K (step K s unit .state) (suc n) (recordsOf rest) ≡ validate K s n (recordsOf (unit ++ rest)) =
+      sym (ap (validate K s n) (first-record unit rest l) ∙ validate-on K s n unit (recordsOf rest) (sym (v .number-is) ∙ z)) in
       subst (λ (x : Outcome). After K x (unit ++ rest) f₂ b b₂) q
       (record {
         tells =
@@ -127,11 +127,11 @@ module _ {K : ℕ} {s : State} {b b₁ : Buffers} {answer : ℕ} (n : ℕ) (unit
         holds = w .holds;
       })
 
-  after-stop : (answer ≡ 0 → ⊥) → (k : ℕ) → k ≡ suc n → After K (judge K s n (recordsOf (unit ++ rest))) (unit ++ rest) (unitBegun answer true k) b b₁
+  after-stop : (answer ≡ 0 → ⊥) → (k : ℕ) → k ≡ suc n → After K (validate K s n (recordsOf (unit ++ rest))) (unit ++ rest) (unitBegun answer true k) b b₁
   after-stop z k c =
       let v = validated-by H {b′ = b₁} t in
-      let q : record { answer = number (step K s unit .answer); at = suc n; state = step K s unit .state } ≡ judge K s n (recordsOf (unit ++ rest)) =
-      sym (ap (judge K s n) (first-record unit rest l) ∙ judge-stops K s n unit (recordsOf rest) (λ y. z (v .number-is ∙ y))) in
+      let q : record { answer = number (step K s unit .answer); at = suc n; state = step K s unit .state } ≡ validate K s n (recordsOf (unit ++ rest)) =
+      sym (ap (validate K s n) (first-record unit rest l) ∙ validate-stops K s n unit (recordsOf rest) (λ y. z (v .number-is ∙ y))) in
       subst (λ (x : Outcome). After K x (unit ++ rest) (unitBegun answer true k) b b₁) q
       (record {
         tells = record { answer-is = v .number-is; number-is = c; opened-is = refl; loose-is = λ y. absurd (z (v .number-is ∙ y)) };
@@ -139,21 +139,21 @@ module _ {K : ℕ} {s : State} {b b₁ : Buffers} {answer : ℕ} (n : ℕ) (unit
         holds = step-holds H v;
       })
 
--- What judging a record says.
-pub record RecordJudged (number : ℕ) (b : Buffers) (unit : List ℕ) (f : Feed) (b′ : Buffers) : Type 0 where
+-- What validating a record says.
+pub record RecordValidated (number : ℕ) (b : Buffers) (unit : List ℕ) (f : Feed) (b′ : Buffers) : Type 0 where
   pub answer : ℕ
   pub called : Called b unit answer b′
   pub is : f ≡ unitBegun answer true (more number)
 
-pub record-judged : {o : Bool} {n : ℕ} {b b′ : Buffers} {unit : List ℕ} {f : Feed} → o ≡ true → Judged o n b unit f b′ → RecordJudged n b unit f b′
-record-judged e (header u p z) = absurd (false≢true (sym u ∙ e))
-record-judged e (a-record {answer} u t) = record { answer = answer; called = t; is = refl }
+pub record-validated : {o : Bool} {n : ℕ} {b b′ : Buffers} {unit : List ℕ} {f : Feed} → o ≡ true → UnitValidated o n b unit f b′ → RecordValidated n b unit f b′
+record-validated e (header u p z) = absurd (false≢true (sym u ∙ e))
+record-validated e (a-record {answer} u t) = record { answer = answer; called = t; is = refl }
 
 -- The record at the front, where `go` says what comes of the others.
 after-record : {K : ℕ} {s : State} {b b₁ b₂ : Buffers} {f₁ f₂ : Feed} (n k : ℕ) (unit rest bytes : List ℕ) → Holds K s b → bytes ≡ unit ++ rest
-    → length unit ≡ recordSize → more k ≡ suc n → (j : RecordJudged k b unit f₁ b₁)
-    → (j .answer ≡ 0 → After K (judge K (step K s unit .state) (suc n) (recordsOf rest)) rest f₂ b₁ b₂) → Fed f₁ b₁ rest f₂ b₂
-    → After K (judge K s n (recordsOf bytes)) bytes f₂ b b₂
+    → length unit ≡ recordSize → more k ≡ suc n → (j : RecordValidated k b unit f₁ b₁)
+    → (j .answer ≡ 0 → After K (validate K (step K s unit .state) (suc n) (recordsOf rest)) rest f₂ b₁ b₂) → Fed f₁ b₁ rest f₂ b₂
+    → After K (validate K s n (recordsOf bytes)) bytes f₂ b b₂
 after-record {b₁ = b₁} n k unit rest bytes H w d c j go r =
     rw w
     (elim (ℕ-discrete (j .answer) 0) [
@@ -170,15 +170,15 @@ room-for n unit rest bytes w d h =
     (omega arith, omega arith)
 
 pub records-fed : {K : ℕ} {s : State} {f f′ : Feed} {b b′ : Buffers} {bytes : List ℕ} (n : ℕ) → Holds K s b → f .answer ≡ 0 → f .opened ≡ true
-    → f .loose ≡ [] → f .number ≡ n → n + length bytes < 2 ^ 64 → Fed f b bytes f′ b′ → After K (judge K s n (recordsOf bytes)) bytes f′ b b′
+    → f .loose ≡ [] → f .number ≡ n → n + length bytes < 2 ^ 64 → Fed f b bytes f′ b′ → After K (validate K s n (recordsOf bytes)) bytes f′ b b′
 records-fed n H e o i m h (stopped x) = absurd (x e)
 records-fed {bytes = bytes} n H e o i m h (kept y k) = after-none n H e o i m bytes k
-records-fed {f = f} {bytes = bytes} n H e o i m h (judged {f₁ = f₁} {b₁ = b₁} unit rest y q l j r) =
+records-fed {f = f} {bytes = bytes} n H e o i m h (completed {f₁ = f₁} {b₁ = b₁} unit rest y q l j r) =
     let w : bytes ≡ unit ++ rest = ap (λ (x : List ℕ). x ++ bytes) (sym i) ∙ q in
     let d : length unit ≡ recordSize = l ∙ ap unitSize o in
     let z = room-for n unit rest bytes w d h in
     let c : more (f .number) ≡ suc n = counted-one n m (z .0) in
-    let g = record-judged o j in
+    let g = record-validated o j in
     after-record n (f .number) unit rest bytes H w d c g
     (λ x. records-fed (suc n) (step-holds H (validated-by H {b′ = b₁} (g .called)))
     (ap (λ (v : Feed). v .answer) (g .is) ∙ x) (ap (λ (v : Feed). v .opened) (g .is)) (ap (λ (v : Feed). v .loose) (g .is))
@@ -187,11 +187,11 @@ records-fed {f = f} {bytes = bytes} n H e o i m h (judged {f₁ = f₁} {b₁ = 
 
 -- ---- The end behind records.
 
-few-judged : (K : ℕ) (s : State) (n : ℕ) (rs : List Bytes) → judge K s n rs .at ≤ n + length rs
-few-judged K s n [] = omega arith
-few-judged K s n (r ∷ rs) = elim (ℕ-discrete (number (step K s r .answer)) 0) [
-  | yes e ↦ let h = few-judged K (step K s r .state) (suc n) rs in rw (judge-on K s n r rs e) (omega arith)
-  | no m ↦ rw (judge-stops K s n r rs m) (omega arith)
+few-validated : (K : ℕ) (s : State) (n : ℕ) (rs : List Bytes) → validate K s n rs .at ≤ n + length rs
+few-validated K s n [] = omega arith
+few-validated K s n (r ∷ rs) = elim (ℕ-discrete (number (step K s r .answer)) 0) [
+  | yes e ↦ let h = few-validated K (step K s r .state) (suc n) rs in rw (validate-on K s n r rs e) (omega arith)
+  | no m ↦ rw (validate-stops K s n r rs m) (omega arith)
 ]
 
 short-one : (loose : List ℕ) → 0 < length loose → shortRecord true loose ≡ loose ∷ []
@@ -205,26 +205,26 @@ pub record AtEnd (o : Outcome) (f : Feed) : Type 0 where
 
 -- The outcome with the end, where o is that without it.
 abbrev withEnd : ℕ → State → ℕ → List ℕ → Outcome
-withEnd K s n bytes = judge K s n (recordsOf bytes ++ shortRecord true (looseOf bytes))
+withEnd K s n bytes = validate K s n (recordsOf bytes ++ shortRecord true (looseOf bytes))
 
 module _ (K : ℕ) (s : State) (n : ℕ) (bytes : List ℕ) {f : Feed} {b b₁ : Buffers} (h : n + length bytes < 2 ^ 64)
-    (A : After K (judge K s n (recordsOf bytes)) bytes f b b₁) where
-  same-end : withEnd K s n bytes ≡ judge K s n (recordsOf bytes) → AtEnd (withEnd K s n bytes) f × LeftBy K (withEnd K s n bytes) b b₁
+    (A : After K (validate K s n (recordsOf bytes)) bytes f b b₁) where
+  same-end : withEnd K s n bytes ≡ validate K s n (recordsOf bytes) → AtEnd (withEnd K s n bytes) f × LeftBy K (withEnd K s n bytes) b b₁
   same-end e = rw e (record { answer-is = A .tells .answer-is; number-is = A .tells .number-is }, A .left)
 
-  short-end : {f₂ : Feed} {b₂ : Buffers} → f .answer ≡ 0 → 0 < length (f .loose) → RecordJudged (f .number) b₁ (f .loose) f₂ b₂
+  short-end : {f₂ : Feed} {b₂ : Buffers} → f .answer ≡ 0 → 0 < length (f .loose) → RecordValidated (f .number) b₁ (f .loose) f₂ b₂
       → AtEnd (withEnd K s n bytes) f₂ × LeftBy K (withEnd K s n bytes) b b₂
   short-end {f₂} {b₂} e l j =
-      let o = judge K s n (recordsOf bytes) in
+      let o = validate K s n (recordsOf bytes) in
       let z : o .answer ≡ 0 = sym (A .tells .answer-is) ∙ e in
       let v = validated-by (A .holds) {b′ = b₂} (j .called) in
       let x : f .loose ≡ looseOf bytes = A .tells .loose-is z in
       let q : withEnd K s n bytes ≡ record { answer = number (step K (o .state) (f .loose) .answer); at = suc (o .at); state = step K (o .state) (f .loose) .state } =
-      judge-more K s n (recordsOf bytes) (shortRecord true (looseOf bytes)) z
-      ∙ ap (λ (t : List ℕ). judge K (o .state) (o .at) (shortRecord true t)) (sym x)
-      ∙ ap (judge K (o .state) (o .at)) (short-one (f .loose) l)
-      ∙ judge-last K (o .state) (o .at) (f .loose) in
-      let r = few-judged K s n (recordsOf bytes) in
+      validate-more K s n (recordsOf bytes) (shortRecord true (looseOf bytes)) z
+      ∙ ap (λ (t : List ℕ). validate K (o .state) (o .at) (shortRecord true t)) (sym x)
+      ∙ ap (validate K (o .state) (o .at)) (short-one (f .loose) l)
+      ∙ validate-last K (o .state) (o .at) (f .loose) in
+      let r = few-validated K s n (recordsOf bytes) in
       let y : length (f .loose) ≡ length (looseOf bytes) = ap length x in
       let c : more (f .number) ≡ suc (o .at) = counted-one (o .at) (A .tells .number-is) (omega (arith, cut-length bytes)) in
       rw q (
@@ -236,12 +236,12 @@ module _ (K : ℕ) (s : State) (n : ℕ) (bytes : List ℕ) {f : Feed} {b b₁ :
       )
 
   pub ended-after : {f₂ : Feed} {b₂ : Buffers} → Ended f b₁ f₂ b₂ → AtEnd (withEnd K s n bytes) f₂ × LeftBy K (withEnd K s n bytes) b b₂
-  ended-after (stands x) = same-end (judge-stopped K s n (recordsOf bytes) (shortRecord true (looseOf bytes)) (λ z. x (A .tells .answer-is ∙ z)))
+  ended-after (stands x) = same-end (validate-stopped K s n (recordsOf bytes) (shortRecord true (looseOf bytes)) (λ z. x (A .tells .answer-is ∙ z)))
   ended-after (no-header e u) = absurd (false≢true (sym u ∙ A .tells .opened-is))
   ended-after (between e u l) =
       let x : looseOf bytes ≡ [] = sym (A .tells .loose-is (sym (A .tells .answer-is) ∙ e)) ∙ l in
-      same-end (ap (λ (t : List ℕ). judge K s n (recordsOf bytes ++ shortRecord true t)) x ∙ ap (judge K s n) (append-nil (recordsOf bytes)))
-  ended-after (short e u l j) = short-end e l (record-judged refl j)
+      same-end (ap (λ (t : List ℕ). validate K s n (recordsOf bytes ++ shortRecord true t)) x ∙ ap (validate K s n) (append-nil (recordsOf bytes)))
+  ended-after (short e u l j) = short-end e l (record-validated refl j)
 
 -- ---- A slip that is too short.
 
@@ -259,7 +259,7 @@ refuse-answer [] e = omega arith
 refuse-answer (r ∷ rs) e = omega arith
 
 module _ {b : Buffers} (u : fitsAll (b .desk) (b .sheet) (b .slip) ≡ false) where
-  refused-record : {n : ℕ} {unit : List ℕ} {f : Feed} {b′ : Buffers} → n ≡ 0 → RecordJudged n b unit f b′ → (f ≡ unitBegun unfit true 1) × (b′ ≡ b)
+  refused-record : {n : ℕ} {unit : List ℕ} {f : Feed} {b′ : Buffers} → n ≡ 0 → RecordValidated n b unit f b′ → (f ≡ unitBegun unfit true 1) × (b′ ≡ b)
   refused-record {b′ = b′} z j =
       let v = j .called .is-unfit u in
       (j .is ∙ ap₂ (λ (a m : ℕ). unitBegun a true m) (v .0) (counted-one 0 z (omega arith)), same-buffers b b′ (v .1) (v .2) (v .3))
@@ -274,10 +274,10 @@ module _ {b : Buffers} (u : fitsAll (b .desk) (b .sheet) (b .slip) ≡ false) wh
             (record { answer-is = e; number-is = m; opened-is = o; loose-is = λ _. ap (λ (t : List ℕ). t ++ bytes) i ∙ sym (all-loose bytes l) }),
         refl,
       )
-  tight-fed {bytes = bytes} e o i m (judged unit rest y q l j r) =
+  tight-fed {bytes = bytes} e o i m (completed unit rest y q l j r) =
       let w : bytes ≡ unit ++ rest = ap (λ (x : List ℕ). x ++ bytes) (sym i) ∙ q in
       let d : length unit ≡ recordSize = l ∙ ap unitSize o in
-      let g = refused-record m (record-judged o j) in
+      let g = refused-record m (record-validated o j) in
       let x = takes-nothing (λ z. absurd (let a = ap (λ (v : Feed). v .answer) (g .0) in omega arith)) r in (
         rw (x .0, g .0, w, first-record unit rest d)
             (record { answer-is = refl; number-is = refl; opened-is = refl; loose-is = λ z. absurd (omega arith) }),
@@ -298,5 +298,5 @@ module _ {b : Buffers} (u : fitsAll (b .desk) (b .sheet) (b .slip) ≡ false) wh
       by [] t (no-header e o) = absurd (false≢true (sym o ∙ t .opened-is))
       by [] t (between e o l) = (rw (← t .loose-is refl, l) (record { answer-is = t .answer-is; number-is = t .number-is }), refl)
       by {f} [] t (short e o l j) =
-          let g = refused-record (t .number-is) (record-judged refl j) in
+          let g = refused-record (t .number-is) (record-validated refl j) in
           (rw (← t .loose-is refl, short-one (f .loose) l, g .0) (record { answer-is = refl; number-is = refl }), g .1)

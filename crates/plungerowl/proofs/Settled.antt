@@ -20,7 +20,7 @@ use Rattle.validator.specs.Calls.{Buffers, Called}
 use Rattle.progress.specs.Feed.{Feed, feedSize, view, fits}
 use Rattle.progress.specs.Code.{unitBegun, withPart}
 use Rattle.progress.proofs.Kept.{bytes-back}
-use Rattle.feed.specs.Fed.{more, Judged, header, a-record, Fed, stopped, kept, judged, Ended, stands, no-header, between, short}
+use Rattle.feed.specs.Fed.{more, UnitValidated, header, a-record, Fed, stopped, kept, completed, Ended, stands, no-header, between, short}
 use Rattle.feed.specs.Calls.{holding, Started, FeedCall, FedPiece, FedEnd}
 use Rattle.plungerowl.specs.Demands.{SameStep}
 use Rattle.plungerowl.specs.Logs.{classesIn, LeftBy, WholeLog, short-header, bad-header, by-rules, joined, FeedRan, LastCall, Repeated, SameFeed}
@@ -40,16 +40,16 @@ record Same (f f′ : Feed) (b b′ : Buffers) : Type 0 where
 same-all : (f : Feed) (b : Buffers) → Same f f b b
 same-all f b = record { feed-is = refl; step = same-step (f .answer) b }
 
-judged-settles : {o : Bool} {n : ℕ} {b b₁ b₂ : Buffers} {u : List ℕ} {f₁ f₂ : Feed} → Judged o n b u f₁ b₁ → Judged o n b u f₂ b₂ → Same f₁ f₂ b₁ b₂
-judged-settles {n = n} (header {answer = x} {b′ = b₁} e p s) (header {answer = y} {b′ = b₂} e′ q r) =
+unit-settles : {o : Bool} {n : ℕ} {b b₁ b₂ : Buffers} {u : List ℕ} {f₁ f₂ : Feed} → UnitValidated o n b u f₁ b₁ → UnitValidated o n b u f₂ b₂ → Same f₁ f₂ b₁ b₂
+unit-settles {n = n} (header {answer = x} {b′ = b₁} e p s) (header {answer = y} {b′ = b₂} e′ q r) =
     let a : x ≡ y = p .answer ∙ sym (q .answer) in
     record {
       feed-is = ap (λ (k : ℕ). unitBegun k (eqb k 0) n) a;
       step = record { number-is = a; desk-is = p .desk ∙ sym (q .desk); sheet-is = p .sheet ∙ sym (q .sheet); slip-is = λ _. s ∙ sym r };
     }
-judged-settles (header e p s) (a-record e′ t) = absurd (false≢true (sym e ∙ e′))
-judged-settles (a-record e t) (header e′ p s) = absurd (false≢true (sym e′ ∙ e))
-judged-settles {n = n} {b = b} (a-record {b′ = b₁} e t) (a-record {b′ = b₂} e′ t′) =
+unit-settles (header e p s) (a-record e′ t) = absurd (false≢true (sym e ∙ e′))
+unit-settles (a-record e t) (header e′ p s) = absurd (false≢true (sym e′ ∙ e))
+unit-settles {n = n} {b = b} (a-record {b′ = b₁} e t) (a-record {b′ = b₂} e′ t′) =
     let s = step-settles {b = b} {b₁ = b₁} {b₂ = b₂} t t′ in
     record { feed-is = ap (λ (k : ℕ). unitBegun k true (more n)) (s .number-is); step = s }
 
@@ -78,29 +78,29 @@ kept-settles : {f g : Feed} {b c : Buffers} {bytes : List ℕ} → f .answer ≡
     → Same (withPart f bytes) g b c
 kept-settles e h (stopped n) = absurd (n e)
 kept-settles {f} {b = b} {bytes = bytes} e h (kept e′ h′) = same-all (withPart f bytes) b
-kept-settles e h (judged unit rest e′ q l j r) = absurd (let n = ap length q ∙ length-append unit rest in omega arith)
+kept-settles e h (completed unit rest e′ q l j r) = absurd (let n = ap length q ∙ length-append unit rest in omega arith)
 
-judged-then : {f f₁ g₁ g₂ : Feed} {b b₁ c₁ c₂ : Buffers} {bytes unit rest : List ℕ} → f .answer ≡ 0 → f .loose ++ bytes ≡ unit ++ rest
-    → length unit ≡ unitSize (f .opened) → Judged (f .opened) (f .number) b unit f₁ b₁ → Fed f₁ b₁ rest g₁ c₁
+unit-then : {f f₁ g₁ g₂ : Feed} {b b₁ c₁ c₂ : Buffers} {bytes unit rest : List ℕ} → f .answer ≡ 0 → f .loose ++ bytes ≡ unit ++ rest
+    → length unit ≡ unitSize (f .opened) → UnitValidated (f .opened) (f .number) b unit f₁ b₁ → Fed f₁ b₁ rest g₁ c₁
     → ((g : Feed) (c : Buffers) → Fed f₁ b₁ rest g c → Same g₁ g c₁ c) → Fed f b bytes g₂ c₂ → Same g₁ g₂ c₁ c₂
-judged-then e q l j r go (stopped n) = absurd (n e)
-judged-then {unit = unit} {rest} e q l j r go (kept e′ h) = absurd (let n = ap length q ∙ length-append unit rest in omega arith)
-judged-then {f} {g₂ = g₂} {b = b} {c₂ = c₂} {unit = unit} {rest} e q l j r go (judged {f₁ = f₂} {b₁ = b₂} unit′ rest′ e′ q′ l′ j′ r′) =
+unit-then e q l j r go (stopped n) = absurd (n e)
+unit-then {unit = unit} {rest} e q l j r go (kept e′ h) = absurd (let n = ap length q ∙ length-append unit rest in omega arith)
+unit-then {f} {g₂ = g₂} {b = b} {c₂ = c₂} {unit = unit} {rest} e q l j r go (completed {f₁ = f₂} {b₁ = b₂} unit′ rest′ e′ q′ l′ j′ r′) =
     let s = same-front unit unit′ rest rest′ (unitSize (f .opened)) (sym q ∙ q′) l l′ in
-    after-same (judged-settles j (subst (λ (u : List ℕ). Judged (f .opened) (f .number) b u f₂ b₂) (sym (s .0)) j′)) r
+    after-same (unit-settles j (subst (λ (u : List ℕ). UnitValidated (f .opened) (f .number) b u f₂ b₂) (sym (s .0)) j′)) r
     (subst (λ (x : List ℕ). Fed f₂ b₂ x g₂ c₂) (sym (s .1)) r′) go
 
 fed-settles : {f g₁ g₂ : Feed} {b c₁ c₂ : Buffers} {bytes : List ℕ} → Fed f b bytes g₁ c₁ → Fed f b bytes g₂ c₂ → Same g₁ g₂ c₁ c₂
 fed-settles {f} {b = b} (stopped n) w = let x = takes-nothing n w in rw (x .0, x .1) (same-all f b)
 fed-settles (kept e h) w = kept-settles e h w
-fed-settles (judged unit rest e q l j r) w = judged-then e q l j r (λ g c z. fed-settles r z) w
+fed-settles (completed unit rest e q l j r) w = unit-then e q l j r (λ g c z. fed-settles r z) w
 
-short-settles : {f f₁ g : Feed} {b c₁ c₂ : Buffers} → f .answer ≡ 0 → f .opened ≡ true → 0 < length (f .loose) → Judged true (f .number) b (f .loose) f₁ c₁
+short-settles : {f f₁ g : Feed} {b c₁ c₂ : Buffers} → f .answer ≡ 0 → f .opened ≡ true → 0 < length (f .loose) → UnitValidated true (f .number) b (f .loose) f₁ c₁
     → Ended f b g c₂ → Same f₁ g c₁ c₂
 short-settles e o l j (stands n) = absurd (n e)
 short-settles e o l j (no-header e′ o′) = absurd (false≢true (sym o′ ∙ o))
 short-settles e o l j (between e′ o′ l′) = absurd (let n = ap length l′ in omega arith)
-short-settles e o l j (short e′ o′ l′ j′) = judged-settles j j′
+short-settles e o l j (short e′ o′ l′ j′) = unit-settles j j′
 
 opened-settles : {f g : Feed} {b c : Buffers} → f .answer ≡ 0 → f .opened ≡ true → f .loose ≡ [] → Ended f b g c → Same f g b c
 opened-settles e o l (stands n) = absurd (n e)

@@ -12,7 +12,7 @@ use borrow.Author.Tests.{le-leb, lt-leb}
 use Rattle.rules.specs.Record.{Bytes}
 use Rattle.rules.specs.Verdict.{badOpening}
 use Rattle.rules.specs.Run.{State, start}
-use Rattle.rules.specs.Log.{headerSize, headerClasses, recordsOf, looseOf, shortRecord, Outcome, judge}
+use Rattle.rules.specs.Log.{headerSize, headerClasses, recordsOf, looseOf, shortRecord, Outcome, validate}
 use Rattle.layout.specs.Layout.{slipSize, classesOf}
 use Rattle.layout.specs.Fit.{fits, fitsAll}
 use Rattle.opening.specs.Open.{Opened, opens, openedDesk, openedSheet}
@@ -20,7 +20,7 @@ use Rattle.validator.specs.Calls.{Buffers}
 use Rattle.validity.proofs.Kept.{valid-start}
 use Rattle.progress.specs.Feed.{Feed, fresh}
 use Rattle.progress.specs.Code.{unitBegun, withPart}
-use Rattle.feed.specs.Fed.{Judged, header, a-record, Fed, stopped, kept, judged, Ended, stands, no-header, between, short}
+use Rattle.feed.specs.Fed.{UnitValidated, header, a-record, Fed, stopped, kept, completed, Ended, stands, no-header, between, short}
 use Rattle.plungerowl.specs.Logs.{classesIn, recordsIn, refuseFirst, outcomeFor, LeftBy, WholeLog, short-header, bad-header, by-rules}
 use Rattle.plungerowl.proofs.Runs.{Holds, opened-true, OpenedAs, opened-as}
 use Rattle.plungerowl.proofs.Logs.{Tells, After, AtEnd, takes-nothing, same-buffers, left-then, refuse-state, refuse-answer, records-fed, ended-after, tight-fed, tight-ended}
@@ -33,15 +33,15 @@ repeats n (between e o l) = absurd (n e)
 repeats n (short e o l j) = absurd (n e)
 
 -- What the header comes to.
-record HeaderJudged (b : Buffers) (unit : List ℕ) (f : Feed) (b′ : Buffers) : Type 0 where
+record HeaderOpened (b : Buffers) (unit : List ℕ) (f : Feed) (b′ : Buffers) : Type 0 where
   answer : ℕ
   opened : Opened (headerClasses unit) (b .desk) (b .sheet) answer (b′ .desk) (b′ .sheet)
   slip-is : b′ .slip ≡ b .slip
   is : f ≡ unitBegun answer (eqb answer 0) 0
 
-header-judged : {o : Bool} {n : ℕ} {b b′ : Buffers} {unit : List ℕ} {f : Feed} → o ≡ false → n ≡ 0 → Judged o n b unit f b′ → HeaderJudged b unit f b′
-header-judged e z (header {answer} u p s) = record { answer = answer; opened = p; slip-is = s; is = ap (unitBegun answer (eqb answer 0)) z }
-header-judged e z (a-record u t) = absurd (false≢true (sym e ∙ u))
+header-opened : {o : Bool} {n : ℕ} {b b′ : Buffers} {unit : List ℕ} {f : Feed} → o ≡ false → n ≡ 0 → UnitValidated o n b unit f b′ → HeaderOpened b unit f b′
+header-opened e z (header {answer} u p s) = record { answer = answer; opened = p; slip-is = s; is = ap (unitBegun answer (eqb answer 0)) z }
+header-opened e z (a-record u t) = absurd (false≢true (sym e ∙ u))
 
 -- What the bytes of a log leave of a fresh feed and of the buffers, by how far the header led.
 pub data LogFed (b : Buffers) (K : ℕ) (rest : List ℕ) : Feed → Buffers → Type 0 where
@@ -49,7 +49,7 @@ pub data LogFed (b : Buffers) (K : ℕ) (rest : List ℕ) : Feed → Buffers →
   tight : {f : Feed} {b₁ : Buffers} → Opened K (b .desk) (b .sheet) 0 (b₁ .desk) (b₁ .sheet) → b₁ .slip ≡ b .slip → length (b .slip) < slipSize K
       → fitsAll (b₁ .desk) (b₁ .sheet) (b₁ .slip) ≡ false → Tells (refuseFirst (recordsOf rest)) rest f → LogFed b K rest f b₁
   running : {f : Feed} {b₁ b₂ : Buffers} → Opened K (b .desk) (b .sheet) 0 (b₁ .desk) (b₁ .sheet) → b₁ .slip ≡ b .slip → slipSize K ≤ length (b .slip)
-      → After K (judge K start 0 (recordsOf rest)) rest f b₁ b₂ → LogFed b K rest f b₂
+      → After K (validate K start 0 (recordsOf rest)) rest f b₁ b₂ → LogFed b K rest f b₂
 
 slip-short : {b b₁ : Buffers} (K : ℕ) → OpenedAs K (b .desk) (b .sheet) (b₁ .desk) (b₁ .sheet) → b₁ .slip ≡ b .slip → length (b .slip) < slipSize K
     → fitsAll (b₁ .desk) (b₁ .sheet) (b₁ .slip) ≡ false
@@ -72,7 +72,7 @@ opened-fed {b} {b₁} K rest small p s r =
           (records-fed 0 (record { some = F .some; few = F .few; valid = valid-start K; stands = F .stands; room = rw s room }) refl refl refl refl (omega arith) r)
     ]
 
-header-fed : {b b₁ b′ : Buffers} {f₁ f : Feed} (unit rest : List ℕ) → length rest < 2 ^ 64 → HeaderJudged b unit f₁ b₁ → Fed f₁ b₁ rest f b′
+header-fed : {b b₁ b′ : Buffers} {f₁ f : Feed} (unit rest : List ℕ) → length rest < 2 ^ 64 → HeaderOpened b unit f₁ b₁ → Fed f₁ b₁ rest f b′
     → LogFed b (headerClasses unit) rest f b′
 header-fed {b} {b₁} {b′} {f₁} {f} unit rest small j r = by (opens K (b .desk) (b .sheet)) refl
   where
@@ -119,13 +119,13 @@ module _ (b : Buffers) (log : List ℕ) (ended : Bool) (h : headerSize ≤ lengt
       })
 
   running-whole : {b₁ b₂ : Buffers} (rs : List Bytes) (f : Feed) → Opened (classesIn log) (b .desk) (b .sheet) 0 (b₁ .desk) (b₁ .sheet)
-      → b₁ .slip ≡ b .slip → slipSize (classesIn log) ≤ length (b .slip) → rs ≡ recordsIn log ended → f .answer ≡ judge (classesIn log) start 0 rs .answer
-      → f .number ≡ judge (classesIn log) start 0 rs .at → LeftBy (classesIn log) (judge (classesIn log) start 0 rs) b₁ b₂
+      → b₁ .slip ≡ b .slip → slipSize (classesIn log) ≤ length (b .slip) → rs ≡ recordsIn log ended → f .answer ≡ validate (classesIn log) start 0 rs .answer
+      → f .number ≡ validate (classesIn log) start 0 rs .at → LeftBy (classesIn log) (validate (classesIn log) start 0 rs) b₁ b₂
       → WholeLog b log ended (f .answer) (f .number) b₂
   running-whole {b₁} rs f p s l q a n w =
       let F = opened-as p in
-      outcome-whole (judge (classesIn log) start 0 rs) f (opened-true p)
-      (ap (judge (classesIn log) start 0) q
+      outcome-whole (validate (classesIn log) start 0 rs) f (opened-true p)
+      (ap (validate (classesIn log) start 0) q
       ∙ ap (λ (t : Bool). outcomeFor (classesIn log) t (recordsIn log ended)) (sym (le-leb (slipSize (classesIn log)) (length (b .slip)) l))) a n
       (left-then {o = record { answer = 0; at = 0; state = start }} {b₁ = b₁}
       (record {
@@ -161,17 +161,17 @@ ended-whole {f₂ = f₂} b log h k (running {b₁ = b₁} p s l a) w =
 
 -- The header is the first four bytes, and the records are behind it.
 behind-header : {b b₁ b′ : Buffers} {f₁ f : Feed} (log unit rest : List ℕ) → length log < 2 ^ 64 → log ≡ unit ++ rest → length unit ≡ headerSize
-    → Judged false 0 b unit f₁ b₁ → Fed f₁ b₁ rest f b′ → (headerSize ≤ length log) × LogFed b (classesIn log) (drop headerSize log) f b′
+    → UnitValidated false 0 b unit f₁ b₁ → Fed f₁ b₁ rest f b′ → (headerSize ≤ length log) × LogFed b (classesIn log) (drop headerSize log) f b′
 behind-header {b} {b′ = b′} {f = f} log unit rest small w l j r =
     let n : length log ≡ length unit + length rest = ap length w ∙ length-append unit rest in
     let k : headerClasses unit ≡ classesIn log = ap headerClasses (sym (ap (take headerSize) w ∙ take-at unit rest headerSize l)) in
     let d : rest ≡ drop headerSize log = sym (ap (drop headerSize) w ∙ drop-at unit rest headerSize l) in
-    (omega arith, subst₂ (λ (K : ℕ) (x : List ℕ). LogFed b K x f b′) k d (header-fed unit rest (omega arith) (header-judged refl refl j) r))
+    (omega arith, subst₂ (λ (K : ℕ) (x : List ℕ). LogFed b K x f b′) k d (header-fed unit rest (omega arith) (header-opened refl refl j) r))
 
 pub log-going : {b b′ : Buffers} {f : Feed} {log : List ℕ} → length log < 2 ^ 64 → Fed fresh b log f b′ → WholeLog b log false (f .answer) (f .number) b′
 log-going small (stopped x) = absurd (x refl)
 log-going small (kept y k) = short-header k
-log-going {b} {log = log} small (judged unit rest y q l j r) = let x = behind-header log unit rest small q l j r in fed-whole b log (x .0) (x .1)
+log-going {b} {log = log} small (completed unit rest y q l j r) = let x = behind-header log unit rest small q l j r in fed-whole b log (x .0) (x .1)
 
 short-ended : {f₂ : Feed} {b b₂ : Buffers} (log : List ℕ) → length log < headerSize → Ended (withPart fresh log) b f₂ b₂
     → WholeLog b log true (f₂ .answer) (f₂ .number) b₂
@@ -184,4 +184,4 @@ pub log-ended : {b b₁ b₂ : Buffers} {f f₂ : Feed} {log : List ℕ} → len
     → WholeLog b log true (f₂ .answer) (f₂ .number) b₂
 log-ended small (stopped x) w = absurd (x refl)
 log-ended {log = log} small (kept y k) w = short-ended log k w
-log-ended {b} {log = log} small (judged unit rest y q l j r) w = let x = behind-header log unit rest small q l j r in ended-whole b log (x .0) small (x .1) w
+log-ended {b} {log = log} small (completed unit rest y q l j r) w = let x = behind-header log unit rest small q l j r in ended-whole b log (x .0) small (x .1) w

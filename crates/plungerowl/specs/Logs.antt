@@ -9,7 +9,7 @@ use lib.ListN.{length, take, drop}
 use Rattle.rules.specs.Record.{Bytes}
 use Rattle.rules.specs.Verdict.{closed, malformed, refusalNumber, badOpening, unfit}
 use Rattle.rules.specs.Run.{start}
-use Rattle.rules.specs.Log.{headerSize, headerClasses, recordsOf, looseOf, shortRecord, Outcome, judge}
+use Rattle.rules.specs.Log.{headerSize, headerClasses, recordsOf, looseOf, shortRecord, Outcome, validate}
 use Rattle.layout.specs.Layout.{deskSize, sheetSize, slipSize, KeepsPast}
 use Rattle.layout.specs.Decoding.{StandFor}
 use Rattle.opening.specs.Open.{opens}
@@ -34,9 +34,9 @@ abbrev pub refuseFirst : List Bytes → Outcome
 refuseFirst [] = record { answer = 0; at = 0; state = start }
 refuseFirst (r ∷ rs) = record { answer = unfit; at = 1; state = start }
 
--- The records are judged by the rules, from the state that opening gives.
+-- The records are validated by the rules, from the state that opening gives.
 abbrev pub outcomeFor : (K : ℕ) (room : Bool) → List Bytes → Outcome
-outcomeFor K true rs = judge K start 0 rs
+outcomeFor K true rs = validate K start 0 rs
 outcomeFor K false rs = refuseFirst rs
 
 -- The buffers then: desk and sheet stand for the rules' state, and no byte past the sizes is touched; the slip is written with a fault only.
@@ -48,7 +48,7 @@ pub record LeftBy (K : ℕ) (o : Outcome) (b b′ : Buffers) : Type 0 where
   pub reported : o .answer ≡ 1 → Reported K (o .state .graph) (b .slip) (b′ .slip)
 
 -- The whole log: a short header is refused at the end and not before, a bad one or too little room for opening at once, each with 2 at record 0 and
--- nothing changed; behind a good one the records are judged, up to the first answer but 0.
+-- nothing changed; behind a good one the records are completed, up to the first answer but 0.
 pub data WholeLog (b : Buffers) (log : List ℕ) (ended : Bool) : (answer number : ℕ) → Buffers → Type 0 where
   short-header : length log < headerSize → WholeLog b log ended (cond ended badOpening 0) 0 b
   bad-header : headerSize ≤ length log → opens (classesIn log) (b .desk) (b .sheet) ≡ false → WholeLog b log ended badOpening 0 b

@@ -54,7 +54,7 @@ pub extern "C" fn plungerowl_feed_start(feed: &mut [u8]) -> u8
     feed::start(feed)
 }
 
-// Feeds a piece of the log. With answer 0 `record` is the number of records judged so far, else that of the record that got the answer.
+// Feeds a piece of the log. With answer 0 `record` is the number of records validated so far, else that of the record that got the answer.
 #[no_mangle]
 pub extern "C" fn plungerowl_feed(
     feed: &mut [u8],

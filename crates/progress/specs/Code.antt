@@ -15,7 +15,7 @@ feedOf p = record { answer = p .answer; opened = p .opened; loose = take (p .cou
 abbrev pub Counted : Progress → Type 0
 Counted p = p .count ≡ length (feedOf p .loose)
 
--- A unit was judged, and the next has no byte yet.
+-- A unit was validated, and the next has no byte yet.
 abbrev pub unitBegun : (answer : ℕ) (opened : Bool) (number : ℕ) → Feed
 unitBegun answer opened number = record { answer = answer; opened = opened; loose = []; number = number }
 

@@ -11,7 +11,7 @@ use Rattle.rules.specs.Log.{recordSize, unitSize}
 use Rattle.layout.specs.Fit.{allBelow}
 
 -- How far a feed has come: the standing answer, which is 0 or the first answer but 0; whether the header was complete and opened the desk; the loose
--- bytes of a header or record that is not complete; and the number of records judged, which with an answer but 0 is that of its record (0 is the header).
+-- bytes of a header or record that is not complete; and the number of records validated, which with an answer but 0 is that of its record (0 is the header).
 pub record Feed : Type 0 where
   pub answer : ℕ
   pub opened : Bool

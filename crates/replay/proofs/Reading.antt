@@ -43,7 +43,7 @@ pub record OfLog (b : Buffers) (log : List ℕ) (o : Outcome) (b′ : Buffers) :
   pub answer : ℕ
   pub number : ℕ
   pub outcome-is : o ≡ outcomeOf answer number
-  pub judged : length log < 2 ^ 64 → WholeLog b log true answer number b′
+  pub validated : length log < 2 ^ 64 → WholeLog b log true answer number b′
 
 pub read-whole : {b b′ : Buffers} {o : Outcome} (r : ReadToEnd b o b′) → OfLog b (joined (r .taken .pieces)) o b′
 read-whole {b} {b′} r =
@@ -51,7 +51,7 @@ read-whole {b} {b′} r =
       answer = r .answer;
       number = r .number;
       outcome-is = r .outcome-is;
-      judged = λ small.
+      validated = λ small.
           rw append-nil at (log-in-pieces (r .started) (r .taken .ran) (the-end (r .ended)) (rw append-nil small));
     }
 

@@ -59,8 +59,8 @@ pub record Outcome : Type 0 where
   pub state : State
 
 -- "stops at the first answer but 0", where `before` records were accepted and clean
-abbrev pub judge : ℕ → State → (before : ℕ) → List Bytes → Outcome
-judge K s before [] = record { answer = 0; at = before; state = s }
-judge K s before (r ∷ rs) =
+abbrev pub validate : ℕ → State → (before : ℕ) → List Bytes → Outcome
+validate K s before [] = record { answer = 0; at = before; state = s }
+validate K s before (r ∷ rs) =
     let o = step K s r in
-    cond (eqb (number (o .answer)) 0) (judge K (o .state) (suc before) rs) (record { answer = number (o .answer); at = suc before; state = o .state })
+    cond (eqb (number (o .answer)) 0) (validate K (o .state) (suc before) rs) (record { answer = number (o .answer); at = suc before; state = o .state })

@@ -22,11 +22,11 @@ returns-3 c = (end-between (c .before .before .before .before .before .before .b
 array-share-prefix-unit : tie.Need-array-share-prefix-unit
 array-share-prefix-unit c = counted-within (c .before .before .before .before .before .before .before .before .before .before .before .before .args .p) (c .before .before .before .before .before .before .before .before .before .before .before .before .pre .0)
 
-slice-aggregate-judge : tie.Need-slice-aggregate-judge
-slice-aggregate-judge c = c .before .before .before .before .before .before .before .before .before .before .before .before .before .pre .0
+slice-aggregate-validate-unit : tie.Need-slice-aggregate-validate-unit
+slice-aggregate-validate-unit c = c .before .before .before .before .before .before .before .before .before .before .before .before .before .pre .0
 
-judge-requires : tie.Need-judge-requires
-judge-requires c κs = search needs
+validate-unit-requires : tie.Need-validate-unit-requires
+validate-unit-requires c κs = search needs
 
 same-length : tie.Need-same-length
 same-length c = search needs
@@ -40,7 +40,7 @@ same-length-3 c = search needs
 returns-4 : tie.Need-returns-4
 returns-4 c =
     let a = c .before .before .before .before .before .before .before .before .before .before .before .before .before .before .before .before .before .before .before .before in
-    let j = c .before .before .before .before .before .before .judge .ensures in
+    let j = c .before .before .before .before .before .before .validate-unit .ensures in
     (end-in-record (a .args .p) _ (c .before .before .before .before .before .before .before .before .before .before .before .before .before .before .before .if1 .left) (not-false _ (c .before .before .before .before .before .before .before .before .before .before .before .before .before .if2 .left)) (a .pre .0) (c .before .before .before .before .before .before .before .before .before .before .before .before .if3 .left) (j .0), omega (arith, j .1))
 
 pub take-end-spec : {M : Type 1} → statement M
@@ -52,8 +52,8 @@ take-end-spec =
     returns-2
     returns-3
     array-share-prefix-unit
-    slice-aggregate-judge
-    judge-requires
+    slice-aggregate-validate-unit
+    validate-unit-requires
     same-length
     same-length-2
     same-length-3

@@ -11,8 +11,8 @@ use Rattle.feed.proofs.take_part.Tie as tie
 unit-size-requires : tie.Need-unit-size-requires
 unit-size-requires c κs = search needs
 
-judge-requires : tie.Need-judge-requires
-judge-requires c κs = search needs
+validate-unit-requires : tie.Need-validate-unit-requires
+validate-unit-requires c κs = search needs
 
 same-length : tie.Need-same-length
 same-length c = search needs
@@ -26,7 +26,7 @@ same-length-3 c = search needs
 returns : tie.Need-returns
 returns c =
     let a = c .before .before .before .before .before .before .before .before .before .before .before .before .before .before .before .before in
-    let j = c .before .before .before .before .before .before .judge in
+    let j = c .before .before .before .before .before .before .validate-unit in
     (whole-part (a .args .p) (a .args .part .now) (a .pre .0) (a .pre .1) (c .before .before .before .before .before .before .before .before .before .before .if1 .taken ∙ c .before .before .before .before .before .before .before .before .before .before .before .unit-size .ensures) (j .ensures .0), counted-none (j .result) (j .ensures .1))
 
 with-part-requires : tie.Need-with-part-requires
@@ -40,11 +40,11 @@ returns-2 c =
 array-share-prefix-unit : tie.Need-array-share-prefix-unit
 array-share-prefix-unit c = counted-within (c .before .before .before .before .before .with-part .result) (counted-part (c .before .before .before .before .before .before .before .before .before .before .before .before .args .p) (c .before .before .before .before .before .before .before .before .before .before .before .before .args .part .now) (c .before .before .before .before .before .before .before .before .before .before .before .before .pre .0) (c .before .before .before .before .before .with-part .result) (c .before .before .before .before .before .with-part .ensures .0) (c .before .before .before .before .before .with-part .ensures .1))
 
-slice-aggregate-judge : tie.Need-slice-aggregate-judge
-slice-aggregate-judge c = counted-part (c .before .before .before .before .before .before .before .before .before .before .before .before .before .args .p) (c .before .before .before .before .before .before .before .before .before .before .before .before .before .args .part .now) (c .before .before .before .before .before .before .before .before .before .before .before .before .before .pre .0) (c .before .before .before .before .before .before .with-part .result) (c .before .before .before .before .before .before .with-part .ensures .0) (c .before .before .before .before .before .before .with-part .ensures .1)
+slice-aggregate-validate-unit : tie.Need-slice-aggregate-validate-unit
+slice-aggregate-validate-unit c = counted-part (c .before .before .before .before .before .before .before .before .before .before .before .before .before .args .p) (c .before .before .before .before .before .before .before .before .before .before .before .before .before .args .part .now) (c .before .before .before .before .before .before .before .before .before .before .before .before .before .pre .0) (c .before .before .before .before .before .before .with-part .result) (c .before .before .before .before .before .before .with-part .ensures .0) (c .before .before .before .before .before .before .with-part .ensures .1)
 
-judge-requires-2 : tie.Need-judge-requires-2
-judge-requires-2 c κs = search needs
+validate-unit-requires-2 : tie.Need-validate-unit-requires-2
+validate-unit-requires-2 c κs = search needs
 
 same-length-4 : tie.Need-same-length-4
 same-length-4 c = search needs
@@ -57,7 +57,7 @@ same-length-6 c = search needs
 
 returns-3 : tie.Need-returns-3
 returns-3 c =
-    let j = c .before .before .before .before .before .before .judge2 in
+    let j = c .before .before .before .before .before .before .validate-unit2 in
     let e : c .before .before .before .before .before .before .before .before .before .before .before .before .before .with-part .result .count ≡ unitSize (c .before .before .before .before .before .before .before .before .before .before .before .before .before .before .before .before .before .before .before .before .args .p .opened) = omega (arith, c .before .before .before .before .before .before .before .before .before .before .before .before .if2 .left, c .before .before .before .before .before .before .before .before .before .before .before .before .before .with-part .ensures .1, c .before .before .before .before .before .before .before .before .before .before .before .before .before .before .before .unit-size .ensures, c .before .before .before .before .before .before .before .before .before .before .before .before .before .before .before .before .before .before .before .before .pre .1) in
     (part-completes (c .before .before .before .before .before .before .before .before .before .before .before .before .before .before .before .before .before .before .before .before .args .p) (c .before .before .before .before .before .before .before .before .before .before .before .before .before .before .before .before .before .before .before .before .args .part .now) (c .before .before .before .before .before .before .before .before .before .before .before .before .before .before .before .before .before .before .before .before .pre .0) (c .before .before .before .before .before .before .before .before .before .before .before .before .before .with-part .result) (c .before .before .before .before .before .before .before .before .before .before .before .before .before .with-part .ensures .0) (c .before .before .before .before .before .before .before .before .before .before .before .before .before .with-part .ensures .1) e (j .ensures .0), counted-none (j .result) (j .ensures .1))
 
@@ -66,7 +66,7 @@ take-part-spec =
     tie.close
     (tie.spec
     unit-size-requires
-    judge-requires
+    validate-unit-requires
     same-length
     same-length-2
     same-length-3
@@ -74,8 +74,8 @@ take-part-spec =
     with-part-requires
     returns-2
     array-share-prefix-unit
-    slice-aggregate-judge
-    judge-requires-2
+    slice-aggregate-validate-unit
+    validate-unit-requires-2
     same-length-4
     same-length-5
     same-length-6

@@ -1,9 +1,9 @@
--- `feed::judge` meets its contract: a record, or the header. Assumes nothing.
+-- `feed::validate_unit` meets its contract: a record, or the header. Assumes nothing.
 use mathlib.Core.Path.{refl}
 use Rattle.feed.proofs.Turns.{is-record, is-header}
 use borrow.Author.Needs.{needs}
-use Rattle.feed.proofs.judge.Statement.{statement}
-use Rattle.feed.proofs.judge.Tie as tie
+use Rattle.feed.proofs.validate_unit.Statement.{statement}
+use Rattle.feed.proofs.validate_unit.Tie as tie
 
 step-requires : tie.Need-step-requires
 step-requires c κs = search needs
@@ -44,8 +44,8 @@ same-length-5 c = search needs
 returns-2 : tie.Need-returns-2
 returns-2 c = (is-header _ _ (c .before .before .before .before .before .before .before .before .before .if1 .left) (c .before .before .before .before .before .before .before .before .header-classes .ensures) (c .before .before .before .before .before .«open» .ensures) refl (c .between-units2 .ensures .0), c .between-units2 .ensures .1)
 
-pub judge-spec : {M : Type 1} → statement M
-judge-spec =
+pub validate-unit-spec : {M : Type 1} → statement M
+validate-unit-spec =
     tie.close
     (tie.spec
     step-requires
