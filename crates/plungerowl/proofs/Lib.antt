@@ -5,3 +5,4 @@ pub mod Logs
 pub mod Wholes
 pub mod Feeds
 pub mod Settled
+pub mod LogExamples

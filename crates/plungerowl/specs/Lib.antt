@@ -1,3 +1,4 @@
 pub mod Runs
 pub mod Demands
 pub mod Logs
+pub mod LogExamples
