@@ -10,9 +10,9 @@ use lib.ListN.{length, take, drop, length-take, length-drop}
 use lib.Seq.{take-add}
 use Rattle.rules.specs.Log.{unitSize}
 use Rattle.validator.specs.Calls.{Buffers}
-use Rattle.progress.specs.Feed.{Feed}
-use Rattle.progress.specs.Code.{unitBegun, withPart}
-use Rattle.feed.specs.Fed.{UnitValidated, header, a-record, PartTaken, not-yet, complete, Fed, stopped, kept, completed}
+use Rattle.progress.specs.Feed.{Feed, unitBegun, withPart}
+use Rattle.feed.specs.Fed.{UnitValidated, header, a-record, Fed, stopped, kept, completed}
+use Rattle.feed.specs.Parts.{PartTaken, not-yet, complete}
 
 pub some-unit : (opened : Bool) → 0 < unitSize opened
 some-unit true = omega arith

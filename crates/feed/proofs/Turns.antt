@@ -13,10 +13,11 @@ use Rattle.rules.specs.Log.{recordSize, unitSize, headerClasses}
 use Rattle.opening.specs.Open.{Opened}
 use Rattle.validator.specs.Calls.{Buffers, buffers, Called}
 use Rattle.progress.specs.declared.Progress.{Progress}
-use Rattle.progress.specs.Feed.{Feed, fresh, feedSize, mostLoose, view, fits}
-use Rattle.progress.specs.Code.{feedOf, Counted, unitBegun, withPart}
+use Rattle.progress.specs.Feed.{Feed, fresh, feedSize, mostLoose, view, fits, unitBegun, withPart}
+use Rattle.progress.specs.Code.{feedOf, Counted}
 use Rattle.progress.proofs.Fitness.{FitFacts, fit-facts, formed-loose}
-use Rattle.feed.specs.Fed.{more, UnitValidated, header, a-record, PartTaken, not-yet, complete, Ended, stands, no-header, between, short}
+use Rattle.feed.specs.Fed.{more, UnitValidated, header, a-record, Ended, stands, no-header, between, short}
+use Rattle.feed.specs.Parts.{PartTaken, not-yet, complete}
 use Rattle.feed.specs.Calls.{holding, Started, GoesOn, FeedCall}
 
 pub unit-most : (opened : Bool) → unitSize opened ≤ recordSize

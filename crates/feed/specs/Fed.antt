@@ -9,8 +9,7 @@ use Rattle.rules.specs.Verdict.{badOpening}
 use Rattle.rules.specs.Log.{headerClasses, unitSize}
 use Rattle.opening.specs.Open.{Opened}
 use Rattle.validator.specs.Calls.{Buffers, Called}
-use Rattle.progress.specs.Feed.{Feed}
-use Rattle.progress.specs.Code.{unitBegun, withPart}
+use Rattle.progress.specs.Feed.{Feed, unitBegun, withPart}
 
 -- One record more. The number would pass 2 to the 64 only in a log of more bytes than that; it stays there.
 unfoldable pub more : ℕ → ℕ
@@ -22,12 +21,6 @@ pub data UnitValidated (opened : Bool) (number : ℕ) (b : Buffers) (unit : List
       → b′ .slip ≡ b .slip → UnitValidated opened number b unit (unitBegun answer (eqb answer 0) number) b′
   a-record : {answer : ℕ} {b′ : Buffers} → opened ≡ true → Called b unit answer b′
       → UnitValidated opened number b unit (unitBegun answer true (more number)) b′
-
--- A part of a piece that goes at most to the end of the unit: it is kept, or it completes the unit, which is validated.
-pub data PartTaken (f : Feed) (b : Buffers) (part : List ℕ) : Feed → Buffers → Type 0 where
-  not-yet : length (f .loose ++ part) < unitSize (f .opened) → PartTaken f b part (withPart f part) b
-  complete : {f′ : Feed} {b′ : Buffers} → length (f .loose ++ part) ≡ unitSize (f .opened) → UnitValidated (f .opened) (f .number) b (f .loose ++ part) f′ b′
-      → PartTaken f b part f′ b′
 
 -- "Header and records are judged when complete": bytes that do not complete the unit are kept; else it is validated and the bytes behind it are taken.
 -- "Once an answer but 0 has come, further pieces change nothing."

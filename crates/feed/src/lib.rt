@@ -22,7 +22,8 @@ ghost use Rattle.rules.specs.Log.{unitSize, headerClasses};
 ghost use Rattle.progress.specs.Feed.{mostLoose};
 ghost use Rattle.progress.specs.Code.{feedOf, Counted};
 ghost use Rattle.validator.specs.Calls.{buffers};
-ghost use Rattle.feed.specs.Fed.{more, UnitValidated, PartTaken, Fed, Ended};
+ghost use Rattle.feed.specs.Fed.{more, UnitValidated, Fed, Ended};
+ghost use Rattle.feed.specs.Parts.{PartTaken};
 ghost use Rattle.feed.specs.Calls.{Started, FedPiece, FedEnd};
 
 const MOST_CLASSES: u8 = MAX_CLASSES as u8;

@@ -22,8 +22,7 @@ use Rattle.layout.specs.Decoding.{view as view-desk}
 use Rattle.layout.specs.Fit.{fits as desk-fits, fitsAll}
 use Rattle.fit.proofs.Facts.{facts}
 use Rattle.validator.specs.Calls.{Buffers, Called}
-use Rattle.progress.specs.Feed.{Feed, fresh, feedSize, mostLoose, bytesOf, view, anyOf, isStepAnswer, standsWith, wellFormed, fits}
-use Rattle.progress.specs.Code.{unitBegun, withPart}
+use Rattle.progress.specs.Feed.{Feed, fresh, feedSize, mostLoose, bytesOf, view, anyOf, isStepAnswer, standsWith, wellFormed, fits, unitBegun, withPart}
 use Rattle.progress.proofs.Fitness.{fit-facts, formed-loose, going-on, at-unit}
 use Rattle.progress.proofs.Kept.{view-back, fits-back, bytes-back}
 use Rattle.feed.specs.Fed.{more, UnitValidated, header, a-record, Fed, stopped, kept, completed, Ended, stands, no-header, between, short}

@@ -21,8 +21,7 @@ use Rattle.layout.specs.Fit.{fits, fitsAll}
 use Rattle.opening.specs.Open.{Opened, opens, openedDesk, openedSheet}
 use Rattle.validator.specs.Step.{Reported, Validated}
 use Rattle.validator.specs.Calls.{Buffers, Called}
-use Rattle.progress.specs.Feed.{Feed, fresh}
-use Rattle.progress.specs.Code.{unitBegun, withPart}
+use Rattle.progress.specs.Feed.{Feed, fresh, unitBegun, withPart}
 use Rattle.feed.specs.Fed.{more, UnitValidated, header, a-record, Fed, stopped, kept, completed, Ended, stands, no-header, between, short}
 use Rattle.feed.proofs.Turns.{one-counted}
 use Rattle.validity.proofs.Kept.{valid-start}

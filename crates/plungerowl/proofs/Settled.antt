@@ -17,8 +17,7 @@ use Rattle.fit.proofs.Fitting.{stand-encodes}
 use Rattle.fit.proofs.Settled.{settled-desk-after, settled-sheet-after}
 use Rattle.opening.specs.Open.{Opened, opens}
 use Rattle.validator.specs.Calls.{Buffers, Called}
-use Rattle.progress.specs.Feed.{Feed, feedSize, view, fits}
-use Rattle.progress.specs.Code.{unitBegun, withPart}
+use Rattle.progress.specs.Feed.{Feed, feedSize, view, fits, unitBegun, withPart}
 use Rattle.progress.proofs.Kept.{bytes-back}
 use Rattle.feed.specs.Fed.{more, UnitValidated, header, a-record, Fed, stopped, kept, completed, Ended, stands, no-header, between, short}
 use Rattle.feed.specs.Calls.{holding, Started, FeedCall, FedPiece, FedEnd}

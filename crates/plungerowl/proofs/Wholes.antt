@@ -18,8 +18,7 @@ use Rattle.layout.specs.Fit.{fits, fitsAll}
 use Rattle.opening.specs.Open.{Opened, opens, openedDesk, openedSheet}
 use Rattle.validator.specs.Calls.{Buffers}
 use Rattle.validity.proofs.Kept.{valid-start}
-use Rattle.progress.specs.Feed.{Feed, fresh}
-use Rattle.progress.specs.Code.{unitBegun, withPart}
+use Rattle.progress.specs.Feed.{Feed, fresh, unitBegun, withPart}
 use Rattle.feed.specs.Fed.{UnitValidated, header, a-record, Fed, stopped, kept, completed, Ended, stands, no-header, between, short}
 use Rattle.plungerowl.specs.Logs.{classesIn, recordsIn, refuseFirst, outcomeFor, LeftBy, WholeLog, short-header, bad-header, by-rules}
 use Rattle.plungerowl.proofs.Runs.{Holds, opened-true, OpenedAs, opened-as}

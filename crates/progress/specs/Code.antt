@@ -1,7 +1,6 @@
--- The feed that a value of the code stands for, and the two ways in which it goes on.
+-- The feed that a value of the code stands for.
 use mathlib.Core.Path.{_≡_}
-use mathlib.Core.Bool.{Bool}
-use mathlib.Core.List.{List, [], _++_}
+use mathlib.Core.List.{List}
 use Prim.Native.Nat.{ℕ, _≤_}
 use lib.ListN.{length, take, drop}
 use Rattle.progress.specs.declared.Progress.{Progress}
@@ -14,14 +13,6 @@ feedOf p = record { answer = p .answer; opened = p .opened; loose = take (p .cou
 -- The count is the number of loose bytes.
 abbrev pub Counted : Progress → Type 0
 Counted p = p .count ≡ length (feedOf p .loose)
-
--- A unit was validated, and the next has no byte yet.
-abbrev pub unitBegun : (answer : ℕ) (opened : Bool) (number : ℕ) → Feed
-unitBegun answer opened number = record { answer = answer; opened = opened; loose = []; number = number }
-
--- The next unit has a part more.
-abbrev pub withPart : Feed → List ℕ → Feed
-withPart f part = record { answer = f .answer; opened = f .opened; loose = f .loose ++ part; number = f .number }
 
 -- The array has the bytes that stand in the places of the loose ones.
 pub record LooseIn (feed array : List ℕ) : Type 0 where

@@ -1,6 +1,6 @@
 -- Document 02, b: what a feed keeps between calls, and the bytes in which it is lent.
 use mathlib.Core.Bool.{Bool, true, false, cond, not, _&&_, _||_}
-use mathlib.Core.List.{List, [], _∷_}
+use mathlib.Core.List.{List, [], _∷_, _++_}
 use Prim.Native.Nat.{ℕ, zero, suc, _+_, _*_, _-_, _/_, _%_, _^_}
 use lib.Dec.{leb, ltb, eqb}
 use lib.ListN.{length, getD, take, drop}
@@ -20,6 +20,14 @@ pub record Feed : Type 0 where
 
 abbrev pub fresh : Feed
 fresh = record { answer = 0; opened = false; loose = []; number = 0 }
+
+-- A unit was validated, and the next has no byte yet.
+abbrev pub unitBegun : (answer : ℕ) (opened : Bool) (number : ℕ) → Feed
+unitBegun answer opened number = record { answer = answer; opened = opened; loose = []; number = number }
+
+-- The next unit has a part more.
+abbrev pub withPart : Feed → List ℕ → Feed
+withPart f part = record { answer = f .answer; opened = f .opened; loose = f .loose ++ part; number = f .number }
 
 -- ---- The bytes.
 

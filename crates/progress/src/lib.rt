@@ -10,8 +10,8 @@ ghost use Prim.Native.Nat.{_+_, _≤_, _<_, _^_};
 ghost use lib.ListN.{length, getD, drop, take};
 ghost use Rattle.rules.specs.Log.{recordSize, unitSize};
 ghost use Rattle.layout.specs.Fit.{allBelow};
-ghost use Rattle.progress.specs.Feed.{feedSize, mostLoose, countAt, looseAt, numberAt, numberSize, lowFirst, byteOf, bytesOf, view, isStepAnswer, standsWith, wellFormed, unusedZero, fits};
-ghost use Rattle.progress.specs.Code.{feedOf, Counted, unitBegun, withPart, LooseIn};
+ghost use Rattle.progress.specs.Feed.{feedSize, mostLoose, countAt, looseAt, numberAt, numberSize, lowFirst, byteOf, bytesOf, view, isStepAnswer, standsWith, wellFormed, unusedZero, fits, unitBegun, withPart};
+ghost use Rattle.progress.specs.Code.{feedOf, Counted, LooseIn};
 
 // A log is a header and then records. Of one that is not complete the bytes are kept, fewer than a record has.
 pub const HEADER_SIZE: usize = 4;
