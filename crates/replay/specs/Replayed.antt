@@ -1,11 +1,12 @@
 -- What the program does with what its reads give. No contract can say which bytes a read gives: the pieces are some list.
 use mathlib.Core.Path.{_≡_}
+use mathlib.Core.Bool.{Bool}
 use mathlib.Core.List.{List}
 use Prim.Native.Nat.{ℕ}
 use Rattle.validator.specs.Calls.{Buffers}
 use Rattle.feed.specs.Calls.{Started, FedEnd}
 use Rattle.plungerowl.specs.Logs.{FeedRan}
-use Rattle.log.specs.Text.{outcomeOf}
+use Rattle.log.specs.Text.{outcomeOf, Appended, textOf, isAnswer}
 use Rattle.log.specs.declared.Outcome.{Outcome}
 
 -- Each read's piece was fed, in order.
@@ -31,3 +32,10 @@ pub record ReadToEnd (b : Buffers) (o : Outcome) (b′ : Buffers) : Type 0 where
 pub data Replayed (b : Buffers) : Outcome → Buffers → Type 0 where
   unread : {b′ : Buffers} → Replayed b Outcome.Unread b′
   whole : {o : Outcome} {b′ : Buffers} → ReadToEnd b o b′ → Replayed b o b′
+
+-- The text made is that of what came of the log, from place 0 on, and of the buffer no other byte changed.
+pub record TextOfInput (b : Buffers) (out : List ℕ) (answer : Bool) (out′ : List ℕ) (size : ℕ) (b′ : Buffers) : Type 0 where
+  pub outcome : Outcome
+  pub replayed : Replayed b outcome b′
+  pub text : Appended out 0 (textOf outcome (b′ .slip)) out′ size
+  pub answer-is : answer ≡ isAnswer outcome

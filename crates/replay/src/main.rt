@@ -12,11 +12,14 @@ use libc::STDOUT_FILENO;
 use log::Outcome;
 use log::TEXT_SIZE;
 use progress::FEED_SIZE;
-ghost use Prim.Native.Nat.{_≤_};
+ghost use Prim.Native.Nat.{_+_, _≤_};
 ghost use lib.ListN.{length};
+ghost use Rattle.rules.specs.Limits.{maxClasses};
+ghost use Rattle.layout.specs.Layout.{slipSize};
 ghost use Rattle.progress.specs.Feed.{feedSize};
+ghost use Rattle.log.specs.Text.{lineSize, cycleSize};
 ghost use Rattle.validator.specs.Calls.{buffers};
-ghost use Rattle.replay.specs.Replayed.{Taken, Replayed};
+ghost use Rattle.replay.specs.Replayed.{Taken, Replayed, TextOfInput};
 
 // The buffers of the largest number of classes.
 const SHEET_SIZE: usize = MAX_CLASSES * MAX_CLASSES;
@@ -75,6 +78,32 @@ fn replay(
     log::outcome_of(said.answer, said.number)
 }
 
+// A text, and whether it is an answer or a complaint.
+struct Text {
+    answer: bool,
+    size: usize,
+}
+
+// Validates the whole log, and makes the text of what came of it.
+fn text_of_input(
+    feed: &mut [u8],
+    desk: &mut [u8],
+    sheet: &mut [u8],
+    slip: &mut [u8],
+    buf: &mut [u8],
+    out: &mut [u8],
+) -> Text
+    requires { ⌜ (feedSize ≤ length (now feed)) × (slipSize maxClasses ≤ length (now slip)) × (lineSize + cycleSize ≤ length (now out)) ⌝ }
+    ensures { λ r. ⌜ TextOfInput (buffers (now (desk .entry)) (now (sheet .entry)) (now (slip .entry))) (now (out .entry)) (r .answer) (now (out .exit)) (r .size) (buffers (now (desk .exit)) (now (sheet .exit)) (now (slip .exit))) ⌝ }
+{
+    let outcome = replay(feed, desk, sheet, slip, buf);
+    let size = log::put_text(out, outcome, slip);
+    Text {
+        answer: log::is_answer(outcome),
+        size,
+    }
+}
+
 // Writes a text, all at once.
 fn print(answer: bool, text: &[u8]) {
     if !answer {
@@ -92,8 +121,15 @@ fn main() {
     let mut sheet = [0u8; SHEET_SIZE];
     let mut slip = [0u8; SLIP_SIZE];
     let mut buf = [0u8; BUF_SIZE];
-    let outcome = replay(&mut feed, &mut desk, &mut sheet, &mut slip, &mut buf);
     let mut out = [0u8; TEXT_SIZE];
-    let n = log::put_text(&mut out, outcome, &slip);
-    print(log::is_answer(outcome), &out[..n]);
+    let text = text_of_input(
+        &mut feed,
+        &mut desk,
+        &mut sheet,
+        &mut slip,
+        &mut buf,
+        &mut out,
+    );
+    let size = text.size;
+    print(text.answer, &out[..size]);
 }

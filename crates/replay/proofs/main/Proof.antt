@@ -1,48 +1,38 @@
 -- `replay::main` meets its contract. Assumes nothing.
 use mathlib.Core.Path.{sym}
 use lib.Seq.{length-take-le}
-use Rattle.replay.proofs.Reading.{shown}
 use borrow.Author.Needs.{needs}
 use Rattle.replay.proofs.main.Statement.{statement}
 use Rattle.replay.proofs.main.Tie as tie
 
-slice-aggregate-replay : tie.Need-slice-aggregate-replay
-slice-aggregate-replay c = search needs
+slice-aggregate-text-of-input : tie.Need-slice-aggregate-text-of-input
+slice-aggregate-text-of-input c = search needs
 
-slice-aggregate-replay-2 : tie.Need-slice-aggregate-replay-2
-slice-aggregate-replay-2 c = search needs
+slice-aggregate-text-of-input-2 : tie.Need-slice-aggregate-text-of-input-2
+slice-aggregate-text-of-input-2 c = search needs
 
-slice-aggregate-replay-3 : tie.Need-slice-aggregate-replay-3
-slice-aggregate-replay-3 c = search needs
+slice-aggregate-text-of-input-3 : tie.Need-slice-aggregate-text-of-input-3
+slice-aggregate-text-of-input-3 c = search needs
 
-slice-aggregate-replay-4 : tie.Need-slice-aggregate-replay-4
-slice-aggregate-replay-4 c = search needs
+slice-aggregate-text-of-input-4 : tie.Need-slice-aggregate-text-of-input-4
+slice-aggregate-text-of-input-4 c = search needs
 
-slice-aggregate-replay-5 : tie.Need-slice-aggregate-replay-5
-slice-aggregate-replay-5 c = search needs
+slice-aggregate-text-of-input-5 : tie.Need-slice-aggregate-text-of-input-5
+slice-aggregate-text-of-input-5 c = search needs
 
-replay-requires : tie.Need-replay-requires
-replay-requires c κs = search needs
+slice-aggregate-text-of-input-6 : tie.Need-slice-aggregate-text-of-input-6
+slice-aggregate-text-of-input-6 c = search needs
 
-slice-aggregate-put-text : tie.Need-slice-aggregate-put-text
-slice-aggregate-put-text c = search needs
-
-slice-aggregate-put-text-2 : tie.Need-slice-aggregate-put-text-2
-slice-aggregate-put-text-2 c = search needs
-
-put-text-requires : tie.Need-put-text-requires
-put-text-requires c κs = (search needs, search needs, shown (c .before .before .before .before .before .before .before .replay .ensures))
-
-is-answer-requires : tie.Need-is-answer-requires
-is-answer-requires c κs = search needs
+text-of-input-requires : tie.Need-text-of-input-requires
+text-of-input-requires c κs = search needs
 
 array-share-prefix-out : tie.Need-array-share-prefix-out
 array-share-prefix-out c = search needs
 
 slice-aggregate-print : tie.Need-slice-aggregate-print
 slice-aggregate-print c =
-    let p = c .before .before .before .put-text in
-    sym (length-take-le (p .result) (p .last .0) (p .ensures .inside))
+    let t = c .before .before .before .before .before .before .before .text-of-input in
+    sym (length-take-le (t .result .size) (t .last .1 .1 .1 .1 .1 .0) (t .ensures .text .inside))
 
 print-requires : tie.Need-print-requires
 print-requires c κs = search needs
@@ -54,16 +44,13 @@ pub main-spec : {M : Type 1} → statement M
 main-spec =
     tie.close
     (tie.spec
-    slice-aggregate-replay
-    slice-aggregate-replay-2
-    slice-aggregate-replay-3
-    slice-aggregate-replay-4
-    slice-aggregate-replay-5
-    replay-requires
-    slice-aggregate-put-text
-    slice-aggregate-put-text-2
-    put-text-requires
-    is-answer-requires
+    slice-aggregate-text-of-input
+    slice-aggregate-text-of-input-2
+    slice-aggregate-text-of-input-3
+    slice-aggregate-text-of-input-4
+    slice-aggregate-text-of-input-5
+    slice-aggregate-text-of-input-6
+    text-of-input-requires
     array-share-prefix-out
     slice-aggregate-print
     print-requires
