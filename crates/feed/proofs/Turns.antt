@@ -9,7 +9,8 @@ use lib.Dec.{eqb}
 use lib.ListN.{length, take, length-take, length-append}
 use borrow.Author.Tests.{lt-ltb, le-ltb, le-leb, lt-leb, not-true, not-false}
 use Rattle.rules.specs.Verdict.{badOpening, unfit}
-use Rattle.rules.specs.Log.{recordSize, unitSize, headerClasses}
+use Rattle.rules.specs.Record.{recordSize}
+use Rattle.rules.specs.Log.{unitSize, headerClasses}
 use Rattle.opening.specs.Open.{Opened}
 use Rattle.validator.specs.Calls.{Buffers, buffers, Called}
 use Rattle.progress.specs.declared.Progress.{Progress}

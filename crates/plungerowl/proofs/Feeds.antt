@@ -9,10 +9,10 @@ use native.Mathlib.Omega.{arith}
 use lib.Dec.{eqb, leb, ltb}
 use lib.ListN.{length, drop}
 use borrow.Author.Tests.{le-leb, ne-eqb, eqb-true}
-use Rattle.rules.specs.Record.{Bytes, isMalformed}
+use Rattle.rules.specs.Record.{Bytes, isMalformed, recordSize}
 use Rattle.rules.specs.Run.{State, Result, step}
 use Rattle.rules.proofs.Steps.{closed-step}
-use Rattle.rules.specs.Log.{recordSize, unitSize, headerClasses}
+use Rattle.rules.specs.Log.{unitSize, headerClasses}
 use Rattle.opening.specs.Open.{opens}
 use Rattle.rules.specs.Verdict.{Refusal, closed, malformed, noClass, noTransition, stillHeld, notHeld, tooDeep, Answer, clean, fault, refused, refusalNumber, number, badOpening, unfit, refusal}
 use Rattle.rules.proofs.Booleans.{and-cases, and-both, or-right}

@@ -10,10 +10,10 @@ use lib.Dec.{leb, eqb}
 use lib.ListN.{length, getD, take, drop, length-append}
 use lib.Seq.{take-at, drop-at, take-all, take-nil}
 use borrow.Author.Tests.{lt-ltb, le-leb, lt-leb, leb-true, leb-false}
-use Rattle.rules.specs.Record.{Bytes}
+use Rattle.rules.specs.Record.{Bytes, recordSize}
 use Rattle.rules.specs.Verdict.{number, badOpening, unfit}
 use Rattle.rules.specs.Run.{State, start, step}
-use Rattle.rules.specs.Log.{headerSize, recordSize, unitSize, headerClasses, recordsOf, looseOf, shortRecord, Outcome, validate}
+use Rattle.rules.specs.Log.{headerSize, unitSize, headerClasses, recordsOf, looseOf, shortRecord, Outcome, validate}
 use Rattle.rules.proofs.Booleans.{and-cases}
 use Rattle.layout.specs.Layout.{deskSize, sheetSize, slipSize, KeepsPast, classesOf}
 use Rattle.layout.specs.Decoding.{StandFor}

@@ -9,10 +9,10 @@ use lib.Dec.{eqb}
 use lib.ListN.{length, take, drop, length-append, length-drop}
 use lib.Seq.{take-at, drop-at, drop-drop}
 use borrow.Author.Tests.{eq-eqb, ne-eqb}
-use Rattle.rules.specs.Record.{Bytes}
+use Rattle.rules.specs.Record.{Bytes, recordSize}
 use Rattle.rules.specs.Verdict.{number}
 use Rattle.rules.specs.Run.{State, step}
-use Rattle.rules.specs.Log.{recordSize, firstRecords, recordsOf, looseOf, Outcome, validate}
+use Rattle.rules.specs.Log.{firstRecords, recordsOf, looseOf, Outcome, validate}
 
 -- ---- Cutting.
 

@@ -12,7 +12,7 @@ use lib.Seq.{take-take, take-at, take-length, take-append-le, length-take-le, ge
 use borrow.Author.Tests.{eq-eqb, ne-eqb, lt-ltb, le-ltb}
 use Rattle.words.specs.Bits.{flag}
 use Rattle.rules.specs.Decision.{tabulate}
-use Rattle.rules.specs.Log.{recordSize}
+use Rattle.rules.specs.Record.{recordSize}
 use Rattle.progress.specs.Feed.{Feed, mostLoose, answerAt, openedAt, countAt, looseAt, numberAt, numberSize, feedSize, lowFirst, view, byteOf}
 use Rattle.progress.specs.Code.{LooseIn}
 

@@ -15,7 +15,8 @@ use Rattle.words.specs.Bits.{flag}
 use Rattle.rules.specs.Decision.{tabulate}
 use Rattle.rules.proofs.Booleans.{and-both}
 use Rattle.rules.proofs.Closure.{length-tabulate, getD-tabulate}
-use Rattle.rules.specs.Log.{recordSize, unitSize}
+use Rattle.rules.specs.Record.{recordSize}
+use Rattle.rules.specs.Log.{unitSize}
 use Rattle.layout.specs.Layout.{AreBytes}
 use Rattle.layout.specs.Fit.{allBelow}
 use Rattle.fit.proofs.AllBelow.{all-of}

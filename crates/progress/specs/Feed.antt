@@ -7,7 +7,8 @@ use lib.ListN.{length, getD, take, drop}
 use Rattle.words.specs.Bits.{flag}
 use Rattle.rules.specs.Decision.{tabulate}
 use Rattle.rules.specs.Verdict.{Refusal, refusalNumber, order, badOpening, unfit}
-use Rattle.rules.specs.Log.{recordSize, unitSize}
+use Rattle.rules.specs.Record.{recordSize}
+use Rattle.rules.specs.Log.{unitSize}
 use Rattle.layout.specs.Fit.{allBelow}
 
 -- How far a feed has come: the standing answer, which is 0 or the first answer but 0; whether the header was complete and opened the desk; the loose

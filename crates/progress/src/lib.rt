@@ -4,21 +4,21 @@ use answers::CLOSED;
 use answers::OK;
 use answers::TOO_DEEP;
 use answers::UNFIT;
+use record::SIZE;
 ghost use mathlib.Core.Path.{_≡_};
 ghost use mathlib.Core.List.{_++_};
 ghost use Prim.Native.Nat.{_+_, _≤_, _<_, _^_};
 ghost use lib.ListN.{length, getD, drop, take};
-ghost use Rattle.rules.specs.Log.{recordSize, unitSize};
+ghost use Rattle.rules.specs.Record.{recordSize};
+ghost use Rattle.rules.specs.Log.{unitSize};
 ghost use Rattle.layout.specs.Fit.{allBelow};
 ghost use Rattle.progress.specs.Feed.{feedSize, mostLoose, countAt, looseAt, numberAt, numberSize, lowFirst, byteOf, bytesOf, view, isStepAnswer, standsWith, wellFormed, unusedZero, fits, unitBegun, withPart};
 ghost use Rattle.progress.specs.Code.{feedOf, Counted, LooseIn};
 
-// A log is a header and then records. Of one that is not complete the bytes are kept, fewer than a record has.
+// A log is a header and then records, of SIZE bytes each. Of one that is not complete the bytes are kept, fewer than a record has.
 pub const HEADER_SIZE: usize = 4;
 
-pub const RECORD_SIZE: usize = 6;
-
-const MOST_LOOSE: usize = RECORD_SIZE - 1;
+const MOST_LOOSE: usize = SIZE - 1;
 
 const MOST_COUNT: u8 = MOST_LOOSE as u8;
 
@@ -41,7 +41,7 @@ pub const FEED_SIZE: usize = NUMBER_AT + NUMBER_SIZE;
 pub struct Progress {
     pub answer: u8,
     pub opened: bool,
-    pub loose: [u8; RECORD_SIZE],
+    pub loose: [u8; SIZE],
     pub count: usize,
     pub number: u64,
 }
@@ -50,7 +50,7 @@ pub struct Progress {
 pub fn unit_size(opened: bool) -> usize
     ensures { λ r. ⌜ r ≡ unitSize opened ⌝ }
 {
-    if opened { RECORD_SIZE } else { HEADER_SIZE }
+    if opened { SIZE } else { HEADER_SIZE }
 }
 
 // Between two units: no loose bytes.
@@ -60,7 +60,7 @@ pub fn between_units(answer: u8, opened: bool, number: u64) -> Progress
     Progress {
         answer,
         opened,
-        loose: [0; RECORD_SIZE],
+        loose: [0; SIZE],
         count: 0,
         number,
     }
@@ -105,11 +105,11 @@ fn number_of(feed: &[u8]) -> u64
     four_bytes(feed, NUMBER_AT) + 0x1_0000_0000 * four_bytes(feed, NUMBER_AT + 4)
 }
 
-fn loose_of(feed: &[u8]) -> [u8; RECORD_SIZE]
+fn loose_of(feed: &[u8]) -> [u8; SIZE]
     requires { ⌜ feedSize ≤ length (now feed) ⌝ }
     ensures { λ r. ⌜ LooseIn (now (feed .entry)) r ⌝ }
 {
-    let mut loose = [0; RECORD_SIZE];
+    let mut loose = [0; SIZE];
     bytes::copy(&feed[LOOSE_AT..NUMBER_AT], &mut loose);
     loose
 }

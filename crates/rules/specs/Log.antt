@@ -5,15 +5,12 @@ use Prim.Native.Nat.{ℕ, zero, suc, _*_, _/_}
 use lib.Dec.{leb, eqb}
 use lib.ListN.{length, getD, take, drop}
 use Rattle.rules.specs.Limits.{maxClasses}
-use Rattle.rules.specs.Record.{Bytes}
+use Rattle.rules.specs.Record.{Bytes, recordSize}
 use Rattle.rules.specs.Verdict.{number}
 use Rattle.rules.specs.Run.{State, step}
 
 abbrev pub headerSize : ℕ
 headerSize = 4
-
-abbrev pub recordSize : ℕ
-recordSize = 6
 
 -- A good header: four bytes, the signature 4C 48, version 1, and K from 1 to 64.
 unfoldable pub isHeader : List ℕ → Bool

@@ -11,6 +11,10 @@ use Rattle.rules.specs.Limits.{coreCount, kindCount, modeCount}
 abbrev pub Bytes : Type 0
 Bytes = List ℕ
 
+-- "Six bytes"
+abbrev pub recordSize : ℕ
+recordSize = 6
+
 abbrev pub coreOf : Bytes → ℕ
 coreOf r = getD r 2 0
 
@@ -48,7 +52,7 @@ strayByte (suc (suc k)) c m = not (eqb c 0 && eqb m 0)
 -- "refusal 3 begins at mode 6".
 unfoldable pub isMalformed : Bytes → Bool
 isMalformed r =
-    not (eqb (length r) 6)
+    not (eqb (length r) recordSize)
     || not (eqb (getD r 0 0) 0x4C && eqb (getD r 1 0) 0x4B)
     || leb coreCount (coreOf r)
     || leb kindCount (kindOf r)
