@@ -1,5 +1,5 @@
 //! Links libplungerowl.a from the folder that PLUNGEROWL_LIB_DIR names, and makes the planted judges: the reference's
-//! source, and below it a module for each, with the sections that an edit of plants.rs changes.
+//! source, and below it a module for each, with the items that an edit of plants.rs changes.
 mod plants;
 
 use std::collections::HashSet;
@@ -37,47 +37,50 @@ fn edit(source: &str, plant: &str, old: &str, new: &str) -> String {
 /// A line that begins so begins a section.
 const RULE: &str = "// ------";
 
-fn sections(source: &str) -> Vec<String> {
-    let mut sections = vec![String::new()];
+/// The items of a source: a line that isn't indented, behind an empty one, begins an item.
+fn items(source: &str) -> Vec<String> {
+    let (mut items, mut behind_empty) = (vec![String::new()], false);
     for line in source.split_inclusive('\n') {
-        if line.starts_with(RULE) {
-            sections.push(String::new());
+        if behind_empty && !line.starts_with([' ', '}', '\n']) {
+            items.push(String::new());
         }
-        sections.last_mut().unwrap().push_str(line);
+        items.last_mut().unwrap().push_str(line);
+        behind_empty = line == "\n";
     }
-    sections
+    items
 }
 
-/// The words of a section's code: not of its comments and strings.
-fn words(section: &str) -> HashSet<&str> {
-    let code = section.lines().map(|line| line.split("//").next().unwrap_or(""));
+/// The words of an item's code: not of its comments and strings.
+fn words(item: &str) -> HashSet<&str> {
+    let code = item.lines().map(|line| line.split("//").next().unwrap_or(""));
     let code = code.flat_map(|line| line.split('"').step_by(2));
     code.flat_map(|code| code.split(|c: char| c != '_' && !c.is_alphanumeric())).collect()
 }
 
-/// The names that a section gives.
-fn names(section: &str) -> Vec<&str> {
-    let items = section.lines().filter_map(|line| {
+/// The names that an item gives; methods stay with their type.
+fn names(item: &str) -> Vec<&str> {
+    let names = item.lines().filter_map(|line| {
         let mut words = line.strip_prefix("pub ").unwrap_or(line).split(|c: char| c != '_' && !c.is_alphanumeric());
-        let item = ["fn", "const", "static", "struct", "enum", "type"].contains(&words.next()?);
+        let item = ["fn", "const", "static", "struct", "enum", "type", "impl"].contains(&words.next()?);
         words.next().filter(|_| item)
     });
-    items.collect()
+    names.collect()
 }
 
-/// Which sections are changed by edits of these, as they or what they call are edited.
-fn changed(sections: &[String], mut changed: Vec<bool>) -> Vec<bool> {
-    loop {
-        let more = (0..sections.len()).find(|&at| {
-            let words = words(&sections[at]);
-            let calls = |other: &usize| names(&sections[*other]).iter().any(|name| words.contains(name));
-            !changed[at] && (0..sections.len()).filter(|&other| changed[other]).any(|other| calls(&other))
-        });
-        match more {
-            Some(at) => changed[at] = true,
-            None => return changed,
+/// Which items are changed by edits of these, as they or what they call are edited.
+fn changed(items: &[String], mut changed: Vec<bool>) -> Vec<bool> {
+    let words: Vec<HashSet<&str>> = items.iter().map(|item| words(item)).collect();
+    let mut new: Vec<usize> = (0..items.len()).filter(|&at| changed[at]).collect();
+    while let Some(called) = new.pop() {
+        let names = names(&items[called]);
+        for at in 0..items.len() {
+            if !changed[at] && names.iter().any(|name| words[at].contains(name)) {
+                changed[at] = true;
+                new.push(at);
+            }
         }
     }
+    changed
 }
 
 /// The calls of a judge, as in src/judges.rs.
@@ -88,18 +91,17 @@ fn plant(out: &Path) {
     let reference = edit(&reference, "judges have no tests", "#[cfg(test)]\nmod tests;\n", "");
     let program = reference.find("\npub fn run_log").and_then(|at| reference[..at].rfind(RULE));
     let reference = &reference[..program.expect("the program's section is the last")];
-    let whole = sections(reference);
+    let feed = reference.rfind(RULE).expect("the feed's section is the last");
+    let whole = items(reference);
     let (mut modules, mut table) = (String::new(), String::new());
     for plants::Plant { name, wrong, sights, breaks, edits } in plants::PLANTS {
         assert!(!edits.is_empty(), "planted {name}: no edit");
         let source = edits.iter().fold(reference.to_string(), |source, (old, new)| edit(&source, name, old, new));
-        let edited = sections(&source);
-        let differ: Vec<bool> = edited.iter().zip(&whole).map(|(new, old)| new != old).collect();
-        // The last section is the feed's.
-        let of_feed = differ.iter().position(|differ| *differ) == Some(whole.len() - 1);
-        let changed = changed(&edited, differ);
+        let of_feed = source.starts_with(&reference[..feed]);
+        let edited = items(&source);
+        let changed = changed(&edited, edited.iter().map(|item| !whole.contains(item)).collect());
         let mut text = String::from("pub use super::*;\n");
-        text.extend(edited.into_iter().zip(changed).filter(|(_, changed)| *changed).map(|(section, _)| section));
+        text.extend(edited.into_iter().zip(changed).filter(|(_, changed)| *changed).map(|(item, _)| item));
         let path = out.join(format!("{name}.rs"));
         std::fs::write(&path, text).expect("OUT_DIR can be written");
         let module = format!("plant_{}", name.replace('-', "_"));
@@ -112,7 +114,7 @@ fn plant(out: &Path) {
     let path = out.join("judge.rs");
     std::fs::write(&path, format!("{reference}\n{modules}")).expect("OUT_DIR can be written");
     let text = format!(
-        "#[allow(dead_code, unused_imports)]\n#[path = {path:?}]\nmod judge;\n\npub const PLANTS: &[Plant] = &[\n{table}];\n"
+        "#[allow(dead_code, unused_imports, unused_variables)]\n#[path = {path:?}]\nmod judge;\n\npub const PLANTS: &[Plant] = &[\n{table}];\n"
     );
     std::fs::write(out.join("planted.rs"), text).expect("OUT_DIR can be written");
 }

@@ -6,9 +6,9 @@ pub struct Plant {
     pub wrong: &'static str,
     /// Sights (see src/sights.rs): the call that shows it to be wrong must be one of them, where any are named.
     pub sights: &'static [&'static str],
-    /// The part of demand 3's claim (see src/claim.rs) or of the feed's promise (see src/feeds.rs) that it breaks while
-    /// it stands in the place of every judge, so that no two of them differ; None if it is only tried in the library's
-    /// place.
+    /// The part of demand 3's claim (see src/claim.rs) or of the feed's promise (see src/feeds.rs), or the least cycle
+    /// (see src/run.rs), that it breaks while it stands in the place of every judge, so that no two of them differ; None
+    /// if it is only tried in the library's place.
     pub breaks: Option<&'static str>,
     /// Text of reference/src/lib.rs, and what stands there instead.
     pub edits: &'static [(&'static str, &'static str)],
@@ -32,6 +32,92 @@ const ONLY_WITH_FAULT: &str = "a closed strong path only with a fault";
 const OVER_ANOTHER_CUT: &str = "the same over another cut";
 const AS_THE_WHOLE_LOG: &str = "as the whole log";
 const AS_SINGLE_STEPS: &str = "as single steps";
+
+const LEAST: &str = "the least cycle";
+
+/// Where a step gets its cycle and shows it.
+const CYCLE: &str = "    let circle = drawing.least_cycle(left, desk, sheet);";
+const SHOW: &str = "    show(slip, &circle.expect(\"where something remains, a cycle exists\"));";
+/// Where the least walk to an arrival is chosen, and where that of two.
+const CHOICE: &str = "walks.into_iter().min()";
+const LAST_CHOICE: &str = "            .filter_map(|start| self.least_walk(start, fewest, desk, sheet))
+            .min()";
+const FEWEST: &str = "        // \"fewest arrows\", and the arrivals on cycles of so many.";
+const COUNT: &str = "    slip[0] = circle.len() as u8;";
+/// Between functions of the step's section, and of the drawing's.
+const BEFORE_MARK: &str = "/// \"After each accepted record, every hold";
+const BEFORE_PATH: &str = "/// Whether the drawing that a fit desk and sheet hold has a closed strong path.";
+const IS_CYCLE: (&str, &str) = (
+    BEFORE_PATH,
+    "fn is_cycle(walk: &[Triple]) -> bool {
+    let mut classes: Vec<u8> = walk.iter().map(|arrow| arrow.0).collect();
+    classes.sort();
+    classes.dedup();
+    classes.len() == walk.len() && classes[0] == walk[0].0
+}
+
+/// Whether the drawing that a fit desk and sheet hold has a closed strong path.",
+);
+
+/// Among the cycles of the fewest dependencies the one with the least keys, a key of class, kind, source and next class.
+macro_rules! by_key {
+    ($key:literal) => {
+        &[
+            (CHOICE, "walks.into_iter().min_by_key(|(walk, arrow)| keys(&[&walk[..], &[*arrow]].concat(), there))"),
+            (
+                LAST_CHOICE,
+                "            .filter_map(|start| self.least_walk(start, fewest, desk, sheet))
+            .min_by_key(|circle| keys(circle, first))",
+            ),
+            (
+                BEFORE_PATH,
+                concat!(
+                    "fn keys(circle: &[Triple], end: usize) -> Vec<[u8; 4]> {
+    let next = circle.iter().skip(1).map(|arrow| arrow.0).chain([(end % 64) as u8]);
+    circle.iter().zip(next).map(|(&(class, kind, source), next)| ",
+                    $key,
+                    ").collect()
+}
+
+/// Whether the drawing that a fit desk and sheet hold has a closed strong path."
+                ),
+            ),
+        ]
+    };
+}
+
+/// In the dependencies of these places the least that is drawn between the two classes and may follow what is before it.
+macro_rules! loosened {
+    ($places:literal) => {
+        &[
+            (SHOW, "    show(slip, &loosened(desk, sheet, circle.expect(\"where something remains, a cycle exists\")));"),
+            (
+                BEFORE_MARK,
+                concat!(
+                    "fn loosened(desk: &[u8], sheet: &[u8], mut circle: Vec<Triple>) -> Vec<Triple> {
+    let n = circle.len();
+    for i in ",
+                    $places,
+                    " {
+        let (from, to) = (usize::from(circle[i].0), usize::from(circle[(i + 1) % n].0));
+        let after_r = i > 0 && ends_with_r(circle[i - 1].1);
+        let all = [ER, EN, SR, SN].into_iter().flat_map(|kind| [0, 1, 2].map(|source| (kind, source)));
+        let mut may = all.filter(|&(kind, source)| {
+            drawn(desk, sheet, from, to, kind, source) && !(after_r && begins_with_s(kind))
+        });
+        if let Some((kind, source)) = may.next() {
+            circle[i] = (circle[i].0, kind, source);
+        }
+    }
+    circle
+}
+
+/// \"After each accepted record, every hold"
+                ),
+            ),
+        ]
+    };
+}
 
 /// Where a feed's piece is taken, and where its end is.
 const PIECE: &str = "    for &byte in piece {";
@@ -528,40 +614,31 @@ pub const PLANTS: &[Plant] = &[
         "class-once",
         "the search and the question visit a class once, whichever way it was reached",
         &[
-            (
-                "    let left = drawing.peel();\n    if left == 0 {\n        return 0;\n    }\n    desk[1] = 1;\n    show(desk, sheet, slip, &drawing.shortest_cycle(left));",
-                "    let Some(cycle) = drawing.class_once_cycle() else {
-        return 0;
-    };
-    desk[1] = 1;
-    show(desk, sheet, slip, &cycle);",
-            ),
+            ("    if left == 0 {", "    if !drawing.class_once_cycle() {"),
             ("Arrivals::of(desk, sheet).reach(class as usize)", "Arrivals::of(desk, sheet).class_once_reach(class as usize)"),
             (
                 "    /// The arrivals of all strong paths",
-                "    fn class_once_cycle(&self) -> Option<Vec<usize>> {
+                "    fn class_once_cycle(&self) -> bool {
         let mut visited = [false; 64];
-        (0..64).find_map(|root| if visited[root] { None } else { self.class_once(&mut visited, &mut vec![root]) })
+        (0..64).any(|root| !visited[root] && self.class_once(&mut visited, &mut vec![root]))
     }
 
-    fn class_once(&self, visited: &mut [bool; 64], path: &mut Vec<usize>) -> Option<Vec<usize>> {
+    fn class_once(&self, visited: &mut [bool; 64], path: &mut Vec<usize>) -> bool {
         let top = path[path.len() - 1];
-        for i in members(self.next[top]) {
-            if let Some(at) = path.iter().position(|&a| a == i) {
-                return Some(path[at..].to_vec());
-            }
+        if members(self.next[top]).any(|i| path.contains(&i)) {
+            return true;
         }
         for i in members(self.next[top]) {
             if !visited[i % 64] {
                 visited[i % 64] = true;
                 path.push(i);
-                if let Some(cycle) = self.class_once(visited, path) {
-                    return Some(cycle);
+                if self.class_once(visited, path) {
+                    return true;
                 }
                 path.pop();
             }
         }
-        None
+        false
     }
 
     fn class_once_reach(&self, class: usize) -> Set {
@@ -585,10 +662,13 @@ pub const PLANTS: &[Plant] = &[
     plant(
         "closing-joint",
         "a path that is not strong where it closes is a fault",
-        &[(
-            "    if left == 0 {",
-            "    let closes = |c: usize| (drawing.reach(c) | drawing.reach(c) >> 64) >> c & 1 == 1;\n    if left == 0 && !(0..k).any(closes) {",
-        )],
+        &[
+            (
+                "    if left == 0 {",
+                "    let closes = |c: usize| (drawing.reach(c) | drawing.reach(c) >> 64) >> c & 1 == 1;\n    if left == 0 && !(0..k).any(closes) {",
+            ),
+            (SHOW, "    show(slip, &circle.unwrap_or_default());"),
+        ],
     ),
     plant(
         "sheet-63-wide",
@@ -751,11 +831,220 @@ pub const PLANTS: &[Plant] = &[
     plant(
         "slip-past",
         "the slip's byte past 1 + 3n is cleared",
-        &[("    slip[0] = n as u8;", "    slip[0] = n as u8;\n    if let Some(past) = slip.get_mut(1 + 3 * n) {\n        *past = 0;\n    }")],
+        &[(COUNT, "    slip[0] = circle.len() as u8;\n    if let Some(past) = slip.get_mut(1 + 3 * circle.len()) {\n        *past = 0;\n    }")],
+    ),
+    plant(
+        "slip-rest",
+        "the slip's bytes past 1 + 3n are cleared",
+        &[(COUNT, "    slip[0] = circle.len() as u8;\n    slip[1 + 3 * circle.len()..].fill(0);")],
+    ),
+    plant(
+        "slip-again",
+        "the first dependency is written once more behind the last, where there is room",
+        &[(
+            COUNT,
+            "    slip[0] = circle.len() as u8;
+    if let Some(past) = slip[1..].chunks_exact_mut(3).nth(circle.len()) {
+        past.copy_from_slice(&[circle[0].0, circle[0].1, circle[0].2]);
+    }",
+        )],
     ),
     plant("slip-without-fault", "the slip's first byte is cleared without a fault", &[("    if left == 0 {", "    if left == 0 {\n        slip[0] = 0;")]),
-    plant("slip-count", "the slip's n is K more", &[("slip[0] = n as u8;", "slip[0] = n as u8 + desk[0];")]),
-    plant("slip-highest", "the slip begins with the highest class", &[("(0..n).min_by_key(", "(0..n).max_by_key(")]),
+    plant(
+        "slip-count",
+        "the slip's n is K more",
+        &[(SHOW, "    show(slip, &circle.expect(\"where something remains, a cycle exists\"));\n    slip[0] += desk[0];")],
+    ),
+    plant("slip-count-less", "the slip's n is 1 less", &[(COUNT, "    slip[0] = circle.len() as u8 - 1;")]),
+    plant(
+        "slip-highest",
+        "the slip begins with the highest class",
+        &[(
+            COUNT,
+            "    let high = (0..circle.len()).max_by_key(|&i| circle[i].0).unwrap_or(0);
+    let circle = &[&circle[high..], &circle[..high]].concat()[..];
+    slip[0] = circle.len() as u8;",
+        )],
+    ),
+    // The cycle shown: how cycles are compared.
+    breaks(
+        LEAST,
+        shown(
+            &["cycle by the kind before the next class"],
+            plant("class-before-kind", "the next class is compared before kind and source", by_key!("[class, next, kind, source]")),
+        ),
+    ),
+    shown(
+        &["cycle by the source before the next class"],
+        plant("class-before-source", "the next class is compared before the source", by_key!("[class, kind, next, source]")),
+    ),
+    breaks(
+        LEAST,
+        shown(
+            &["cycle by the kind before the source"],
+            plant("source-before-kind", "the source is compared before the kind", by_key!("[class, source, kind, 0]")),
+        ),
+    ),
+    shown(
+        &["cycle by ER before EN, or SR before SN"],
+        plant(
+            "kinds-by-letters",
+            "kinds are compared as EN, ER, SN, SR",
+            by_key!("[class, [0, 1, 0, 0, 3, 0, 0, 0, 2][usize::from(kind)], source, 0]"),
+        ),
+    ),
+    shown(
+        &["cycle by hold before hard before soft"],
+        plant("sources-backwards", "sources are compared as soft, hard, hold", by_key!("[class, kind, 2 - source, 0]")),
+    ),
+    shown(
+        &["cycle by hold before hard before soft"],
+        plant("soft-before-hard", "sources are compared as hold, soft, hard", by_key!("[class, kind, (3 - source) % 3, 0]")),
+    ),
+    // The cycle shown: joints.
+    shown(
+        &["least kind barred by the next joint"],
+        plant("next-joint-ignored", "each dependency but the last is the least drawn, whatever follows it", loosened!("0..n - 1")),
+    ),
+    shown(
+        &["least kind barred by the closing joint"],
+        plant("closing-kind-ignored", "the last dependency is the least drawn, whatever the first is", loosened!("n - 1..n")),
+    ),
+    shown(
+        &["cycle where one less is barred by the closing joint"],
+        plant(
+            "closing-ignored",
+            "the choice heeds every joint but the closing one",
+            &[
+                ("let mut away: Vec<Set> = vec![1 << start];", "let mut away: Vec<Set> = vec![1 << (start % 64) | 1 << (64 + start % 64)];"),
+                ("        least.swap_remove(start)", "        let both = [least[start % 64].take(), least[64 + start % 64].take()];\n        both.into_iter().flatten().min()"),
+            ],
+        ),
+    ),
+    shown(
+        &["cycle closed by R before one closed by N"],
+        plant(
+            "closed-by-n",
+            "a cycle whose last dependency ends in N goes before all others",
+            &[(LAST_CHOICE, "            .filter_map(|start| self.least_walk(start, fewest, desk, sheet))\n            .next()")],
+        ),
+    ),
+    // The cycle shown: its length, its first class, its way.
+    shown(
+        &["shorter cycle above a longer one"],
+        plant(
+            "lowest-before-fewest",
+            "the shortest cycle through the lowest class that is on any, if it passes no class twice",
+            &[
+                (
+                    FEWEST,
+                    "        for class in 0..64 {
+            let starts = [class, 64 + class].into_iter().filter(|start| left >> start & 1 == 1);
+            let walks = starts.filter_map(|start| self.least_walk(start, self.shortest_through(start)?, desk, sheet));
+            let least = walks.filter(|walk| is_cycle(walk)).min_by_key(|walk| (walk.len(), walk.clone()));
+            if least.is_some() {
+                return least;
+            }
+        }
+        // \"fewest arrows\", and the arrivals on cycles of so many.",
+                ),
+                IS_CYCLE,
+            ],
+        ),
+    ),
+    plant(
+        "one-longer",
+        "a cycle of one dependency more, if there is one from the same class",
+        &[
+            (
+                LAST_CHOICE,
+                "            .filter_map(|start| self.least_walk(start, fewest, desk, sheet))
+            .min()
+            .map(|least| {
+                let starts = [first, 64 + first].into_iter();
+                let longer = starts.filter_map(|start| self.least_walk(start, fewest + 1, desk, sheet));
+                longer.filter(|walk| is_cycle(walk)).min().unwrap_or(least)
+            })",
+            ),
+            IS_CYCLE,
+        ],
+    ),
+    shown(
+        &["cycles of the fewest from several classes"],
+        plant(
+            "later-start",
+            "the highest class that a cycle of the fewest can begin with",
+            &[(
+                "        let first = members(on).map(|i| i % 64).min()?;",
+                "        let lowest = |&first: &usize| {
+            let starts = [first, 64 + first].into_iter().filter(|&start| on >> start & 1 == 1);
+            let least = starts.filter_map(|start| self.least_walk(start, fewest, desk, sheet)).min();
+            least.is_some_and(|walk| walk.iter().all(|arrow| usize::from(arrow.0) >= first))
+        };
+        let first = (0..64).rev().filter(|first| (on | on >> 64) >> first & 1 == 1).find(lowest)?;",
+            )],
+        ),
+    ),
+    shown(
+        &["cycle that first parents do not lead to"],
+        plant("first-parents", "to each arrival by the first that leads there", &[(CHOICE, "walks.into_iter().next()")]),
+    ),
+    shown(
+        &["several cycles of the fewest"],
+        plant(
+            "greatest",
+            "the greatest cycle of the fewest",
+            &[
+                (CHOICE, "walks.into_iter().max()"),
+                (LAST_CHOICE, "            .filter_map(|start| self.least_walk(start, fewest, desk, sheet))\n            .max()"),
+            ],
+        ),
+    ),
+    breaks(
+        LEAST,
+        shown(
+            &["several cycles of the fewest"],
+            plant(
+                "second-least",
+                "as late as it can be one dependency is the next less that makes a true cycle",
+                &[(
+                    SHOW,
+                    "    show(slip, &circle.expect(\"where something remains, a cycle exists\"));
+    for i in (0..usize::from(slip[0])).rev() {
+        let old = (slip[2 + 3 * i], slip[3 + 3 * i]);
+        let all = [ER, EN, SR, SN].into_iter().flat_map(|kind| [0, 1, 2].map(|source| (kind, source)));
+        for (kind, source) in all.filter(|&other| other > old) {
+            slip[2 + 3 * i..4 + 3 * i].copy_from_slice(&[kind, source]);
+            if true_circle(desk, sheet, slip) {
+                return 1;
+            }
+        }
+        slip[2 + 3 * i..4 + 3 * i].copy_from_slice(&[old.0, old.1]);
+    }",
+                )],
+            ),
+        ),
+    ),
+    shown(
+        &["several cycles of the fewest", "cycles of the fewest from several classes"],
+        plant(
+            "from-the-record",
+            "among the cycles of the fewest the least from the class acquired, if it is on one",
+            &[(
+                CYCLE,
+                "    let least = drawing.least_cycle(left, desk, sheet);
+    let own = usize::from(class);
+    let starts = if kind == TAKE { vec![own, 64 + own] } else { Vec::new() };
+    let n = least.as_ref().map_or(0, Vec::len);
+    let through = starts.into_iter().filter_map(|start| drawing.least_walk(start, n, desk, sheet)).min();
+    let circle = through.or(least).map(|mut circle| {
+        let low = (0..n).min_by_key(|&i| circle[i].0).unwrap_or(0);
+        circle.rotate_left(low);
+        circle
+    });",
+            )],
+        ),
+    ),
     // Opening.
     shown(
         &["opening of a desk without the origins", "opening of a desk with part of the origins"],

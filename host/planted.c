@@ -113,6 +113,42 @@
     X(safe_by_oldest_of_class, try_same_class, wrong) \
     X(safe_by_frame, try_in_handlers, wrong) \
     X(safe_by_place_above, origin_acquires, wrong) \
+    X(shown_class_before_kind, shown_by_hand, wrong) \
+    X(shown_class_before_kind_in_logs, shown_in_logs, wrong) \
+    X(shown_class_before_source, shown_by_hand, wrong) \
+    X(shown_class_before_source_in_logs, shown_in_logs, wrong) \
+    X(shown_classes_first, shown_all_tried, wrong) \
+    X(shown_source_before_kind, shown_by_hand, wrong) \
+    X(shown_kinds_highest_first, shown_kinds, wrong) \
+    X(shown_kinds_n_first, shown_kinds, wrong) \
+    X(shown_kinds_s_first, shown_kinds, wrong) \
+    X(shown_kinds_by_second_letter, shown_kinds, wrong) \
+    X(shown_soft_before_hard, shown_sources, wrong) \
+    X(shown_hard_before_hold, shown_sources, wrong) \
+    X(shown_soft_first, shown_sources, wrong) \
+    X(shown_joint_ignored, shown_by_hand, wrong) \
+    X(shown_closing_joint_ignored, shown_by_hand, wrong) \
+    X(shown_joint_to_lowest_only, shown_by_hand, wrong) \
+    X(shown_longest, shown_by_hand, wrong) \
+    X(shown_lowest_class_before_fewest, shown_by_hand, wrong) \
+    X(shown_highest_start, shown_by_hand, wrong) \
+    X(shown_by_kind_before_start, shown_by_hand, wrong) \
+    X(shown_from_second_class, shown_by_hand, wrong) \
+    X(shown_from_highest_class, shown_in_logs, wrong) \
+    X(shown_by_parents, shown_by_hand, wrong) \
+    X(shown_right_to_left, shown_by_hand, wrong) \
+    X(shown_second, shown_all_tried, wrong) \
+    X(shown_second_in_layers, shown_layers, wrong) \
+    X(shown_second_in_logs, shown_random_logs, wrong) \
+    X(shown_last, shown_by_hand, wrong) \
+    X(shown_by_core, shown_by_any_record, wrong) \
+    X(shown_by_class, shown_by_any_record, wrong) \
+    X(shown_by_what_is_drawn, shown_by_any_record, wrong) \
+    X(shown_ring_of_63, shown_ring, wrong) \
+    X(shown_ring_ends_wrong, shown_ring, wrong) \
+    X(shown_tie_wrong, shown_ties, wrong) \
+    X(shown_late_kinds_wrong, shown_ties, wrong) \
+    X(shown_clears_slip, shown_by_hand, wrong) \
     X(ask_class_cut, ask_refused, wrong) \
     X(ask_leaves_word, ask_refused, wrong) \
     X(ask_writes_behind_count, ask_refused, wrong) \
@@ -242,6 +278,10 @@
     X(feed_writes_before, feed_cuts, wrong) \
     X(feed_writes_slip, feed_cuts, wrong) \
     X(feed_writes_sheet, feed_cuts, wrong) \
+    X(feed_shows_second, shown_in_logs, wrong) \
+    X(feed_shows_second_by_hand, shown_by_hand, wrong) \
+    X(feed_shows_from_second_class, shown_in_logs, wrong) \
+    X(feed_shows_cut, shown_by_hand, wrong) \
     X(feed_writes_piece, feed_cuts, wrong) \
     X(feed_reads_behind_feed, feed_example, killed) \
     X(feed_reads_before_feed, feed_example, killed) \
@@ -670,6 +710,333 @@ static void spoil_accepted(struct call *c)
         spoil_marks(c);
 }
 
+/* --------------------------------------------------------- the cycle shown */
+
+/* Most wrong versions try all cycles, and are right with many classes. */
+enum { FEW = 12, RANKS = 12, ENTRY = 3, MOST_KEY = 2 + 4 * FEW };
+
+struct choice {
+    const struct call *c;
+    uint8_t slip[PLUNGEROWL_SLIP_SIZE(FEW)];
+    uint8_t best[PLUNGEROWL_SLIP_SIZE(FEW)]; /* 0 dependencies: none yet */
+    uint8_t key[MOST_KEY], best_key[MOST_KEY];
+    const uint8_t *right; /* the slip */
+};
+
+static int is_drawn(const uint8_t *desk, const uint8_t *sheet, unsigned from,
+                    unsigned to, unsigned kind, unsigned source)
+{
+    const uint8_t *marks = desk + MARKS_AT;
+    unsigned unsafe = kind < PLUNGEROWL_SR ? 4 : 8;
+    unsigned safe = kind == PLUNGEROWL_ER || kind == PLUNGEROWL_SR ? 2 : 1;
+
+    if (source == PLUNGEROWL_SOURCE_HOLD)
+        return (sheet[from * desk[0] + to] & kind) != 0;
+    if (source == PLUNGEROWL_SOURCE_SOFT)
+        return marks[from] & 16 * unsafe && marks[to] & 16 * safe;
+    return marks[from] & unsafe && marks[to] & safe;
+}
+
+static int is_weak(unsigned kind, unsigned next)
+{
+    return (kind == PLUNGEROWL_ER || kind == PLUNGEROWL_SR)
+           && next >= PLUNGEROWL_SR;
+}
+
+static int is_either(enum plant one, enum plant other)
+{
+    return plant() == one || plant() == other;
+}
+
+/* A kind or a source as a number in the order of a wrong version. */
+static unsigned kind_in_order(unsigned kind)
+{
+    unsigned place = kind == 8 ? 3 : kind / 2; /* ER, EN, SR, SN */
+
+    switch (plant()) {
+    case shown_kinds_highest_first: return 3 - place;
+    case shown_kinds_n_first: return place ^ 1;
+    case shown_kinds_s_first: return place ^ 2;
+    case shown_kinds_by_second_letter: return place % 2 * 2 + place / 2;
+    default: return place;
+    }
+}
+
+static unsigned source_in_order(unsigned source)
+{
+    static const unsigned orders[][3] = { { 0, 2, 1 }, { 1, 0, 2 },
+                                          { 2, 1, 0 } };
+
+    return plant() >= shown_soft_before_hard && plant() <= shown_soft_first
+           ? orders[plant() - shown_soft_before_hard][source] : source;
+}
+
+/* What a wrong version compares of the slip: first the length, the lowest class
+ * or both, then its entries. */
+static void make_key(struct choice *s)
+{
+    unsigned n = s->slip[0], i;
+    uint8_t *key = s->key;
+
+    memset(key, 0, sizeof s->key);
+    *key++ = (uint8_t)(plant() == shown_longest ? 255 - n
+                       : plant() == shown_lowest_class_before_fewest
+                       ? s->slip[1] : n);
+    *key++ = (uint8_t)(plant() == shown_highest_start ? 255u - s->slip[1]
+                       : plant() == shown_lowest_class_before_fewest ? n
+                       : plant() == shown_by_kind_before_start ? 0
+                       : s->slip[1]);
+    for (i = 0; i < n; i++) {
+        unsigned at = plant() == shown_right_to_left ? n - 1 - i : i;
+        const uint8_t *entry = s->slip + 1 + ENTRY * at;
+        uint8_t kind = (uint8_t)kind_in_order(entry[1]);
+        uint8_t source = (uint8_t)source_in_order(entry[2]);
+        uint8_t next = s->slip[1 + ENTRY * ((at + 1) % n)];
+
+        if (is_either(shown_class_before_kind,
+                      shown_class_before_kind_in_logs)) {
+            *key++ = next, *key++ = kind, *key++ = source;
+        } else if (is_either(shown_class_before_source,
+                             shown_class_before_source_in_logs)) {
+            *key++ = kind, *key++ = next, *key++ = source;
+        } else if (plant() == shown_source_before_kind) {
+            *key++ = source, *key++ = kind, *key++ = next;
+        } else if (plant() == shown_classes_first) {
+            s->key[2 + i] = next;
+            s->key[2 + n + 2 * i] = kind;
+            s->key[3 + n + 2 * i] = source;
+        } else if (plant() == shown_right_to_left) {
+            *key++ = entry[0], *key++ = kind, *key++ = source;
+        } else {
+            *key++ = kind, *key++ = source, *key++ = next;
+        }
+    }
+}
+
+/* Whether a wrong version takes this cycle at all. */
+static int is_taken(const struct choice *s)
+{
+    const struct call *c = s->c;
+    unsigned i, n = s->slip[0];
+
+    switch (plant()) {
+    case shown_second:
+    case shown_second_in_layers:
+    case shown_second_in_logs:
+    case feed_shows_second:
+    case feed_shows_second_by_hand:
+        return memcmp(s->slip, s->right, 1 + ENTRY * n) != 0;
+    case shown_by_core:
+        return c->core == 0 || memcmp(s->slip, s->right, 1 + ENTRY * n) != 0;
+    case shown_by_class:
+        for (i = 0; i < n && c->kind == PLUNGEROWL_ACQUIRE; i++)
+            if (s->slip[1 + ENTRY * i] == c->class_)
+                return 1;
+        return 0;
+    case shown_by_what_is_drawn:
+        for (i = 0; i < n; i++) {
+            const uint8_t *entry = s->slip + 1 + ENTRY * i;
+
+            if (!is_drawn(c->old_desk, c->old_sheet, entry[0],
+                          s->slip[1 + ENTRY * ((i + 1) % n)], entry[1],
+                          entry[2]))
+                return 1;
+        }
+        return 0;
+    default: return 1;
+    }
+}
+
+static void offer(struct choice *s)
+{
+    int order;
+
+    if (!is_taken(s))
+        return;
+    make_key(s);
+    order = memcmp(s->key, s->best_key, sizeof s->key);
+    if (s->best[0] == 0 || (plant() == shown_last ? order > 0 : order < 0)) {
+        memcpy(s->best, s->slip, sizeof s->best);
+        memcpy(s->best_key, s->key, sizeof s->best_key);
+    }
+}
+
+/* The joint in front of entry i is passed over. */
+static int joint_passed(const struct choice *s, unsigned i)
+{
+    return plant() == shown_joint_ignored
+           || (plant() == shown_joint_to_lowest_only
+               && s->slip[1 + ENTRY * i] != s->right[1 + ENTRY * i]);
+}
+
+/* Every cycle that begins with the entries before i and the class of entry i,
+ * its lowest class first. */
+static void try_all_from(struct choice *s, unsigned i)
+{
+    uint8_t *entry = s->slip + 1 + ENTRY * i;
+    unsigned n = s->slip[0], rank, to, j;
+
+    for (rank = 0; rank < RANKS; rank++) {
+        entry[1] = (uint8_t)(1u << rank / 3);
+        entry[2] = (uint8_t)(rank % 3);
+        if (i > 0 && is_weak(entry[-2], entry[1]) && !joint_passed(s, i))
+            continue;
+        for (to = s->slip[1]; to < s->c->k; to++) {
+            if (!is_drawn(s->c->desk, s->c->sheet, entry[0], to, entry[1],
+                          entry[2]))
+                continue;
+            if (i + 1 == n) {
+                if (to == s->slip[1]
+                    && (!is_weak(entry[1], s->slip[2])
+                        || plant() == shown_closing_joint_ignored))
+                    offer(s);
+                continue;
+            }
+            for (j = 0; j <= i && s->slip[1 + ENTRY * j] != to; j++)
+                ;
+            if (j > i) {
+                entry[ENTRY] = (uint8_t)to;
+                try_all_from(s, i + 1);
+            }
+        }
+    }
+}
+
+/* The slip of the wrong version's choice, where it has one. The joints are
+ * passed over in cycles of the right length from the right class only. */
+static void choose(const struct call *c, uint8_t *slip)
+{
+    static struct choice s;
+    int all = is_either(shown_longest, shown_lowest_class_before_fewest);
+    int as_right = plant() >= shown_joint_ignored
+                   && plant() <= shown_joint_to_lowest_only;
+    unsigned n, class_;
+
+    if (c->k > FEW)
+        return;
+    memset(&s, 0, sizeof s);
+    s.c = c;
+    s.right = slip;
+    for (n = 1; n <= c->k && (all || n <= slip[0]); n++) {
+        for (class_ = 0; class_ < c->k; class_++) {
+            if (as_right && (n != slip[0] || class_ != slip[1]))
+                continue;
+            s.slip[0] = (uint8_t)n;
+            s.slip[1] = (uint8_t)class_;
+            try_all_from(&s, 0);
+        }
+    }
+    if (s.best[0] != 0)
+        memcpy(slip, s.best, 1 + ENTRY * (size_t)s.best[0]);
+}
+
+/* From the right class on, arrival by arrival, classes in order; each arrival
+ * keeps the one that met it first. */
+static void choose_by_parents(const struct call *c, uint8_t *slip)
+{
+    struct {
+        uint8_t entry[ENTRY];
+        unsigned parent, first, length; /* of the way to the entry's class */
+    } met[1 + 2 * PLUNGEROWL_MAX_CLASSES];
+    uint8_t seen[PLUNGEROWL_MAX_CLASSES][2] = { { 0 } };
+    unsigned count = 1, i, j, to, rank;
+
+    met[0].entry[0] = slip[1];
+    met[0].parent = met[0].first = met[0].length = 0;
+    for (i = 0; i < count; i++) {
+        for (to = slip[1]; to < c->k; to++) {
+            for (rank = 0; rank < RANKS; rank++) {
+                unsigned kind = 1u << rank / 3, by_r = rank / 3 % 2 == 0;
+                unsigned first = i == 0 ? kind : met[i].first;
+
+                if (!is_drawn(c->desk, c->sheet, met[i].entry[0], to, kind,
+                              rank % 3)
+                    || (i > 0 && is_weak(met[i].entry[1], kind)))
+                    continue;
+                if (to == slip[1] && !is_weak(kind, first)) {
+                    if (met[i].length + 1 != slip[0])
+                        return;
+                    /* met has the kind and source by which a class was met,
+                     * the slip those by which it is left. */
+                    for (j = met[i].length; ; i = met[i].parent, j--) {
+                        slip[1 + ENTRY * j] = met[i].entry[0];
+                        slip[2 + ENTRY * j] = (uint8_t)kind;
+                        slip[3 + ENTRY * j] = (uint8_t)(rank % 3);
+                        if (j == 0)
+                            return;
+                        kind = met[i].entry[1];
+                        rank = met[i].entry[2];
+                    }
+                }
+                if (to == slip[1] || seen[to][by_r])
+                    continue;
+                seen[to][by_r] = 1;
+                met[count].entry[0] = (uint8_t)to;
+                met[count].entry[1] = (uint8_t)kind;
+                met[count].entry[2] = (uint8_t)(rank % 3);
+                met[count].parent = i;
+                met[count].first = first;
+                met[count].length = met[i].length + 1;
+                count++;
+            }
+        }
+    }
+}
+
+/* The same cycle, beginning elsewhere. */
+static void rotate(uint8_t *slip, unsigned by)
+{
+    uint8_t old[PLUNGEROWL_SLIP_SIZE(PLUNGEROWL_MAX_CLASSES)];
+    unsigned n = slip[0], i;
+
+    memcpy(old, slip, 1 + ENTRY * n);
+    for (i = 0; i < n; i++)
+        memcpy(slip + 1 + ENTRY * i, old + 1 + ENTRY * ((i + by) % n), ENTRY);
+}
+
+/* The place of the highest class. */
+static unsigned highest_in(const uint8_t *slip)
+{
+    unsigned i, at = 0;
+
+    for (i = 1; i < slip[0]; i++)
+        if (slip[1 + ENTRY * i] > slip[1 + ENTRY * at])
+            at = i;
+    return at;
+}
+
+/* The cycle that a wrong version shows in place of the right one. */
+static void spoil_shown(const struct call *c, uint8_t *slip, size_t slip_len)
+{
+    unsigned n = slip[0], i;
+
+    switch (plant()) {
+    case shown_by_parents: choose_by_parents(c, slip); break;
+    case shown_from_second_class:
+    case feed_shows_from_second_class: rotate(slip, 1); break;
+    case shown_from_highest_class: rotate(slip, highest_in(slip)); break;
+    case shown_ring_of_63: slip[0] = (uint8_t)(n < 64 ? n : 63); break;
+    case shown_ring_ends_wrong:
+        if (n == 64 && c->sheet[slip[1 + ENTRY * 63] * c->k] == 15)
+            slip[2 + ENTRY * 63] = PLUNGEROWL_SN;
+        break;
+    case shown_tie_wrong:
+        if (n == 32)
+            slip[1 + ENTRY * 16] ^= 1;
+        break;
+    case shown_late_kinds_wrong:
+        for (i = 30; i < n; i++)
+            if (slip[2 + ENTRY * i] == PLUNGEROWL_ER)
+                slip[2 + ENTRY * i] = PLUNGEROWL_EN;
+        break;
+    case shown_clears_slip:
+        memset(slip + 1 + ENTRY * n, 0, slip_len - 1 - ENTRY * n);
+        break;
+    case feed_shows_cut: slip[0] = (uint8_t)(n > 2 ? 2 : n); break;
+    default: choose(c, slip); break;
+    }
+}
+
 /* ---------------------------------------------------------------- the calls */
 
 uint8_t plungerowl_open(uint64_t classes, uint8_t *desk, size_t desk_len,
@@ -822,6 +1189,9 @@ uint8_t plungerowl_step(uint8_t *desk, size_t desk_len,
                        record, record_len);
     if (answer <= PLUNGEROWL_FAULT)
         spoil_accepted(&call);
+    if (answer == PLUNGEROWL_FAULT && plant() >= shown_class_before_kind
+        && plant() <= shown_clears_slip)
+        spoil_shown(&call, slip, slip_len);
     switch (plant()) {
     case step_reads_before_desk: peek(desk - 1); break;
     case step_reads_behind_desk: peek(desk + desk_len); break;
@@ -1147,8 +1517,15 @@ static void judge_header(struct lent *l, struct progress *p)
 
 static void judge_record(struct lent *l, struct progress *p)
 {
+    static struct call call;
+
     p->answer = real_step(l->desk, l->desk_len, l->sheet, l->sheet_len,
                           l->slip, l->slip_len, p->loose, p->count);
+    if (p->answer == PLUNGEROWL_FAULT && plant() >= feed_shows_second
+        && plant() <= feed_shows_cut) {
+        keep_old(&call, l->desk, l->sheet, p->loose);
+        spoil_shown(&call, l->slip, l->slip_len);
+    }
     p->count = 0;
     p->number = one_more(p->number);
     switch (plant()) {

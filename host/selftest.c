@@ -361,7 +361,10 @@ static void want_accepted(struct buffers *b, const uint8_t *record)
     want_marks(b, record[2]);
 }
 
-/* ---------------------------------------------------------- a true cycle */
+/* ------------------------------------------------------- the least cycle */
+
+/* The four kinds and the three sources, in the order of the slip's bytes. */
+enum { KINDS = 4, SOURCES = 3 };
 
 static int starts_s(unsigned kind)
 {
@@ -373,47 +376,142 @@ static int ends_r(unsigned kind)
     return kind == PLUNGEROWL_ER || kind == PLUNGEROWL_SR;
 }
 
+static int is_strong(unsigned kind, unsigned next)
+{
+    return !(ends_r(kind) && starts_s(next));
+}
+
+/* By the copies of desk and sheet. */
+static unsigned classes_of(const struct buffers *b)
+{
+    return b->want_desk.bytes[0];
+}
+
 static int has_dependency(const struct buffers *b, unsigned from, unsigned to,
-                     unsigned kind, unsigned source)
+                          unsigned kind, unsigned source)
 {
     const uint8_t *marks = b->want_desk.bytes + MARKS_AT;
     unsigned level = source == PLUNGEROWL_SOURCE_SOFT ? 16 : 1;
     unsigned unsafe = level * (starts_s(kind) ? 8 : 4);
     unsigned safe = level * (ends_r(kind) ? 2 : 1);
 
-    if (from >= b->k || to >= b->k || source > 2)
-        return 0;
-    if (kind != 1 && kind != 2 && kind != 4 && kind != 8)
-        return 0;
     if (source == PLUNGEROWL_SOURCE_HOLD)
-        return (b->want_sheet.bytes[from * b->k + to] & kind) != 0;
+        return (b->want_sheet.bytes[from * classes_of(b) + to] & kind) != 0;
     return (marks[from] & unsafe) != 0 && (marks[to] & safe) != 0;
 }
 
-/* The slip has a true cycle; afterwards its copy has it as well. */
-static void check_cycle(struct buffers *b, const char *what)
+/* The slips are tried in their order, first those with one dependency, then
+ * those with two and so on; the first that is a cycle is the one. What cannot
+ * end in time is not gone into: back[c][s][i][r] has the classes from which i
+ * dependencies lead to class c. The cycle begins with S if s is 1, and what
+ * comes before those i ends with R if r is 1. */
+struct least {
+    const struct buffers *b;
+    uint64_t ends[64][KINDS]; /* of the dependencies from a class */
+    uint64_t back[64][2][64][2];
+    uint8_t slip[PLUNGEROWL_SLIP_SIZE(64)];
+};
+
+static void find_ends(struct least *l)
 {
-    const uint8_t *slip = b->slip.bytes;
-    unsigned n = slip[0];
-    uint64_t seen = 0;
-    unsigned i;
+    unsigned from, to, kind, source, k = classes_of(l->b);
 
-    check(n >= 1 && n <= b->k, "%s: cycle of %u dependencies", what, n);
-    if (n < 1 || n > b->k)
-        return;
-    for (i = 0; i < n; i++) {
-        const uint8_t *entry = slip + 1 + 3 * i;
-        const uint8_t *next = slip + 1 + 3 * ((i + 1) % n);
+    memset(l->ends, 0, sizeof l->ends);
+    for (from = 0; from < k; from++)
+        for (to = 0; to < k; to++)
+            for (kind = 0; kind < KINDS; kind++)
+                for (source = 0; source < SOURCES; source++)
+                    if (has_dependency(l->b, from, to, 1u << kind, source))
+                        l->ends[from][kind] |= BIT(to);
+}
 
-        check(has_dependency(b, entry[0], next[0], entry[1], entry[2]),
-              "%s: dependency %u of the cycle is not drawn", what, i);
-        check(!(ends_r(entry[1]) && starts_s(next[1])),
-              "%s: joint %u of the cycle is not strong", what, i);
-        check(entry[0] >= slip[1], "%s: lowest class not first", what);
-        check(!(seen & BIT(entry[0] % 64)), "%s: class twice", what);
-        seen |= BIT(entry[0] % 64);
+static int leads_back(const struct least *l, unsigned class_, unsigned kind,
+                      uint64_t back[2])
+{
+    return (l->ends[class_][kind] & back[ends_r(1u << kind)]) != 0;
+}
+
+/* The row for i dependencies, from that for one less. */
+static void find_back(struct least *l, unsigned c, unsigned s, unsigned i)
+{
+    uint64_t (*back)[2] = l->back[c][s];
+    unsigned class_, kind;
+
+    back[i][0] = i == 0 ? BIT(c) : 0;
+    back[i][1] = i == 0 && !s ? BIT(c) : 0;
+    for (class_ = 0; i > 0 && class_ < classes_of(l->b); class_++) {
+        for (kind = 0; kind < KINDS; kind++) {
+            if (!leads_back(l, class_, kind, back[i - 1]))
+                continue;
+            back[i][0] |= BIT(class_);
+            if (!starts_s(1u << kind))
+                back[i][1] |= BIT(class_);
+        }
     }
-    memcpy(b->want_slip.bytes, slip, 1 + 3 * n);
+}
+
+/* The slip's dependencies from number i on, the first of them from the class;
+ * passed has the classes before, and this one. */
+static int finish_slip(struct least *l, unsigned i, unsigned class_,
+                       uint64_t passed)
+{
+    const uint8_t *first = l->slip + 1;
+    uint8_t *entry = l->slip + 1 + 3 * i;
+    unsigned left = l->slip[0] - 1u - i, rank, to;
+
+    entry[0] = (uint8_t)class_;
+    for (rank = 0; rank < KINDS * SOURCES; rank++) {
+        unsigned kind = 1u << rank / SOURCES, source = rank % SOURCES;
+        uint64_t back;
+
+        if (i > 0 && !is_strong(entry[-2], kind))
+            continue;
+        entry[1] = (uint8_t)kind;
+        entry[2] = (uint8_t)source;
+        back = l->back[first[0]][starts_s(first[1])][left][ends_r(kind)];
+        for (to = first[0]; to < classes_of(l->b); to++) {
+            if (!(back & BIT(to))
+                || !has_dependency(l->b, class_, to, kind, source))
+                continue;
+            if (left == 0 || (!(passed & BIT(to))
+                              && finish_slip(l, i + 1, to, passed | BIT(to))))
+                return 1;
+        }
+    }
+    return 0;
+}
+
+/* The least cycle of what the copies of desk and sheet have, as a slip; its
+ * number of dependencies is 0 if there is none. */
+static const uint8_t *least_cycle(const struct buffers *b)
+{
+    static struct least l;
+    unsigned n, c;
+
+    l.b = b;
+    find_ends(&l);
+    for (n = 1; n <= classes_of(b); n++) {
+        for (c = 0; c < classes_of(b); c++) {
+            find_back(&l, c, 0, n - 1);
+            find_back(&l, c, 1, n - 1);
+        }
+        l.slip[0] = (uint8_t)n;
+        for (c = 0; c < classes_of(b); c++)
+            if (finish_slip(&l, 0, c, BIT(c)))
+                return l.slip;
+    }
+    l.slip[0] = 0;
+    return l.slip;
+}
+
+/* Put the least cycle into the slip's copy. */
+static void want_cycle(struct buffers *b, const char *what)
+{
+    const uint8_t *slip = least_cycle(b);
+
+    check(slip[0] > 0, "%s: a fault, but no cycle is drawn", what);
+    if (slip[0] > 0)
+        memcpy(b->want_slip.bytes, slip, PLUNGEROWL_SLIP_SIZE(slip[0]));
 }
 
 /* ------------------------------------------------------ calls with checks */
@@ -485,13 +583,13 @@ static void expect_bytes(struct buffers *b, const uint8_t *record,
 
     if (answer <= 1)
         want_accepted(b, record);
-    if (answer == 1)
+    if (answer == 1) {
         b->want_desk.bytes[CLOSED_AT] = 1;
+        want_cycle(b, what);
+    }
     is = call_step(b, b->desk.size, b->sheet.size, b->slip.size, record, length,
                    what);
     check(is == answer, "%s: step answers %u, not %u", what, is, answer);
-    if (answer == 1)
-        check_cycle(b, what);
     check_buffers(b, what);
 }
 
@@ -716,7 +814,9 @@ static void test_full_slip(void)
     expect_reach(&b, 62, BIT(63), 1, "ring before the fault, from 62");
     expect_step(&b, 7, ACQUIRE, 63, E, 0, "ring, last but one");
     expect_step(&b, 7, ACQUIRE, 0, E, 1, "ring, last");
-    check(b.slip.bytes[0] == 64, "ring: cycle of %u", b.slip.bytes[0]);
+    for (i = 0; i < 64; i++)
+        check(b.slip.bytes[1 + 3 * i] == i && b.slip.bytes[2 + 3 * i] == 2
+              && b.slip.bytes[3 + 3 * i] == 0, "ring: dependency %u", i);
     expect_reach(&b, 31, UINT64_MAX, 64, "ring closed, from 31");
     expect_no_reach(&b, 64, 4, "ring closed, from 64");
     free_buffers(&b);
@@ -2078,6 +2178,8 @@ static void want_unit(struct feeding *f, const uint8_t *unit, size_t size)
                                           b->want_slip.bytes, f->slip_len,
                                           unit, size);
         put_number_in(feed, number + (number != UINT64_MAX));
+        if (feed[ANSWER_AT] == 1)
+            want_cycle(b, "fed");
     } else {
         feed[ANSWER_AT] = plungerowl_open(good ? unit[3] : 0,
                                           b->want_desk.bytes, f->desk_len,
@@ -3235,6 +3337,716 @@ static void test_feed_other_writer(void)
     free_feed(&f);
 }
 
+/* --------------------------------------------------------- the cycle shown */
+
+/* A graph with few classes: the sheet bytes up to one of 0, the marks, and the
+ * slip that is due. In a log all dependencies that go to class `into` are drawn
+ * last, by one acquire. */
+enum { FEW = 8, NO_LOG = 255 };
+
+struct drawn {
+    uint8_t from, to, kinds;
+};
+
+struct shown {
+    const char *what;
+    uint8_t into;
+    struct drawn drawn[10];
+    uint8_t marks[FEW];
+    uint8_t slip[PLUNGEROWL_SLIP_SIZE(4)];
+};
+
+static const struct shown shown[] = {
+    /* Next class after kind, and after source. */
+    { "0 ER 2 before 0 EN 1", 0,
+      { { 0, 1, 2 }, { 1, 0, 2 }, { 0, 2, 1 }, { 2, 0, 2 } }, { 0 },
+      { 2, 0, 1, 0, 2, 2, 0 } },
+    { "1 EN 3 before 1 SN 2, behind a class", 0,
+      { { 0, 1, 2 }, { 1, 2, 8 }, { 1, 3, 2 }, { 2, 0, 2 }, { 3, 0, 2 } },
+      { 0 }, { 3, 0, 2, 0, 1, 2, 0, 3, 2, 0 } },
+    { "0 EN 2 hold before 0 EN 1 hard", 0,
+      { { 0, 2, 2 }, { 1, 0, 2 }, { 2, 0, 2 } }, { 4, 1 },
+      { 2, 0, 2, 0, 2, 2, 0 } },
+    { "0 EN 2 hard before 0 EN 1 soft", 0,
+      { { 1, 0, 2 }, { 2, 0, 2 } }, { 68, 16, 1 },
+      { 2, 0, 2, 1, 2, 2, 0 } },
+    { "1 ER 3 hold before 1 ER 2 soft, behind a class", 0,
+      { { 0, 1, 2 }, { 1, 3, 1 }, { 2, 0, 2 }, { 3, 0, 2 } }, { 0, 68, 32 },
+      { 3, 0, 2, 0, 1, 1, 0, 3, 2, 0 } },
+    { "the same kind and source: 0 EN 1 before 0 EN 2", 0,
+      { { 0, 1, 2 }, { 1, 0, 8 }, { 0, 2, 2 }, { 2, 0, 2 } }, { 0 },
+      { 2, 0, 2, 0, 1, 8, 0 } },
+    /* Kind before source. */
+    { "0 ER 1 hard before 0 EN 1 hold", 0,
+      { { 0, 1, 2 }, { 1, 0, 2 } }, { 4, 2 }, { 2, 0, 1, 1, 1, 2, 0 } },
+    { "0 ER 1 soft before 0 EN 1 hold", 0,
+      { { 0, 1, 2 }, { 1, 0, 2 } }, { 68, 32 }, { 2, 0, 1, 2, 1, 2, 0 } },
+    { "0 EN 0 soft before 0 SN 0 hold", NO_LOG,
+      { { 0, 0, 8 } }, { 68 + 16 }, { 1, 0, 2, 2 } },
+    /* A joint bars the least kind, or the least class. */
+    { "0 EN 1, since 0 ER 1 SN is weak", 0,
+      { { 0, 1, 3 }, { 1, 0, 8 } }, { 0 }, { 2, 0, 2, 0, 1, 8, 0 } },
+    { "0 ER 2, since 0 ER 1 SN is weak", 0,
+      { { 0, 1, 1 }, { 0, 2, 1 }, { 1, 0, 8 }, { 2, 0, 2 } }, { 0 },
+      { 2, 0, 1, 0, 2, 2, 0 } },
+    { "1 EN 2, since 1 ER 2 SN is weak", 0,
+      { { 0, 1, 1 }, { 1, 2, 15 }, { 2, 0, 8 } }, { 0 },
+      { 3, 0, 1, 0, 1, 2, 0, 2, 8, 0 } },
+    { "1 EN 2 soft, since 1 ER 2 SN is weak", 0,
+      { { 0, 1, 1 }, { 1, 2, 1 }, { 2, 0, 8 } }, { 0, 68, 16 },
+      { 3, 0, 1, 0, 1, 2, 2, 2, 8, 0 } },
+    { "1 EN 0, since 1 ER 0 SN closes weakly", 0,
+      { { 0, 1, 8 }, { 1, 0, 1 }, { 1, 0, 2 } }, { 0 },
+      { 2, 0, 8, 0, 1, 2, 0 } },
+    { "1 EN 0, since 1 ER 0 SR closes weakly", 0,
+      { { 0, 1, 4 }, { 1, 0, 1 }, { 1, 0, 2 } }, { 0 },
+      { 2, 0, 4, 0, 1, 2, 0 } },
+    { "0 EN 1, and 1 SR 0 closes with it", 0,
+      { { 0, 1, 10 }, { 1, 0, 4 } }, { 0 }, { 2, 0, 2, 0, 1, 4, 0 } },
+    { "2 EN 0 from a higher class, since 1 ER 0 SN closes weakly", 0,
+      { { 0, 1, 8 }, { 0, 2, 8 }, { 1, 0, 1 }, { 2, 0, 2 } }, { 0 },
+      { 2, 0, 8, 0, 2, 2, 0 } },
+    { "0 SN 0, since 0 SR 0 closes weakly", 0,
+      { { 0, 0, 4 }, { 0, 0, 8 } }, { 0 }, { 1, 0, 8, 0 } },
+    { "0 SR 0 closes weakly, and 1 is on the way", 0,
+      { { 0, 0, 4 }, { 0, 1, 8 }, { 1, 0, 8 } }, { 0 },
+      { 2, 0, 8, 0, 1, 8, 0 } },
+    { "0 SN 2, since behind 0 ER 1 the way is longer", 0,
+      { { 0, 1, 1 }, { 1, 3, 2 }, { 3, 0, 2 }, { 0, 2, 8 }, { 2, 0, 2 } },
+      { 0 }, { 2, 0, 8, 0, 2, 2, 0 } },
+    /* Fewest dependencies, then the lowest class. */
+    { "3, 4 before 0, 2, 3", 3,
+      { { 0, 2, 1 }, { 2, 3, 2 }, { 3, 0, 1 }, { 3, 4, 8 }, { 4, 3, 8 } },
+      { 0 }, { 2, 3, 8, 0, 4, 8, 0 } },
+    { "7 before 0, 7", 7,
+      { { 0, 7, 2 }, { 7, 0, 1 }, { 7, 7, 8 } }, { 0 }, { 1, 7, 8, 0 } },
+    { "0, 5 before 1, 5", 5,
+      { { 5, 0, 8 }, { 5, 1, 1 }, { 0, 5, 8 }, { 1, 5, 2 } }, { 0 },
+      { 2, 0, 8, 0, 5, 8, 0 } },
+    { "1 SN 1 before 2 ER 2", NO_LOG,
+      { { 1, 1, 8 }, { 2, 2, 1 } }, { 0 }, { 1, 1, 8, 0 } },
+    { "2 SN 3 before 4 ER 5", NO_LOG,
+      { { 2, 3, 8 }, { 3, 2, 8 }, { 4, 5, 1 }, { 5, 4, 1 } }, { 0 },
+      { 2, 2, 8, 0, 3, 8, 0 } },
+    { "drawn from 2 on, shown from 0 on", 0,
+      { { 2, 1, 2 }, { 1, 3, 2 }, { 0, 2, 2 }, { 3, 0, 2 } }, { 0 },
+      { 4, 0, 2, 0, 2, 2, 0, 1, 2, 0, 3, 2, 0 } },
+    { "the shortest way through 0 passes 1 twice", 1,
+      { { 0, 1, 1 }, { 1, 2, 2 }, { 1, 0, 8 }, { 2, 1, 2 } }, { 0 },
+      { 2, 1, 2, 0, 2, 2, 0 } },
+    { "the shortest way through 0 is closed weakly", NO_LOG,
+      { { 0, 1, 8 }, { 1, 0, 1 }, { 1, 2, 8 }, { 2, 3, 8 }, { 3, 1, 8 } },
+      { 0 }, { 3, 1, 8, 0, 2, 8, 0, 3, 8, 0 } },
+    /* Behind a class that is met first by another. */
+    { "0 ER 2 EN 3, where 3 is met from 1 too", 0,
+      { { 0, 1, 2 }, { 0, 2, 1 }, { 1, 3, 1 }, { 2, 3, 2 }, { 3, 0, 2 } },
+      { 0 }, { 3, 0, 1, 0, 2, 2, 0, 3, 2, 0 } },
+    { "0 EN 1 SN 3, where 2 ER 3 is lower", 0,
+      { { 0, 1, 2 }, { 0, 2, 8 }, { 1, 3, 8 }, { 2, 3, 1 }, { 3, 0, 2 } },
+      { 0 }, { 3, 0, 2, 0, 1, 8, 0, 3, 2, 0 } },
+    { "1 by R and by N: only by N it goes on", 0,
+      { { 0, 1, 3 }, { 1, 2, 4 }, { 2, 0, 2 } }, { 0 },
+      { 3, 0, 2, 0, 1, 4, 0, 2, 2, 0 } },
+    /* Interrupt dependencies. */
+    { "0 EN 0 hard before 0 EN 2 hard", NO_LOG, { { 2, 0, 2 } },
+      { 68 + 1, 0, 17 }, { 1, 0, 2, 1 } },
+    { "2 EN 2 hard before 2 EN 2 soft", NO_LOG, { { 0, 0, 0 } },
+      { 0, 0, 68 + 17 }, { 1, 2, 2, 1 } },
+    { "2 SN 3 soft, 3 EN 2", 2, { { 3, 2, 2 } }, { 0, 0, 136, 16 },
+      { 2, 2, 8, 2, 3, 2, 0 } },
+    { "2 SR 2 hard closes weakly, and 3 is on the way", 2,
+      { { 2, 3, 8 }, { 3, 2, 2 } }, { 0, 0, 8 + 2 },
+      { 2, 2, 8, 0, 3, 2, 0 } }
+};
+
+#define SHOWN (sizeof shown / sizeof shown[0])
+
+/* The graph on an open desk. */
+static void put_shown(struct buffers *b, const struct shown *s)
+{
+    const struct drawn *d;
+    unsigned i;
+
+    for (d = s->drawn; d->kinds != 0; d++)
+        put_sheet(b, d->from, d->to,
+                  b->sheet.bytes[d->from * b->k + d->to] | d->kinds);
+    for (i = 0; i < FEW; i++)
+        put_desk(b, MARKS_AT + i, s->marks[i]);
+}
+
+/* The slip has these bytes, and FILL behind them. */
+static void check_slip(const struct buffers *b, const uint8_t *slip,
+                       const char *what)
+{
+    size_t size = PLUNGEROWL_SLIP_SIZE(slip[0]), i;
+
+    for (i = 0; i < b->slip.size; i++)
+        check(b->slip.bytes[i] == (i < size ? slip[i] : FILL),
+              "%s: slip byte %lu is %u", what, (unsigned long)i,
+              b->slip.bytes[i]);
+}
+
+/* By step, and by the last byte of a record that is fed. */
+static void test_shown_by_hand(void)
+{
+    static const uint8_t record[] = { 0x4C, 0x4B, 2, SOFT_ON, 0, 0 };
+    struct buffers b;
+    struct feeding f;
+    size_t i;
+
+    for (i = 0; i < SHOWN; i++) {
+        open_buffers(&b, FEW, 2);
+        put_shown(&b, &shown[i]);
+        expect_step(&b, 0, HARD_ON, 0, 0, 1, shown[i].what);
+        check_slip(&b, shown[i].slip, shown[i].what);
+        free_buffers(&b);
+
+        start_feed(&f, FEW, 0);
+        expect_open(&f.b, FEW, f.desk_len, f.sheet_len, 0, shown[i].what);
+        put_shown(&f.b, &shown[i]);
+        put_whole_feed(&f, 0, 1, 0, 41);
+        expect_feed(&f, record, 5, 0, 41, shown[i].what);
+        expect_feed(&f, record + 5, 1, 1, 42, shown[i].what);
+        check_slip(&f.b, shown[i].slip, shown[i].what);
+        free_feed(&f);
+    }
+}
+
+/* Every set of kinds there and every set back: the least pair that is strong. */
+static void test_shown_kinds(void)
+{
+    struct buffers b;
+    unsigned there, back;
+
+    for (there = 1; there < 16; there++) {
+        for (back = 1; back < 16; back++) {
+            uint8_t slip[] = { 2, 3, 0, 0, 6, 0, 0 };
+            unsigned pair;
+
+            for (pair = 0; pair < 16 && slip[2] == 0; pair++) {
+                unsigned first = 1u << pair / 4, second = 1u << pair % 4;
+
+                if (there & first && back & second && is_strong(first, second)
+                    && is_strong(second, first)) {
+                    slip[2] = (uint8_t)first;
+                    slip[5] = (uint8_t)second;
+                }
+            }
+            open_buffers(&b, FEW, 0);
+            put_sheet(&b, 3, 6, there);
+            put_sheet(&b, 6, 3, back);
+            expect_step(&b, 0, HARD_ON, 0, 0, slip[2] != 0, "kinds");
+            if (slip[2] != 0)
+                check_slip(&b, slip, "kinds");
+            free_buffers(&b);
+        }
+    }
+}
+
+/* One pair, every kind, every set of sources: the lowest source; and behind a
+ * lower kind of the highest source a higher kind of all. */
+static void test_shown_sources(void)
+{
+    /* of ER, EN, SR, SN at the hard level */
+    static const unsigned unsafe[] = { 4, 4, 8, 8 }, safe[] = { 2, 1, 2, 1 };
+    struct buffers b;
+    unsigned kind, sources;
+
+    for (kind = 0; kind < KINDS; kind++) {
+        for (sources = 1; sources < 8; sources++) {
+            uint8_t slip[] = { 2, 1, 0, 0, 5, PLUNGEROWL_EN, 0 };
+            unsigned levels = (sources & 2 ? 1 : 0) + (sources & 4 ? 16 : 0);
+
+            slip[2] = (uint8_t)(1u << kind);
+            slip[3] = sources & 1 ? 0 : sources & 2 ? 1 : 2;
+            open_buffers(&b, FEW, 0);
+            if (sources & 1)
+                put_sheet(&b, 1, 5, 1u << kind);
+            put_sheet(&b, 1, 5, b.sheet.bytes[FEW + 5] | (14u << kind & 15u));
+            put_sheet(&b, 5, 1, PLUNGEROWL_EN);
+            put_desk(&b, MARKS_AT + 1, levels == 0 ? 0 : 17 * unsafe[kind]);
+            put_desk(&b, MARKS_AT + 5, levels * safe[kind]);
+            expect_step(&b, 0, HARD_ON, 0, 0, 1, "sources");
+            check_slip(&b, slip, "sources");
+            free_buffers(&b);
+        }
+    }
+}
+
+/* One cycle through all 64 classes, not in their order, of the kinds given. */
+static void expect_ring(unsigned kinds, unsigned last, unsigned kind,
+                        unsigned last_kind)
+{
+    uint8_t slip[PLUNGEROWL_SLIP_SIZE(64)] = { 64 };
+    struct buffers b;
+    unsigned i;
+
+    open_buffers(&b, 64, 0);
+    for (i = 0; i < 64; i++) {
+        put_sheet(&b, 37 * i % 64, 37 * (i + 1) % 64, i < 63 ? kinds : last);
+        slip[1 + 3 * i] = (uint8_t)(37 * i % 64);
+        slip[2 + 3 * i] = (uint8_t)(i < 63 ? kind : last_kind);
+    }
+    expect_step(&b, 0, HARD_ON, 0, 0, last_kind != 0, "ring of 64");
+    if (last_kind != 0)
+        check_slip(&b, slip, "ring of 64");
+    free_buffers(&b);
+}
+
+/* Most only with guards on both sides, to save time; so below. */
+static void test_shown_ring(void)
+{
+    expect_ring(15, 15, 1, 1);
+    if (sides != GUARD_BOTH)
+        return;
+    expect_ring(1, 1, 1, 1);
+    expect_ring(2, 2, 2, 2);
+    expect_ring(4, 4, 4, 0);
+    expect_ring(8, 8, 8, 8);
+    expect_ring(12, 12, 8, 8);
+    expect_ring(10, 4, 2, 4);
+    expect_ring(8, 15, 8, 2);
+    expect_ring(8, 5, 8, 0);
+}
+
+/* A ring of 32 layers of two classes, all of a layer to all of the next: 2 to
+ * the 32 choices of the classes alone. */
+static void put_ties(struct buffers *b, unsigned kinds)
+{
+    unsigned i, to;
+
+    for (i = 0; i < 64; i++)
+        for (to = 0; to < 2; to++)
+            put_sheet(b, i, (i / 2 * 2 + 2 + to) % 64, kinds);
+}
+
+/* The even classes in order with the kind, but for those that are given as
+ * place, class and kind. */
+static void expect_ties(struct buffers *b, unsigned kind,
+                        const uint8_t others[][3], unsigned count,
+                        const char *what)
+{
+    uint8_t slip[PLUNGEROWL_SLIP_SIZE(64)] = { 32 };
+    unsigned i;
+
+    for (i = 0; i < 32; i++) {
+        slip[1 + 3 * i] = (uint8_t)(2 * i);
+        slip[2 + 3 * i] = (uint8_t)kind;
+    }
+    for (i = 0; i < count; i++) {
+        slip[1 + 3 * others[i][0]] = others[i][1];
+        slip[2 + 3 * others[i][0]] = others[i][2];
+    }
+    expect_step(b, 0, HARD_ON, 0, 0, 1, what);
+    check_slip(b, slip, what);
+    free_buffers(b);
+}
+
+static void test_shown_ties(void)
+{
+    static const uint8_t by_63[][3] = { { 31, 63, 2 } };
+    static const uint8_t by_sn[][3] = { { 30, 60, 2 }, { 31, 62, 8 } };
+    static const uint8_t from_1[][3] = { { 0, 1, 1 } };
+    static const uint8_t by_17[][3] = { { 7, 14, 1 }, { 8, 17, 2 } };
+    struct buffers b;
+    unsigned i;
+
+    for (i = sides == GUARD_BOTH ? 1 : 15; i < 16; i++) {
+        open_buffers(&b, 64, 0);
+        put_ties(&b, i);
+        if (i == PLUNGEROWL_SR) {
+            expect_step(&b, 0, HARD_ON, 0, 0, 0, "ties, all SR");
+            free_buffers(&b);
+        } else {
+            expect_ties(&b, i & 1 ? 1 : i & 2 ? 2 : 8, NULL, 0, "ties");
+        }
+    }
+
+    /* Behind 60 ER only 63 goes on: 62 begins with S. */
+    open_buffers(&b, 64, 0);
+    put_ties(&b, 15);
+    for (i = 0; i < 2; i++) {
+        put_sheet(&b, 62, i, PLUNGEROWL_SN);
+        put_sheet(&b, 63, i, PLUNGEROWL_EN);
+    }
+    expect_ties(&b, 1, by_63, 1, "ties, by 63");
+
+    /* And if 63 does too, 62 is arrived at by N. */
+    open_buffers(&b, 64, 0);
+    put_ties(&b, 15);
+    for (i = 0; i < 2; i++) {
+        put_sheet(&b, 62, i, PLUNGEROWL_SN);
+        put_sheet(&b, 63, i, PLUNGEROWL_SN);
+    }
+    expect_ties(&b, 1, by_sn, 2, "ties, by SN");
+
+    /* Class 0 is left by S and arrived at by R, so no cycle has it. */
+    open_buffers(&b, 64, 0);
+    put_ties(&b, 15);
+    for (i = 0; i < 2; i++) {
+        put_sheet(&b, 0, 2 + i, PLUNGEROWL_SR | PLUNGEROWL_SN);
+        put_sheet(&b, 62 + i, 0, PLUNGEROWL_ER | PLUNGEROWL_SR);
+    }
+    expect_ties(&b, 1, from_1, 1, "ties, from 1");
+
+    /* In the middle 14 ER 17, where 14 EN 16 is the lower class. */
+    open_buffers(&b, 64, 0);
+    put_ties(&b, 15);
+    put_sheet(&b, 14, 16, PLUNGEROWL_EN);
+    put_sheet(&b, 17, 18, PLUNGEROWL_EN);
+    put_sheet(&b, 17, 19, PLUNGEROWL_SR);
+    expect_ties(&b, 1, by_17, 2, "ties, by 17");
+}
+
+/* The cycle does not depend on the record that is accepted: not on its core,
+ * nor on its class, nor on what it draws beside the cycle. */
+static void test_shown_by_any_record(void)
+{
+    static const struct {
+        uint8_t core, kind, class_, mode;
+    } records[] = {
+        { 0, HARD_ON, 0, 0 }, { 7, SOFT_OFF, 0, 0 }, { 3, ACQUIRE, 7, E },
+        { 3, ACQUIRE, 0, R }, { 3, ACQUIRE, 1, E }, { 3, ACQUIRE, 2, R },
+        { 4, ACQUIRE, 3, TRY + E }, { 5, RELEASE, 6, 0 }, { 5, ACQUIRE, 7, E },
+        { 5, ENTER_HARD, 0, 0 }
+    };
+    struct buffers b;
+    size_t i, j;
+    unsigned core;
+
+    for (i = 0; i < SHOWN; i++) {
+        for (j = 0; j < sizeof records / sizeof records[0]; j++) {
+            open_buffers(&b, FEW, 0);
+            put_shown(&b, &shown[i]);
+            for (core = 3; core < 6; core++) /* no marks in state 3 */
+                put_desk(&b, STATES_AT + core, core == 5
+                         && records[j].kind == ENTER_HARD ? 0 : 3);
+            put_desk(&b, DEPTHS_AT + 15, 1);
+            put_desk(&b, HELD_AT + DEPTH * 15, 6);
+            expect_step(&b, records[j].core, records[j].kind,
+                        records[j].class_, records[j].mode, 1, shown[i].what);
+            check_slip(&b, shown[i].slip, shown[i].what);
+            free_buffers(&b);
+        }
+    }
+
+    /* Two cycles of two; the record draws the last dependency of one. */
+    for (i = 0; i < 2; i++) {
+        static const uint8_t slips[][7] = { { 2, 1, 8, 0, 2, 8, 0 },
+                                            { 2, 3, 2, 0, 4, 2, 0 } };
+
+        open_buffers(&b, FEW, 0);
+        put_desk(&b, STATES_AT + 6, 3);
+        if (i == 0) {
+            put_sheet(&b, 1, 2, PLUNGEROWL_SN);
+            put_sheet(&b, 2, 1, PLUNGEROWL_SN);
+        } else {
+            put_sheet(&b, 5, 6, PLUNGEROWL_ER);
+            put_sheet(&b, 6, 5, PLUNGEROWL_ER);
+        }
+        put_sheet(&b, 4, 3, PLUNGEROWL_EN);
+        put_desk(&b, DEPTHS_AT + 18, 1);
+        put_desk(&b, HELD_AT + DEPTH * 18, 3);
+        expect_step(&b, 6, ACQUIRE, 4, E, 1, "another cycle stands");
+        check_slip(&b, slips[i], "another cycle stands");
+        free_buffers(&b);
+    }
+}
+
+/* Records that set the marks on a class, by core 1, which was in state 0. */
+static void log_marks(struct log *log, unsigned class_, unsigned marks)
+{
+    /* Each bit: the mode, and the events before and after. */
+    static const uint8_t ways[8][5] = {
+        { E, ENTER_HARD, 0, 0, EXIT_HARD }, { R, ENTER_HARD, 0, 0, EXIT_HARD },
+        { E, SOFT_OFF, 0, 0, SOFT_ON }, { r, SOFT_OFF, 0, 0, SOFT_ON },
+        { E, ENTER_SOFT, HARD_OFF, HARD_ON, EXIT_SOFT },
+        { R, ENTER_SOFT, HARD_OFF, HARD_ON, EXIT_SOFT },
+        { E, 0, 0, 0, 0 }, { r, 0, 0, 0, 0 }
+    };
+    unsigned i, j;
+
+    for (i = 0; i < 8; i++) {
+        if (!(marks >> i & 1))
+            continue;
+        for (j = 1; j < 5; j++) {
+            if (j == 3) {
+                log_record(log, 1, ACQUIRE, class_, ways[i][0]);
+                log_record(log, 1, RELEASE, class_, 0);
+            }
+            if (ways[i][j] != 0)
+                log_record(log, 1, ways[i][j], 0, 0);
+        }
+    }
+}
+
+/* The modes that make a dependency of the kind. */
+static unsigned held_mode(unsigned kind)
+{
+    return starts_s(kind) ? r : E;
+}
+
+static unsigned acquired_mode(unsigned kind)
+{
+    return ends_r(kind) ? R : E;
+}
+
+/* A log that draws the graph: marks, then dependencies one by one, then those
+ * into one class. Core 0 is in state 3, where nothing is marked, and what it
+ * holds at last it got by tries. */
+static void log_shown(struct log *log, const struct shown *s)
+{
+    const struct drawn *d;
+    unsigned i, kind, mode = E;
+
+    log_header(log, FEW);
+    for (i = 0; i < FEW; i++)
+        log_marks(log, i, s->marks[i]);
+    log_record(log, 0, HARD_OFF, 0, 0);
+    log_record(log, 0, SOFT_OFF, 0, 0);
+    for (d = s->drawn; d->kinds != 0; d++) {
+        for (kind = 1; kind < 16; kind *= 2) {
+            if (!(d->kinds & kind) || (d->to == s->into && !ends_r(kind)))
+                continue;
+            log_record(log, 0, ACQUIRE, d->from, held_mode(kind));
+            log_record(log, 0, ACQUIRE, d->to, acquired_mode(kind));
+            log_record(log, 0, RELEASE, d->to, 0);
+            log_record(log, 0, RELEASE, d->from, 0);
+        }
+    }
+    for (d = s->drawn; d->kinds != 0; d++)
+        for (kind = 1; kind < 16; kind *= 2)
+            if (d->kinds & kind && d->to == s->into && !ends_r(kind))
+                log_record(log, 0, ACQUIRE, d->from, TRY + held_mode(kind));
+    log_record(log, 0, ACQUIRE, s->into, mode);
+}
+
+/* The same graphs from opening, record by record and in pieces: the last record
+ * is the fault. */
+static void test_shown_in_logs(void)
+{
+    static const size_t sizes[] = { 1, 7, LONGEST_PIECE };
+    static struct log log;
+    struct buffers b;
+    struct feeding f;
+    size_t i, j, at;
+    unsigned logs = 0;
+
+    for (i = 0; i < SHOWN; i++) {
+        const struct shown *s = &shown[i];
+        uint64_t records;
+
+        if (s->into == NO_LOG || ends_r(s->slip[3 * s->slip[0] - 1]))
+            continue;
+        logs++;
+        log_shown(&log, s);
+        records = (log.size - HEADER_SIZE) / RECORD_SIZE;
+        open_buffers(&b, FEW, 0);
+        for (at = HEADER_SIZE; at < log.size; at += RECORD_SIZE)
+            expect_bytes(&b, log.bytes + at, RECORD_SIZE,
+                         at + RECORD_SIZE == log.size, s->what);
+        check_slip(&b, s->slip, s->what);
+        free_buffers(&b);
+        for (j = 0; j < sizeof sizes / sizeof sizes[0]; j++) {
+            start_feed(&f, FEW, 0);
+            for (at = 0; at < log.size; at += sizes[j])
+                feed_or_end(&f, log.bytes + at, log.size - at < sizes[j]
+                            ? log.size - at : sizes[j], s->what);
+            expect_end(&f, 1, records, s->what);
+            check_slip(&f.b, s->slip, s->what);
+            free_feed(&f);
+        }
+    }
+    check(logs > 20, "only %u graphs in logs", logs);
+}
+
+/* All that could be a cycle of some number of dependencies, its first class the
+ * lowest: the least of those that are one. */
+struct all_tried {
+    const struct buffers *b;
+    uint8_t slip[PLUNGEROWL_SLIP_SIZE(64)];
+    uint8_t least[PLUNGEROWL_SLIP_SIZE(64)]; /* with 0 for none */
+};
+
+static int is_cycle(const struct all_tried *a)
+{
+    unsigned i, j, n = a->slip[0];
+
+    for (i = 0; i < n; i++) {
+        const uint8_t *entry = a->slip + 1 + 3 * i;
+        const uint8_t *next = a->slip + 1 + 3 * ((i + 1) % n);
+
+        if (!has_dependency(a->b, entry[0], next[0], entry[1], entry[2])
+            || !is_strong(entry[1], next[1]))
+            return 0;
+        if (i > 0 && entry[0] < a->slip[1])
+            return 0;
+        for (j = 0; j < i; j++)
+            if (a->slip[1 + 3 * j] == entry[0])
+                return 0;
+    }
+    return 1;
+}
+
+static void try_all(struct all_tried *a, unsigned i)
+{
+    uint8_t *entry = a->slip + 1 + 3 * i;
+    unsigned class_, rank;
+
+    if (i == a->slip[0]) {
+        if (is_cycle(a) && (a->least[0] == 0
+                            || memcmp(a->slip, a->least, 1 + 3 * i) < 0))
+            memcpy(a->least, a->slip, 1 + 3 * i);
+        return;
+    }
+    for (class_ = 0; class_ < classes_of(a->b); class_++) {
+        entry[0] = (uint8_t)class_;
+        for (rank = 0; rank < KINDS * SOURCES; rank++) {
+            entry[1] = (uint8_t)(1u << rank / SOURCES);
+            entry[2] = (uint8_t)(rank % SOURCES);
+            /* Nothing but that the one before leads here, to save time. */
+            if (i == 0 || has_dependency(a->b, entry[-3], class_, entry[-2],
+                                         entry[-1]))
+                try_all(a, i + 1);
+        }
+    }
+}
+
+/* Random marks that are fit, on a random class. */
+static void put_random_marks(struct buffers *b)
+{
+    unsigned class_ = below(b->k), marks = below(256);
+
+    marks &= below(256);
+    while (!mark_fits(marks))
+        marks = below(256);
+    put_desk(b, MARKS_AT + class_, marks);
+}
+
+/* Small random graphs, against a search that tries all: the library, and the
+ * copies' least cycle that the other tests use. */
+static void test_shown_all_tried(void)
+{
+    static struct all_tried a;
+    struct buffers b;
+    unsigned i, from, to, found[5] = { 0 };
+
+    seed = 20261116 + sides;
+    for (i = 0; i < 700; i++) {
+        unsigned k = 1 + below(4), density = 1 + below(3);
+        int ring = below(4) == 0;
+
+        open_buffers(&b, k, 0);
+        for (from = 0; from < k; from++)
+            for (to = 0; to < k; to++)
+                if (from == to ? below(6) == 0
+                    : ring ? to == (from + 1) % k : below(density + 1) == 0)
+                    put_sheet(&b, from, to, from != to ? below(16)
+                                                       : PLUNGEROWL_SR);
+        for (from = 0; from < k && below(2) == 0; from++)
+            put_random_marks(&b);
+        a.b = &b;
+        memset(a.least, 0, sizeof a.least);
+        for (a.slip[0] = 1; a.slip[0] <= k && a.least[0] == 0; a.slip[0]++)
+            try_all(&a, 0);
+        found[a.least[0]]++;
+        check(memcmp(least_cycle(&b), a.least, a.least[0] == 0
+                     ? 1 : PLUNGEROWL_SLIP_SIZE(a.least[0])) == 0,
+              "all tried: least_cycle, graph %u", i);
+        expect_step(&b, i % CORES, HARD_ON, 0, 0, a.least[0] != 0,
+                    "all tried");
+        if (a.least[0] != 0)
+            check_slip(&b, a.least, "all tried");
+        free_buffers(&b);
+    }
+    for (i = 0; i < 5; i++)
+        check(found[i] > 5, "all tried: only %u cycles of %u", found[i], i);
+}
+
+/* Rings of layers, the classes in any order: many cycles of one length. */
+static void test_shown_layers(void)
+{
+    struct buffers b;
+    unsigned i, j, longest = 0;
+
+    seed = 20261117 + sides;
+    for (i = 0; i < 500; i++) {
+        unsigned k = 2 + below(i % 25 == 0 ? 63 : 11), width = 1 + below(3);
+        unsigned layers = (k + width - 1) / width, at[64];
+
+        open_buffers(&b, k, 0);
+        for (j = 0; j < k; j++) {
+            unsigned other = below(j + 1);
+
+            at[j] = at[other];
+            at[other] = j;
+        }
+        for (j = 0; j < k; j++) {
+            unsigned layer = (j / width + 1) % layers, to;
+
+            for (to = layer * width; to < k && to < (layer + 1) * width; to++)
+                put_sheet(&b, at[j], at[to], 1 + below(15));
+        }
+        for (j = below(4); j > 0; j--)
+            put_random_marks(&b);
+        expect_step(&b, i % CORES, HARD_ON, 0, 0, least_cycle(&b)[0] != 0,
+                    "layers");
+        if (b.slip.bytes[0] != FILL && b.slip.bytes[0] > longest)
+            longest = b.slip.bytes[0];
+        free_buffers(&b);
+    }
+    check(longest > 12, "layers: the longest cycle has %u", longest);
+}
+
+/* Random records from opening, up to the fault. */
+static void test_shown_random_logs(void)
+{
+    struct buffers b;
+    unsigned i, faults = 0;
+
+    seed = 20261118 + sides;
+    for (i = 0; i < 300; i++) {
+        unsigned k = 2 + below(5), records = 0;
+
+        open_buffers(&b, k, 0);
+        while (b.desk.bytes[CLOSED_AT] == 0 && records++ < 60) {
+            unsigned core = below(3), class_ = below(k);
+            unsigned frame = current_frame(b.desk.bytes, core);
+            unsigned depth = b.desk.bytes[DEPTHS_AT + frame];
+            unsigned state = b.desk.bytes[STATES_AT + core];
+            unsigned kind = below(3) == 0 ? 2 + below(8) : ACQUIRE;
+            unsigned mode = kind == ACQUIRE ? below(MODES) : 0;
+            struct buffers after = b;
+            uint8_t record[RECORD_SIZE] = { 0x4C, 0x4B };
+            uint8_t desk[PLUNGEROWL_DESK_SIZE], sheet[64];
+
+            if (kind != ACQUIRE && (next_state[state][kind - 2] < 0
+                                    || depth > 0))
+                continue;
+            if (kind == ACQUIRE && depth > 2) {
+                kind = RELEASE;
+                class_ = b.desk.bytes[HELD_AT + DEPTH * frame] % 64;
+                mode = 0;
+            }
+            record[2] = (uint8_t)core;
+            record[3] = (uint8_t)kind;
+            record[4] = (uint8_t)(kind <= RELEASE ? class_ : 0);
+            record[5] = (uint8_t)mode;
+            /* The answer that is due, on other copies. */
+            memcpy(desk, b.want_desk.bytes, sizeof desk);
+            memcpy(sheet, b.want_sheet.bytes, k * k);
+            after.want_desk.bytes = desk;
+            after.want_sheet.bytes = sheet;
+            want_accepted(&after, record);
+            expect_bytes(&b, record, RECORD_SIZE, least_cycle(&after)[0] != 0,
+                         "random log");
+        }
+        faults += b.desk.bytes[CLOSED_AT];
+        free_buffers(&b);
+    }
+    check(faults > 150, "random logs: only %u faults", faults);
+}
+
 /* ------------------------------------------------------------------- main */
 
 /* A call gave each of these answers, and no other. */
@@ -3278,7 +4090,11 @@ static const struct test tests[] = {
     TEST(feed_end_loose), TEST(feed_end_order), TEST(feed_not_looked_at),
     TEST(feed_short), TEST(feed_unfit), TEST(feed_fit), TEST(feed_by_hand),
     TEST(feed_number), TEST(feed_lengths), TEST(feed_classes),
-    TEST(feed_other_writer)
+    TEST(feed_other_writer),
+    TEST(shown_by_hand), TEST(shown_kinds), TEST(shown_sources),
+    TEST(shown_ring), TEST(shown_ties), TEST(shown_by_any_record),
+    TEST(shown_in_logs), TEST(shown_all_tried), TEST(shown_layers),
+    TEST(shown_random_logs)
 };
 
 /* Run the test of the name, or all for NULL; how many were run. */

@@ -7,14 +7,16 @@
  * any input took is printed for some K. Wrong are, at K = 64: more than the
  * limit, less than half of it (the limit is stale), a call that does not get by
  * with a stack of exactly the limit and a guard page behind it, and one that
- * gets by with less than was measured (then the measure is wrong).
+ * gets by with less than was measured (then the measure is wrong). Wrong is
+ * also a limit of step or feed over 16 KB, which is promised for every input.
  *
- * The worst input is known from crates/search/src/lib.rt. arrived_by_n calls
- * arrived_by_r for its own class, which calls arrived_by_n for the next one, so
- * a class that is reached by N and left by E costs both frames, and every other
- * class one of the two. No class is twice on the path. So a chain of EN
- * dependencies through all classes, from class 0 where the search begins, is
- * the deepest; without a cycle its last visit writes a little further down.
+ * The worst input is known from crates/search/src/lib.rt. Whether there is a
+ * cycle is found by arrived_by_n and arrived_by_r, which call each other from
+ * class to class; their path passes a class at most twice, once arrived at by N
+ * and once by R. The deepest input has a path of all 2 K arrivals, and no
+ * cycle: a ring of SN with ER beside it, closed by SR. From class 0 it goes
+ * round by N, arrives at class 0 by R, and goes round once more by R. The cycle
+ * that is shown is found after that walk, without recursion, and takes less.
  * The other inputs are there to meet something deeper, should it exist.
  *
  * Link with -z now: the dynamic linker's stack at a first call is not measured.
@@ -34,7 +36,8 @@
 
 #include "plungerowl.h"
 
-#define STACK_SIZE ((size_t)1 << 18)
+#define STACK_SIZE ((size_t)1 << 17)
+#define PROMISED 16384 /* bytes that no step and no feed passes */
 #define PAINT 0xC5
 #define RANDOM_INPUTS 300
 
@@ -381,13 +384,52 @@ static void put_chain(struct input *in, unsigned even, unsigned odd)
         put(in, i, i + 1, i % 2 == 0 ? even : odd);
 }
 
-static void put_dense(struct input *in)
+static void put_ring(struct input *in, unsigned kinds)
+{
+    put_chain(in, kinds, kinds);
+    put(in, in->k - 1, 0, kinds);
+}
+
+/* Every class below another leads to it. */
+static void put_order(struct input *in, unsigned kinds)
 {
     unsigned from, to;
 
     for (from = 0; from < in->k; from++)
         for (to = from + 1; to < in->k; to++)
-            put(in, from, to, 15);
+            put(in, from, to, kinds);
+}
+
+static void put_diagonal(struct input *in, unsigned kinds)
+{
+    unsigned i;
+
+    for (i = 0; i < in->k; i++)
+        put(in, i, i, kinds);
+}
+
+/* A ring of layers of two classes, all of a layer to all of the next. */
+static void put_layers(struct input *in)
+{
+    unsigned i, b;
+
+    for (i = 0; i < in->k; i++)
+        for (b = 0; b < 2; b++)
+            put(in, i, (i / 2 * 2 + 2 + b) % in->k, 15);
+}
+
+/* The upper half is a ring, all of it leads to all of the lower half, and that
+ * is an order. */
+static void put_ring_over_order(struct input *in)
+{
+    unsigned half = in->k / 2, from, to;
+
+    for (from = 0; from < in->k; from++)
+        for (to = 0; to < half; to++)
+            if (from >= half || from < to)
+                put(in, from, to, 15);
+    for (from = half; from < in->k; from++)
+        put(in, from, from + 1 < in->k ? from + 1 : half, PLUNGEROWL_EN);
 }
 
 static void put_marks(struct input *in, unsigned mark)
@@ -416,7 +458,8 @@ static void put_random(struct input *in)
         put_acquire(in);
 }
 
-enum { CHAIN = 1, SHAPES = 14 };
+enum { RINGS = 13, DIAGONALS = RINGS + 4, DEEPEST = DIAGONALS + 4,
+       SHAPES = DEEPEST + 9 };
 
 static void make_input(struct input *in, unsigned k, unsigned shape)
 {
@@ -426,26 +469,47 @@ static void make_input(struct input *in, unsigned k, unsigned shape)
     put_hard_on(in);
     switch (shape) {
     case 0: break;
-    case CHAIN: put_chain(in, PLUNGEROWL_EN, PLUNGEROWL_EN); break;
-    case 2: put_chain(in, PLUNGEROWL_EN, PLUNGEROWL_EN);
+    case 1: put_chain(in, PLUNGEROWL_EN, PLUNGEROWL_EN); break;
+    case 2: put_chain(in, PLUNGEROWL_SN, PLUNGEROWL_SN); break;
+    case 3: put_chain(in, 15, 15); break;
+    case 4: put_chain(in, PLUNGEROWL_ER, PLUNGEROWL_EN);
             put(in, k - 1, 0, PLUNGEROWL_EN); break;
-    case 3: put_chain(in, PLUNGEROWL_ER, PLUNGEROWL_EN);
-            put(in, k - 1, 0, PLUNGEROWL_EN); break;
-    case 4: put_chain(in, PLUNGEROWL_EN, PLUNGEROWL_SN);
+    case 5: put_chain(in, PLUNGEROWL_EN, PLUNGEROWL_SN);
             put(in, k - 1, 0, PLUNGEROWL_SN); break;
-    case 5: put_chain(in, PLUNGEROWL_SN, PLUNGEROWL_SN); break;
-    case 6: put_chain(in, PLUNGEROWL_ER, PLUNGEROWL_ER);
-            put(in, k - 1, 0, PLUNGEROWL_ER); break;
-    case 7: put_chain(in, 15, 15); break;
-    case 8: put_dense(in); break;
-    case 9: put_dense(in); put(in, k - 1, 0, PLUNGEROWL_EN); break;
-    case 10: put_dense(in); put_marks(in, 255); break;
-    case 11: put_chain(in, PLUNGEROWL_EN, PLUNGEROWL_EN);
-             put_marks(in, 51); break;
-    case 12: put_chain(in, PLUNGEROWL_EN, PLUNGEROWL_EN);
+    case 6: put_order(in, 15); break;
+    case 7: put_order(in, 15); put(in, k - 1, 0, PLUNGEROWL_EN); break;
+    case 8: put_order(in, 15); put_marks(in, 255); break;
+    case 9: put_chain(in, PLUNGEROWL_EN, PLUNGEROWL_EN);
+            put_marks(in, 51); break;
+    case 10: put_chain(in, PLUNGEROWL_EN, PLUNGEROWL_EN);
              put_acquire(in); break;
-    case 13: put_chain(in, PLUNGEROWL_EN, PLUNGEROWL_EN); put_acquire(in);
-             put(in, k - 1, 0, PLUNGEROWL_EN); break;
+    case 11: put_ring(in, PLUNGEROWL_EN); put_acquire(in); break;
+    case 12: put_layers(in); break;
+    case RINGS: case RINGS + 1: case RINGS + 2: case RINGS + 3:
+        put_ring(in, 1u << (shape - RINGS)); break;
+    case DIAGONALS: case DIAGONALS + 1: case DIAGONALS + 2: case DIAGONALS + 3:
+        put_ring(in, 1u << (shape - DIAGONALS));
+        put_diagonal(in, PLUNGEROWL_SR); break;
+    case DEEPEST:
+    case DEEPEST + 1:
+        put_chain(in, PLUNGEROWL_SN | PLUNGEROWL_ER,
+                  PLUNGEROWL_SN | PLUNGEROWL_ER);
+        put(in, k - 1, 0, shape == DEEPEST ? PLUNGEROWL_SR : PLUNGEROWL_ER);
+        break;
+    case DEEPEST + 2: /* the same with an acquire, which adds (0, k - 1) */
+        put_chain(in, PLUNGEROWL_SN | PLUNGEROWL_ER,
+                  PLUNGEROWL_SN | PLUNGEROWL_ER);
+        put(in, k - 1, 0, PLUNGEROWL_SR);
+        put_acquire(in); break;
+    case DEEPEST + 3: put_ring(in, PLUNGEROWL_SN);
+                      put_order(in, PLUNGEROWL_ER); break;
+    case DEEPEST + 4: put_ring(in, PLUNGEROWL_SR);
+                      put_order(in, PLUNGEROWL_EN); break;
+    case DEEPEST + 5: put_ring_over_order(in); break;
+    case DEEPEST + 6: put_ring_over_order(in); put_marks(in, 51); break;
+    case DEEPEST + 7: put_layers(in); put_acquire(in); break;
+    case DEEPEST + 8: put_ring(in, 15); put_diagonal(in, 15);
+                      put_order(in, 15); put_marks(in, 255); break;
     default: put_random(in); break;
     }
     in->class_ = below(k);
@@ -501,17 +565,21 @@ static void check_limit(int call, const struct worst *worst)
         say_wrong(call_names[call], "less than measured suffices", less, 0);
 }
 
-/* The chain is as deep as any input met. */
-static void check_chain(int call, const struct worst *worst)
+/* What is said to be the deepest input is as deep as any that was met, and the
+ * limit is what is promised, or less. */
+static void check_deepest(int call, const struct worst *worst)
 {
     struct input in;
     size_t used;
 
-    make_input(&in, PLUNGEROWL_MAX_CLASSES, CHAIN);
+    make_input(&in, PLUNGEROWL_MAX_CLASSES, DEEPEST);
     used = measure(&in, call);
     if (used != worst->used)
-        say_wrong(call_names[call], "the chain is not the worst", used,
+        say_wrong(call_names[call], "another input is deeper", used,
                   worst->used);
+    if (limits[call] > PROMISED)
+        say_wrong(call_names[call], "a limit over 16 KB", limits[call],
+                  PROMISED);
 }
 
 int main(void)
@@ -534,9 +602,9 @@ int main(void)
             most[call] = worst[call].used;
         }
     }
-    check_chain(STEP, &worst[STEP]);
-    check_chain(FEED, &worst[FEED]);
-    check_chain(FEED_LAST, &worst[FEED_LAST]);
+    check_deepest(STEP, &worst[STEP]);
+    check_deepest(FEED, &worst[FEED]);
+    check_deepest(FEED_LAST, &worst[FEED_LAST]);
     for (call = 0; call < CALLS; call++)
         check_limit(call, &worst[call]);
     printf("stack: limits: ");

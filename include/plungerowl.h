@@ -107,15 +107,16 @@ extern "C" {
  * (fewer classes need no more). host/stack.c measures it, and tries each call
  * with so many bytes and a guard page behind them. memcpy and memset are counted
  * as glibc has them; what the dynamic linker takes to find them at a first call
- * is not (link with -z now). A step is the deepest, also one in a feed: its
- * search goes from class to class, up to K of them, by two functions that call
- * each other.
+ * is not (link with -z now). A step is the deepest, also one in a feed, and is
+ * under 16 KB on every input: its search goes from class to class by two
+ * functions that call each other, with a class at most twice on the path and 64
+ * bytes each time. The cycle in the slip is found without recursion.
  */
 #define PLUNGEROWL_STACK_OPEN 64
-#define PLUNGEROWL_STACK_STEP 114688
+#define PLUNGEROWL_STACK_STEP 13312
 #define PLUNGEROWL_STACK_ASK 4608
 #define PLUNGEROWL_STACK_FEED_START 16
-#define PLUNGEROWL_STACK_FEED 114688
+#define PLUNGEROWL_STACK_FEED 13312
 #define PLUNGEROWL_STACK_FEED_END 4096
 
 /*
@@ -225,9 +226,16 @@ uint8_t plungerowl_open(uint64_t classes,
  *
  * Answers 0, 1, 3, 4, 5, 6, 7, 8, 10 or 11. Where several refusals apply, the
  * first in the order 11, 10, 3, 4, 6, 7, 5, 8 is given. A record may be any
- * bytes of any length. On 1 the slip holds n in byte 0 and then n times class,
- * kind, source; its bytes past 1 + 3n are unchanged. Which cycle is reported,
- * where there are several, is the library's choice.
+ * bytes of any length.
+ *
+ * On 1 the slip has the cycle: n in byte 0 and then, for each of its n
+ * dependencies, class, kind, source; its bytes past 1 + 3n are unchanged. Each
+ * goes to the class of the next one, the last to the first; no class comes
+ * twice, and the lowest comes first. Of all such cycles it is the one with the
+ * fewest dependencies, and among those the least, with the bytes compared from
+ * left to right: class, kind, source, class .. (as memcmp compares two slips).
+ * It follows from the marks and the sheet that the record leaves, and from
+ * nothing else.
  */
 uint8_t plungerowl_step(uint8_t *desk, size_t desk_len,
                         uint8_t *sheet, size_t sheet_len,

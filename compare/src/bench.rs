@@ -1,6 +1,7 @@
 //! The library beside a fast ordinary Rust judge, in the same run: best of several
 //! rounds, the two taking turns. No timed test: nothing fails by being slow. It fails
-//! only if the two disagree on what they computed or if a drawing isn't clean.
+//! only if the two disagree on what they computed, or if a drawing is clean that should
+//! not be, or the other way round.
 
 use crate::feeds;
 use crate::gen::{clean_style, try_style, Shadow, Style};
@@ -50,6 +51,70 @@ fn drawing(k: usize, dense: bool) -> Shadow {
         }
     }
     s
+}
+
+/// Drawings of 64 classes with a cycle: from, to, kinds.
+fn faults() -> Vec<(&'static str, Shadow)> {
+    let drawn = |kinds: &dyn Fn(usize, usize) -> u8| {
+        let mut s = Shadow::opened(64);
+        for (at, byte) in s.sheet.iter_mut().enumerate() {
+            *byte = kinds(at / 64, at % 64);
+        }
+        s
+    };
+    let on = |there: bool, kind: u8| if there { kind } else { 0 };
+    let ring = |from: usize, to: usize| to == (from + 1) % 64;
+    vec![
+        ("ring of 64, EN", drawn(&|from, to| on(ring(from, to), 2))),
+        ("ring of 64, SN", drawn(&|from, to| on(ring(from, to), 8))),
+        ("2 classes a layer, all kinds, 2^31 cycles of 32", drawn(&|from, to| on(to / 2 == (from / 2 + 1) % 32, 15))),
+        ("SN ring under an ER order", drawn(&|from, to| on(ring(from, to), 8) | on(from < to, 1))),
+        ("full order, one dependency back", drawn(&|from, to| on(from < to || (from, to) == (63, 0), 2))),
+        ("full order, the last dependency back", drawn(&|from, to| on(from < to || (from, to) == (63, 62), 2))),
+        (
+            "ring of 32 above, each into an order below",
+            drawn(&|from, to| match from {
+                0..32 => on(to < from, 2),
+                _ => on(to < 32 || to == 32 + (from + 1) % 32, 2),
+            }),
+        ),
+        // The slowest known.
+        (
+            "ring of 2 above, each into an SN order below",
+            drawn(&|from, to| match from {
+                0..62 => on(to < from, 8),
+                _ => on(to < 62 || to != from, 2),
+            }),
+        ),
+        ("all dependencies of all kinds", drawn(&|_, _| 15)),
+    ]
+}
+
+/// One step that shows a cycle, on each of the drawings; whether the two left the same.
+fn fault_rows() -> bool {
+    let (mut well, mut worst) = (true, 0.0f64);
+    let record = Rec::new(0, 2, 0, 0);
+    for (name, drawing) in faults() {
+        let mut left = [Vec::new(), Vec::new()];
+        let time = |step: StepFn, left: &mut Vec<u8>| {
+            let mut s = drawing.clone();
+            let started = Instant::now();
+            let answer = step(black_box(&mut s.desk), black_box(&mut s.sheet), &mut s.slip, record.slice());
+            let t = started.elapsed().as_secs_f64();
+            *left = [vec![answer], s.desk, s.sheet, s.slip].concat();
+            t
+        };
+        let [a, b] = &mut left;
+        let times = best(|| time(library::step, a), || time(fast::step, b), 300);
+        if left[0] != left[1] || left[0][0] != 1 {
+            println!("the two differ, or no fault");
+            well = false;
+        }
+        worst = worst.max(times.0);
+        row(&format!("fault: {name}"), times, 1);
+    }
+    println!("{:54} the slowest fault: {:.3} ms", "", worst * 1e3);
+    well
 }
 
 /// Best seconds of each of two, taking turns.
@@ -103,7 +168,7 @@ fn feed_rows(k: usize, log: &[Rec], what: &str) -> bool {
         row(&format!("{what}, K = {k}, {name}"), (best[2 * i], best[2 * i + 1]), log.len());
     }
     println!(
-        "{:46} pieces to steps: library {:.3} and {:.3}, fast {:.3} and {:.3}", "",
+        "{:54} pieces to steps: library {:.3} and {:.3}, fast {:.3} and {:.3}", "",
         best[0] / best[4], best[2] / best[4], best[1] / best[5], best[3] / best[5]
     );
     let well = left.iter().all(|l| *l == left[0] && l.ends_with(&[0, 1]));
@@ -116,16 +181,16 @@ fn feed_rows(k: usize, log: &[Rec], what: &str) -> bool {
 fn row(name: &str, (lib, quick): (f64, f64), calls: usize) {
     let (a, b) = (lib / calls as f64, quick / calls as f64);
     println!(
-        "{name:46} {:>9.3} {:>9.3} {:>7.2} {:>12.0} {:>12.0}",
+        "{name:54} {:>9.3} {:>9.3} {:>7.2} {:>12.0} {:>12.0}",
         a * 1e6, b * 1e6, a / b, 1.0 / a, 1.0 / b
     );
 }
 
 pub fn run() -> bool {
     let mut well = true;
-    println!("{:46} {:>9} {:>9} {:>7} {:>12} {:>12}", "", "lib us", "fast us", "lib/fast", "lib /s", "fast /s");
+    println!("{:54} {:>9} {:>9} {:>7} {:>12} {:>12}", "", "lib us", "fast us", "lib/fast", "lib /s", "fast /s");
     // A take and a release in turn, so that the desk comes back to where it was.
-    for k in [8usize, 64] {
+    for k in [8usize, 16, 64] {
         for dense in [false, true] {
             let pair = [Rec::new(0, 0, k as u8 - 1, 0), Rec::new(0, 1, k as u8 - 1, 0)];
             let n = 20_000;
@@ -157,6 +222,7 @@ pub fn run() -> bool {
             row("    the same beside plain loops", plain, n);
         }
     }
+    well &= fault_rows();
     for k in [8usize, 64] {
         for dense in [false, true] {
             let s = drawing(k, dense);
@@ -222,7 +288,7 @@ pub fn run() -> bool {
             well = false;
         }
         row(&format!("{name}, K = {k}, per record"), times, n);
-        println!("{:46} {:.3} s and {:.3} s whole; {arrows} hold arrows drawn at the end", "", times.0, times.1);
+        println!("{:54} {:.3} s and {:.3} s whole; {arrows} hold arrows drawn at the end", "", times.0, times.1);
         if name == logs[0].1 {
             well &= feed_rows(k, &log, name);
         }

@@ -1,7 +1,9 @@
 //! An ordinary Rust judge written for speed, for the benchmark, by the same documents.
 //! Fit test at each step, a frame's origins as one word, successor words built once per
-//! step, one depth-first walk over (class, arrival) with done and on-stack words. It is
-//! compared with the reference in every run of the comparer. No unsafe code.
+//! step, one depth-first walk over (class, arrival) with done and on-stack words. Only
+//! with a fault: breadth-first waves for the fewest dependencies, and the least cycle
+//! taken from the waves, one dependency after the other. It is compared with the
+//! reference in every run of the comparer. No unsafe code.
 #![forbid(unsafe_code)]
 
 use reference::{DEEPEST, DEPTHS, DESK, HOLDS, MARKS, ORIGINS, STATES};
@@ -125,7 +127,9 @@ fn gather(chunk: u64, bit: u32) -> u64 {
     ((chunk >> bit) & 0x0101_0101_0101_0101).wrapping_mul(0x0102_0408_1020_4080) >> 56
 }
 
-fn words(desk: &[u8; DESK], sheet: &[u8], k: usize) -> Words {
+/// The classes with each safe mark: hard N, hard R, soft N, soft R.
+#[inline(always)]
+fn safe_words(desk: &[u8; DESK]) -> [u64; 4] {
     let (mut hard_n, mut hard_r, mut soft_n, mut soft_r) = (0u64, 0u64, 0u64, 0u64);
     for (i, eight) in desk[MARKS..HOLDS].chunks_exact(8).enumerate() {
         let chunk = u64::from_le_bytes(eight.try_into().unwrap());
@@ -136,32 +140,44 @@ fn words(desk: &[u8; DESK], sheet: &[u8], k: usize) -> Words {
             soft_r |= gather(chunk, 5) << (8 * i);
         }
     }
-    let mut next = [[0u64; 2]; 128];
-    let (after_n, after_r) = next.split_at_mut(64);
-    for (from, row) in sheet.chunks_exact(k).enumerate() {
-        let (mut er, mut en, mut sr, mut sn) = (0u64, 0u64, 0u64, 0u64);
-        let eights = row.chunks_exact(8);
-        let rest = eights.remainder();
-        let mut at = 0;
-        for eight in eights {
-            let chunk = u64::from_le_bytes(eight.try_into().unwrap());
-            if chunk != 0 {
-                er |= gather(chunk, 0) << at;
-                en |= gather(chunk, 1) << at;
-                sr |= gather(chunk, 2) << at;
-                sn |= gather(chunk, 3) << at;
-            }
-            at += 8;
-        }
-        if !rest.is_empty() {
-            let mut last = [0; 8];
-            last[..rest.len()].copy_from_slice(rest);
-            let chunk = u64::from_le_bytes(last);
+    [hard_n, hard_r, soft_n, soft_r]
+}
+
+/// Where a row's lock dependencies lead: ER, EN, SR, SN.
+#[inline(always)]
+fn row_words(row: &[u8]) -> [u64; 4] {
+    let (mut er, mut en, mut sr, mut sn) = (0u64, 0u64, 0u64, 0u64);
+    let eights = row.chunks_exact(8);
+    let rest = eights.remainder();
+    let mut at = 0;
+    for eight in eights {
+        let chunk = u64::from_le_bytes(eight.try_into().unwrap());
+        if chunk != 0 {
             er |= gather(chunk, 0) << at;
             en |= gather(chunk, 1) << at;
             sr |= gather(chunk, 2) << at;
             sn |= gather(chunk, 3) << at;
         }
+        at += 8;
+    }
+    if !rest.is_empty() {
+        let mut last = [0; 8];
+        last[..rest.len()].copy_from_slice(rest);
+        let chunk = u64::from_le_bytes(last);
+        er |= gather(chunk, 0) << at;
+        en |= gather(chunk, 1) << at;
+        sr |= gather(chunk, 2) << at;
+        sn |= gather(chunk, 3) << at;
+    }
+    [er, en, sr, sn]
+}
+
+fn words(desk: &[u8; DESK], sheet: &[u8], k: usize) -> Words {
+    let [hard_n, hard_r, soft_n, soft_r] = safe_words(desk);
+    let mut next = [[0u64; 2]; 128];
+    let (after_n, after_r) = next.split_at_mut(64);
+    for (from, row) in sheet.chunks_exact(k).enumerate() {
+        let [mut er, mut en, mut sr, mut sn] = row_words(row);
         let m = desk[MARKS + from];
         let all = |bit: u8| if m & bit != 0 { u64::MAX } else { 0 };
         en |= (all(4) & hard_n) | (all(64) & soft_n);
@@ -209,12 +225,10 @@ fn words_plain(desk: &[u8; DESK], sheet: &[u8], k: usize) -> Words {
     Words { next }
 }
 
-/// A cycle of arrivals on the stack: (stack, where the cycle starts, its end).
-type Stack = [u8; 129];
-
-/// One depth-first walk. Arrivals by N are roots enough: what follows an arrival by R
-/// also follows one by N.
-fn walk(words: &Words, k: usize, stack: &mut Stack) -> Option<(usize, usize)> {
+/// Whether there is a cycle of arrivals, by one depth-first walk. Arrivals by N are roots
+/// enough: what follows an arrival by R also follows one by N.
+fn walk(words: &Words, k: usize) -> bool {
+    let mut stack = [0u8; 129];
     let (mut done, mut on) = ([0u64; 2], [0u64; 2]);
     for root in 0..k {
         if done[0] >> root & 1 != 0 {
@@ -226,11 +240,8 @@ fn walk(words: &Words, k: usize, stack: &mut Stack) -> Option<(usize, usize)> {
         on[0] |= 1 << root;
         loop {
             let [by_n, by_r] = words.next[top & 127];
-            let (back_n, back_r) = (by_n & on[0], by_r & on[1]);
-            if back_n | back_r != 0 {
-                let target = if back_n != 0 { back_n.trailing_zeros() } else { 64 + back_r.trailing_zeros() };
-                let start = stack[..=high].iter().position(|&a| u32::from(a) == target)?;
-                return Some((start, high));
+            if by_n & on[0] | by_r & on[1] != 0 {
+                return true;
             }
             let (new_n, new_r) = (by_n & !done[0], by_r & !done[1]);
             if new_n | new_r != 0 {
@@ -257,55 +268,119 @@ fn walk(words: &Words, k: usize, stack: &mut Stack) -> Option<(usize, usize)> {
             top = usize::from(stack[high]);
         }
     }
+    false
+}
+
+/// A set of arrivals: the classes by N, the classes by R.
+type Wave = [u64; 2];
+
+/// Where one more dependency leads from any of these.
+#[inline]
+fn further(words: &Words, [mut by_n, mut by_r]: Wave) -> Wave {
+    let mut all = [0; 2];
+    while by_n != 0 {
+        let [n, r] = words.next[by_n.trailing_zeros() as usize & 63];
+        by_n &= by_n - 1;
+        all = [all[0] | n, all[1] | r];
+    }
+    while by_r != 0 {
+        let [n, r] = words.next[64 + (by_r.trailing_zeros() as usize & 63)];
+        by_r &= by_r - 1;
+        all = [all[0] | n, all[1] | r];
+    }
+    all
+}
+
+/// The fewest dependencies of a cycle through an arrival among these classes, if under `under`.
+fn shortest(words: &Words, arrival: usize, among: u64, under: usize) -> Option<usize> {
+    let (side, class) = (arrival >> 6, arrival & 63);
+    let mut seen = [0; 2];
+    let mut wave = words.next[arrival];
+    for length in 1..under {
+        if wave[side] >> class & 1 == 1 {
+            return Some(length);
+        }
+        // What follows an arrival by R also follows one by N.
+        let new_n = wave[0] & among & !seen[0];
+        seen[0] |= new_n;
+        let new_r = wave[1] & among & !(seen[1] | seen[0]);
+        seen[1] |= new_r;
+        if new_n | new_r == 0 {
+            return None;
+        }
+        wave = further(words, [new_n, new_r]);
+    }
     None
 }
 
+/// Writes the least of the cycles with the fewest dependencies. There is a cycle.
 #[cold]
-fn show(desk: &[u8; DESK], sheet: &[u8], k: usize, slip: &mut [u8], cycle: &[u8]) {
-    let mut cycle = cycle.to_vec();
-    // A class passed twice was passed by N and by R; keep the part that comes by N, as
-    // it may go on by any arrow.
-    'again: loop {
-        for i in 0..cycle.len() {
-            for j in i + 1..cycle.len() {
-                if cycle[i] & 63 == cycle[j] & 63 {
-                    if cycle[i] < 64 {
-                        cycle.drain(i + 1..=j);
-                    } else {
-                        cycle.truncate(j + 1);
-                        cycle.drain(..=i);
+#[inline(never)]
+fn show(desk: &[u8; DESK], sheet: &[u8], k: usize, words: &Words, slip: &mut [u8]) {
+    // The fewest, and the lowest class of such a cycle: one that is shorter than those through lower classes passes none.
+    let (mut n, mut first) = (k + 1, 0);
+    for class in 0..k {
+        for arrival in [class, 64 + class] {
+            if let Some(length) = shortest(words, arrival, u64::MAX << class, n) {
+                (n, first) = (length, class);
+            }
+        }
+    }
+    let safe = safe_words(desk);
+    // By kind (ER, EN, SR, SN) and source: where the dependencies of a class lead.
+    let leads = |from: usize| {
+        let (m, row) = (desk[MARKS + from], row_words(&sheet[from * k..from * k + k]));
+        let all = |bit: u8| if m & bit != 0 { u64::MAX } else { 0 };
+        std::array::from_fn::<[u64; 3], 4, _>(|kind| {
+            let (unsafe_bit, letter) = (if kind < 2 { 4 } else { 8 }, 1 - kind % 2);
+            [row[kind], all(unsafe_bit) & safe[letter], all(unsafe_bit << 4) & safe[2 + letter]]
+        })
+    };
+    // Begun with E it may close by either letter, begun with S by N alone; E goes before S.
+    let home = 1u64 << first;
+    let [by_e, by_any] = [words.next[64 + first], words.next[first]];
+    let mut waves = [[0; 2]; 64];
+    for (kinds, start, home) in [(0..2, by_e, [home; 2]), (2..4, by_any, [home, 0])] {
+        // The arrivals after so many dependencies and one. None comes twice in a shortest cycle.
+        let mut seen = [0; 2];
+        waves[0] = start;
+        for i in 1..n {
+            seen = [seen[0] | waves[i - 1][0], seen[1] | waves[i - 1][1]];
+            let [by_n, by_r] = further(words, waves[i - 1]);
+            waves[i] = [by_n & !seen[0], by_r & !seen[1]];
+        }
+        waves[n - 1] = [waves[n - 1][0] & home[0], waves[n - 1][1] & home[1]];
+        if waves[n - 1] == [0; 2] {
+            continue;
+        }
+        // Of them those from which the rest leads home.
+        for i in (0..n - 1).rev() {
+            let goal = waves[i + 1];
+            for (side, wave) in waves[i].iter_mut().enumerate() {
+                let mut left = *wave;
+                while left != 0 {
+                    let class = left.trailing_zeros() as usize & 63;
+                    left &= left - 1;
+                    let [by_n, by_r] = words.next[64 * side + class];
+                    if by_n & goal[0] | by_r & goal[1] == 0 {
+                        *wave &= !(1 << class);
                     }
-                    continue 'again;
                 }
             }
         }
-        break;
-    }
-    let n = cycle.len();
-    let low = (0..n).min_by_key(|&i| cycle[i] & 63).unwrap_or(0);
-    cycle.rotate_left(low);
-    slip[0] = n as u8;
-    for i in 0..n {
-        let (a, b) = (cycle[i], cycle[(i + 1) % n]);
-        let (from, to, by_r) = (usize::from(a & 63), usize::from(b & 63), b >= 64);
-        let (m, t) = (desk[MARKS + from], desk[MARKS + to]);
-        let hold = sheet[from * k + to];
-        let mut arrow = (0, 0);
-        for s in [false, true] {
-            if arrow.0 != 0 || (s && a >= 64) {
-                break;
-            }
-            let kind = (if s { 4 } else { 1 }) * (if by_r { 1 } else { 2 });
-            let (unsafe_bit, safe_bit) = (if s { 8 } else { 4 }, if by_r { 2 } else { 1 });
-            if hold & kind != 0 {
-                arrow = (kind, 0);
-            } else if m & unsafe_bit != 0 && t & safe_bit != 0 {
-                arrow = (kind, 1);
-            } else if m & (unsafe_bit << 4) != 0 && t & (safe_bit << 4) != 0 {
-                arrow = (kind, 2);
-            }
+        slip[0] = n as u8;
+        let (mut class, mut kinds) = (first, kinds);
+        for (goal, triple) in waves[..n].iter().zip(slip[1..].chunks_exact_mut(3)) {
+            let leads = leads(class);
+            let mut choices = kinds.clone().flat_map(|kind| (0..3).map(move |source| (kind, source)));
+            let Some((kind, source)) = choices.find(|&(kind, source)| leads[kind][source] & goal[1 - kind % 2] != 0) else {
+                return;
+            };
+            triple.copy_from_slice(&[class as u8, 1 << kind, source as u8]);
+            class = (leads[kind][source] & goal[1 - kind % 2]).trailing_zeros() as usize & 63;
+            kinds = if kind % 2 == 0 { 0..2 } else { 0..4 };
         }
-        slip[1 + 3 * i..4 + 3 * i].copy_from_slice(&[from as u8, arrow.0, arrow.1]);
+        return;
     }
 }
 
@@ -402,15 +477,12 @@ fn step_with<const PLAIN: bool>(desk: &mut [u8], sheet: &mut [u8], slip: &mut [u
         origins >>= 1;
     }
     let words = if PLAIN { words_plain(desk, sheet, k) } else { words(desk, sheet, k) };
-    let mut stack = [0; 129];
-    match walk(&words, k, &mut stack) {
-        None => 0,
-        Some((start, end)) => {
-            desk[1] = 1;
-            show(desk, sheet, k, slip, &stack[start..=end]);
-            1
-        }
+    if !walk(&words, k) {
+        return 0;
     }
+    desk[1] = 1;
+    show(desk, sheet, k, &words, slip);
+    1
 }
 
 #[inline(never)]

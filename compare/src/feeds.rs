@@ -5,6 +5,7 @@ use crate::gen::{
 };
 use crate::rng::Rng;
 use crate::run::{Call, Case, Rec};
+use crate::ties;
 use reference::{CLAUSES, DESK, FEED, FEED_CLAUSES, LOOSE};
 
 /// The parts of the promise. A wrong cutting breaks all of them; the first is named.
@@ -111,6 +112,10 @@ fn damage_header(rng: &mut Rng, log: &mut [u8]) {
 
 /// A log from opening with its K and buffers for it. Most records are accepted; some come after the one that stops it.
 fn any_log(rng: &mut Rng) -> (Vec<u8>, (Vec<u8>, Vec<u8>, Vec<u8>)) {
+    if rng.mille(60) {
+        let (records, k) = ties::closing(rng);
+        return (log_of(k as u8, &records), any_buffers(rng, k));
+    }
     let faults = rng.mille(350);
     let k = if faults && rng.mille(700) { rng.pick(&[1, 1, 2, 4]) } else { any_k(rng) };
     let mut style = any_style(rng, k);
@@ -399,11 +404,12 @@ fn end_over_loose(rng: &mut Rng) -> Case {
 // ---------------------------------------------------------------------- random
 
 pub const CUT_LOG: &str = "log in pieces";
-pub const KINDS: [Kind; 4] = [
+pub const KINDS: [Kind; 5] = [
     Kind { name: CUT_LOG, weight: 150, make: cut_log },
-    Kind { name: "long log in pieces", weight: 3, make: long_cut_log },
-    Kind { name: "any feed", weight: 170, make: any_calls },
+    Kind { name: "long log in pieces", weight: 4, make: long_cut_log },
+    Kind { name: "any feed", weight: 200, make: any_calls },
     Kind { name: "end over loose bytes", weight: 130, make: end_over_loose },
+    Kind { name: "feed over ties", weight: 40, make: ties::in_feed },
 ];
 
 // ----------------------------------------------------------------------- fixed

@@ -6,6 +6,7 @@ use crate::feeds;
 use crate::rng::Rng;
 use crate::run::{Call, Case, Rec};
 use crate::sights::ORIGIN;
+use crate::ties;
 use reference::{CLAUSES, DEEPEST, DEPTHS, DESK, FRAMES, HOLDS, MARKS, ORIGINS, STATES};
 
 pub const BIG: [u64; 16] = [
@@ -72,7 +73,7 @@ fn may_hold(state: u8, frame: usize) -> bool {
 
 /// A case yet without a name.
 pub fn case(buffers: (Vec<u8>, Vec<u8>, Vec<u8>), calls: Vec<Call>) -> Case {
-    Case { name: "", desk: buffers.0, sheet: buffers.1, slip: buffers.2, feed: Vec::new(), calls, pair: None, clause: None }
+    Case { name: "", desk: buffers.0, sheet: buffers.1, slip: buffers.2, feed: Vec::new(), calls, pair: None, clause: None, shows: None }
 }
 
 // ------------------------------------------------------------------ proposals
@@ -840,7 +841,7 @@ pub struct Kind {
 }
 
 pub const PAIRS: &str = "pair of lists";
-const KINDS: [Kind; 9] = [
+const KINDS: [Kind; 11] = [
     Kind { name: "log from opening", weight: 180, make: log },
     Kind { name: "deep log", weight: 60, make: deep_log },
     Kind { name: "long log", weight: 5, make: long_log },
@@ -850,6 +851,8 @@ const KINDS: [Kind; 9] = [
     Kind { name: "changed desk", weight: 115, make: changed_desk },
     Kind { name: "opening", weight: 80, make: opening },
     Kind { name: PAIRS, weight: 90, make: pair },
+    Kind { name: "ties", weight: 250, make: ties::on_desk },
+    Kind { name: "log that closes several", weight: 60, make: ties::closing_log },
 ];
 
 /// A random case, or None if it would be one with a feed and none such is wanted, or the other way round.
@@ -994,8 +997,11 @@ pub fn hand_logs() -> Vec<HandLog> {
 }
 
 /// The kinds of fixed cases, and how many there are of each.
-pub const FIXED: [(&str, u64); 14] = [
+pub const FIXED: [(&str, u64); 18] = [
     (HAND_LOGS, 79),
+    (HAND_DRAWINGS, 24),
+    (EACH_RING, 64 * ties::RINGS_OF_EACH),
+    (SOME_TIES, 1200),
     (EACH_PLACE, 5040),
     (EACH_OPENING, 3487),
     (EACH_CLAUSE, 2400),
@@ -1003,6 +1009,7 @@ pub const FIXED: [(&str, u64); 14] = [
     (EACH_STATE, 21_600),
     (ALL_OF_1, 4352),
     (ALL_OF_2, 65_536),
+    (ALL_MARKS_OF_2, 20_736),
     (feeds::EACH_FEED_SIZE, 160),
     (feeds::EACH_STAND, 1620),
     (feeds::EACH_FEED_BYTE, 5076),
@@ -1011,6 +1018,9 @@ pub const FIXED: [(&str, u64); 14] = [
     (feeds::LONG_PIECES, 7),
 ];
 const HAND_LOGS: &str = "hand logs";
+const HAND_DRAWINGS: &str = "hand drawings";
+const EACH_RING: &str = "rings of 1 to 64";
+const SOME_TIES: &str = "ties and closing logs";
 const EACH_PLACE: &str = "each place released";
 const EACH_OPENING: &str = "each opening";
 const EACH_CLAUSE: &str = "each clause alone";
@@ -1018,6 +1028,7 @@ const EACH_DESK_BYTE: &str = "each desk byte";
 const EACH_STATE: &str = "each state and kind";
 const ALL_OF_1: &str = "all of K = 1";
 const ALL_OF_2: &str = "all sheets of K = 2";
+const ALL_MARKS_OF_2: &str = "all marks of K = 2";
 
 /// The cases made by hand and those that go through all of a small space, until one is answered with false. Those with
 /// feeds come last.
@@ -1045,6 +1056,28 @@ fn fixed_calls(each: &mut dyn FnMut(Case) -> bool) {
         }
         calls.extend(some_calls(rng, log.k, 6));
         if !each(HAND_LOGS, case(any_buffers(rng, log.k), calls)) {
+            return;
+        }
+    }
+    // Drawings by hand, rings of each length, and others with several shortest cycles.
+    let tick = Call::Step(Rec::new(0, 2, 0, 0));
+    let own = &mut Rng::new(20_260_103);
+    for drawing in ties::hand_drawings() {
+        let (desk, sheet) = drawing.sketch.desk();
+        let k = usize::from(desk[0]);
+        let c = case((desk, sheet, own.bytes(1 + 3 * k)), vec![tick.clone(), Call::Ask(0)]);
+        if !each(HAND_DRAWINGS, c) {
+            return;
+        }
+    }
+    for (n, turn) in (1..=64).flat_map(|n| (0..ties::RINGS_OF_EACH).map(move |turn| (n, turn))) {
+        if !each(EACH_RING, ties::each_ring(own, n, turn)) {
+            return;
+        }
+    }
+    for i in 0..1200 {
+        let c = if i % 4 == 3 { ties::closing_log(own) } else { ties::on_desk(own) };
+        if !each(SOME_TIES, c) {
             return;
         }
     }
@@ -1175,8 +1208,7 @@ fn fixed_calls(each: &mut dyn FnMut(Case) -> bool) {
             }
         }
     }
-    // All drawings of one class, and all sheets of two classes.
-    let tick = Call::Step(Rec::new(0, 2, 0, 0));
+    // All drawings of one class; of two classes all sheets, and all marks with some sheets.
     for mark in 0..=255u8 {
         for kinds in 0..17u8 {
             let mut desk = Shadow::opened(1).desk;
@@ -1192,6 +1224,19 @@ fn fixed_calls(each: &mut dyn FnMut(Case) -> bool) {
         let sheet = vec![all as u8 & 15, (all >> 4) as u8 & 15, (all >> 8) as u8 & 15, (all >> 12) as u8];
         let calls = vec![tick.clone(), Call::Ask(0), Call::Ask(1)];
         if !each(ALL_OF_2, case((desk, sheet, vec![7; 7]), calls)) {
+            return;
+        }
+    }
+    let fit = |m: &u8| m >> 4 & 12 & !m == 0;
+    for (a, b) in (0..=255).filter(fit).flat_map(|a| (0..=255).filter(fit).map(move |b| (a, b))) {
+        let mut desk = Shadow::opened(2).desk;
+        (desk[MARKS], desk[MARKS + 1]) = (a, b);
+        let sheet = match own.under(3) {
+            0 => vec![0; 4],
+            1 => vec![0, 1 << own.under(4), 1 << own.under(4), 0],
+            _ => own.bytes(4).iter().map(|b| b & 15).collect(),
+        };
+        if !each(ALL_MARKS_OF_2, case((desk, sheet, vec![7; 7]), vec![tick.clone()])) {
             return;
         }
     }

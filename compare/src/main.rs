@@ -1,10 +1,10 @@
 //! compare: runs the proved library and the independent reference over many inputs and
-//! compares after every call: the answer, every byte of desk, sheet and feed with the
-//! guards around them, word and count, the record number; slips as far as the document
-//! fixes them. See HELP.
+//! compares after every call: the answer, every byte of desk, sheet, slip and feed with
+//! the guards around them, word and count, the record number. See HELP.
 
 mod bench;
 mod claim;
+mod cycles;
 mod drawing;
 mod fast;
 mod feeds;
@@ -16,6 +16,7 @@ mod rng;
 mod run;
 mod selftest;
 mod sights;
+mod ties;
 
 use judges::{Judges, Subject};
 use needs::Need;
@@ -40,8 +41,9 @@ compare: the library beside the reference, call by call and byte by byte
   --planted NAME           a wrong judge in the library's place
   --both                   the planted judge in the place of the reference and the fast
                            judge too: then only demand 3's pairs of lists can show it,
-                           the promise of a log in pieces, and the answers that the
-                           documents give for the hand logs
+                           the promise of a log in pieces, all cycles where K is 4 or
+                           less, the answers that the documents give for the hand logs,
+                           and the slips written down for the hand drawings
   --without NAME           leave out what is counted under this name
 
 Exit status: 0 no difference and every minimum met; 1 a difference, a wrong answer or a
@@ -112,6 +114,8 @@ fn try_case(case: Case, judges: &mut Judges, counts: &mut Counts, failed: &mut F
 fn compare(judges: &mut Judges, limits: &Limits, met: &mut Met) -> Failed {
     let end = Instant::now() + Duration::from_secs(limits.seconds);
     let mut failed = None;
+    // Sights count in random cases.
+    met.fixed.blind = true;
     limits.fixed(&mut |case| try_case(case, judges, &mut met.fixed, &mut failed));
     if failed.is_none() {
         limits.random(end, &mut |case| try_case(case, judges, &mut met.random, &mut failed));
@@ -162,8 +166,8 @@ fn report(met: &Met, limits: &Limits) -> bool {
         random.asked_closed, random.asked_itself
     );
     println!("frames filled from opening {}, acquires refused by them {}", random.filled, random.over_full);
-    let [hold, hard, soft] = random.sources;
-    println!("the subject's cycles: longest {}, dependencies by source hold {hold}, hard {hard}, soft {soft}", random.longest_cycle);
+    let shown = random.shown.iter().zip(["ER", "EN", "SR", "SN"]).map(|(by_source, kind)| format!("{kind} {by_source:?}"));
+    println!("cycles: longest {}, dependencies by source [hold, hard, soft]: {}", random.longest_cycle, shown.collect::<Vec<_>>().join(", "));
     for (name, cases, calls) in fixed.by_name.iter().chain(&random.by_name) {
         println!("  {name:24} {cases:>9} cases {calls:>11} calls");
     }
@@ -203,6 +207,23 @@ fn hand_answers(subject: &mut Subject) -> bool {
         let answer = subject.feed_end(&mut feed, &mut s.desk, &mut s.sheet, &mut s.slip, &mut number);
         if (answer, number) != (log.last, n as u64) {
             println!("hand log {} in pieces: {answer} at record {number}, not {} at record {n}", log.name, log.last);
+            well = false;
+        }
+    }
+    well
+}
+
+/// The hand drawings' slips as they were worked out by hand, every byte, on the subject's own.
+fn hand_slips(subject: &mut Subject) -> bool {
+    let mut well = true;
+    for drawing in ties::hand_drawings() {
+        let (mut desk, mut sheet) = drawing.sketch.desk();
+        let mut slip = vec![99; reference::slip_len(usize::from(desk[0]))];
+        let mut expected = slip.clone();
+        expected[..drawing.slip.len()].copy_from_slice(&drawing.slip);
+        let answer = subject.step(&mut desk, &mut sheet, &mut slip, &[0x4C, 0x4B, 0, 2, 0, 0]);
+        if (answer, &slip) != (1, &expected) {
+            println!("hand drawing {}: answer {answer}, slip {slip:?}, not {expected:?}", drawing.name);
             well = false;
         }
     }
@@ -301,7 +322,7 @@ fn full_run(judges: &mut Judges, limits: &Limits) -> bool {
         return false;
     }
     let whole = report(&met, limits);
-    let right = hand_answers(&mut judges.subject) & long_records(&mut judges.subject);
+    let right = hand_answers(&mut judges.subject) & hand_slips(&mut judges.subject) & long_records(&mut judges.subject);
     if let Subject::Library(edges) = &judges.subject {
         println!("{} of the library's calls were made at the edge of an unreadable page", edges.edge_calls());
     }
@@ -309,7 +330,7 @@ fn full_run(judges: &mut Judges, limits: &Limits) -> bool {
     println!("{}", match (whole, right) {
         (true, true) => "no difference",
         (false, true) => "no difference, but see the lines in capitals",
-        _ => "no difference, but the answer to a hand log or to a long record is wrong",
+        _ => "no difference, but what a hand log, a hand drawing or a long record gets is wrong",
     });
     whole && right
 }

@@ -6,7 +6,8 @@ use crate::gen::{self, Shadow};
 use crate::judges::FAST;
 use crate::run::{Call, Case, Counts};
 use crate::sights::{Look, SIGHTS};
-use reference::{CLAUSES, DEEPEST, DEPTHS, FEED_CLAUSES, HOLDS, MARKS};
+use reference::{CLAUSES, DEEPEST, DEPTHS, FEED_CLAUSES, MARKS};
+use std::cell::OnceCell;
 
 /// Random cases of a full run: 92,000 were seen in 60 s on two shared cores.
 const RANDOM_CASES: u64 = 5000;
@@ -36,17 +37,21 @@ pub enum Need {
     FaultInBoth,
     Filled,
     OverFull,
-    Source(usize),
+    /// A dependency in a cycle, of this kind (as 0 to 3) and source.
+    Shown(usize, usize),
     AskedClosed,
     AskedItself,
     Sight(usize),
 }
 use Asked::{End, Opening, Piece, Question, Start, Step};
 
+const KINDS: [&str; 4] = ["ER", "EN", "SR", "SN"];
 const SOURCES: [&str; 3] = ["hold", "hard", "soft"];
+/// How often each kind and source is to be seen in a cycle.
+const SHOWN: [[u64; 3]; 4] = [[2100, 180, 84], [3300, 140, 74], [550, 32, 13], [3700, 120, 68]];
 
 /// The kinds of random cases; named here too, so that one is missed that is no longer made.
-const RANDOM: [(&str, u64); 13] = [
+const RANDOM: [(&str, u64); 16] = [
     ("log from opening", 1800),
     ("deep log", 600),
     ("long log", 50),
@@ -60,6 +65,9 @@ const RANDOM: [(&str, u64); 13] = [
     ("long log in pieces", 20),
     ("any feed", 1100),
     ("end over loose bytes", 880),
+    ("ties", 1300),
+    ("log that closes several", 340),
+    ("feed over ties", 230),
 ];
 
 /// Every need with its least number: of a fixed kind all of its cases; of the rest so many in 100,000 random cases, about
@@ -107,7 +115,9 @@ pub fn all() -> Vec<(Need, u64)> {
     all.extend([2300, 1000, 2300].into_iter().enumerate().map(|(part, least)| (Need::Promise(part), least)));
     all.extend([(Need::FaultInSecond, 200), (Need::FaultInBoth, 140)]);
     all.extend([(Need::Filled, 13_000), (Need::OverFull, 5000)]);
-    all.extend([(Need::Source(0), 4200), (Need::Source(1), 620), (Need::Source(2), 340)]);
+    for (kind, by_source) in SHOWN.iter().enumerate() {
+        all.extend(by_source.iter().enumerate().map(|(source, &least)| (Need::Shown(kind, source), least)));
+    }
     all.extend([(Need::AskedClosed, 4900), (Need::AskedItself, 4000)]);
     all.extend(SIGHTS.iter().enumerate().map(|(i, sight)| (Need::Sight(i), sight.least)));
     all
@@ -138,7 +148,7 @@ impl Need {
             Need::FaultInBoth => "pair with a fault in both lists".into(),
             Need::Filled => "frame filled from opening".into(),
             Need::OverFull => "acquire refused by a frame filled from opening".into(),
-            Need::Source(source) => format!("dependency of source {} in a cycle", SOURCES[source]),
+            Need::Shown(kind, source) => format!("{} {} in a cycle", KINDS[kind], SOURCES[source]),
             Need::AskedClosed => "question on a closed desk".into(),
             Need::AskedItself => "question whose class reaches itself".into(),
             Need::Sight(i) => SIGHTS[i].name.into(),
@@ -166,7 +176,7 @@ impl Need {
             Need::FaultInBoth => random.pair_faults[2],
             Need::Filled => random.filled,
             Need::OverFull => random.over_full,
-            Need::Source(source) => random.sources[source],
+            Need::Shown(kind, source) => random.shown[kind][source],
             Need::AskedClosed => random.asked_closed,
             Need::AskedItself => random.asked_itself,
             Need::Sight(i) => random.sights.0[i],
@@ -222,10 +232,11 @@ impl Need {
                 call == Step && seen.answer < 2 && full(&after.desk) > full(&before.desk)
             }
             Need::OverFull => call == Step && seen.answer == 8,
-            Need::Source(0) => call == Step && seen.answer == 1 && after.sheet.iter().any(|&b| b & 15 != 0),
-            Need::Source(source) => {
-                let safe = if source == 1 { 3 } else { 48 };
-                call == Step && seen.answer == 1 && after.desk[MARKS..HOLDS].iter().any(|m| m & safe != 0)
+            Need::Shown(kind, source) => {
+                let mut triples = after.slip.get(1..).unwrap_or(&[]).chunks_exact(3);
+                let n = after.slip.first().map_or(0, |&n| usize::from(n));
+                let triple = [1 << kind, source as u8];
+                call == Step && seen.answer == 1 && triples.by_ref().take(n).any(|t| t[1..] == triple)
             }
             Need::AskedClosed => call == Question && seen.answer == 0 && before.desk[1] == 1,
             Need::AskedItself => {
@@ -237,11 +248,13 @@ impl Need {
                 after: &after.desk,
                 answer: seen.answer,
                 clause: seen.clause(),
+                sheet: &before.sheet,
+                sheet_after: &after.sheet,
+                slip: &after.slip,
                 feed: &seen.feed,
                 feed_after: &seen.feed_after,
-                sheet_len: before.sheet.len(),
-                slip_len: before.slip.len(),
                 after_end: seen.after_end,
+                shown: OnceCell::new(),
             }),
             _ => false,
         }

@@ -7,7 +7,8 @@ pub struct Plant {
     pub wrong: &'static str,
     /// The call that shows it to be wrong must be one of these sights, where any are named.
     pub sights: &'static [&'static str],
-    /// The part of demand 3's claim or of the feed's promise that it breaks while it stands in the place of every judge.
+    /// The part of demand 3's claim or of the feed's promise, or the least cycle, that it breaks while it stands in the
+    /// place of every judge.
     pub breaks: Option<&'static str>,
     /// Whether nothing but its feed is wrong.
     pub of_feed: bool,

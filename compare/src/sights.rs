@@ -1,28 +1,33 @@
 //! Sights: calls of such a sort that a wrong version of some rule would show there. A run must have met each of them.
 
+use crate::cycles::{Choice, Drawing, Shown};
 use crate::drawing::FRAME;
 use crate::feeds::{self, ANSWER, KEEP, KEPT, OPENED};
 use crate::run::Call;
 use reference::{CLAUSES, DEEPEST, DEPTHS, DESK, FEED, FRAMES, HOLDS, MARKS, ORIGINS, STATES};
+use std::cell::OnceCell;
 use std::ops::{Range, RangeInclusive};
 
 /// The clause of "Unfit" about origins.
 pub const ORIGIN: &str = "origin where no hold stands";
 
-/// A call with the desk and the feed before and after it.
+/// A call with the desk, the sheet and the feed before and after it, and the slip after it.
 pub struct Look<'a> {
     pub call: &'a Call,
     pub before: &'a [u8],
     pub after: &'a [u8],
+    pub sheet: &'a [u8],
+    pub sheet_after: &'a [u8],
+    pub slip: &'a [u8],
     pub answer: u8,
     /// With answer 11: the first clause of "Unfit" that is violated; at a feed, of the feed's fit test.
     pub clause: Option<&'static str>,
     pub feed: &'a [u8],
     pub feed_after: &'a [u8],
-    pub sheet_len: usize,
-    pub slip_len: usize,
     /// Whether the call before was an end that answered 0.
     pub after_end: bool,
+    /// The cycle shown, once it is asked for.
+    pub shown: OnceCell<Option<Shown>>,
 }
 
 fn is_try(desk: &[u8], frame: usize, place: usize) -> bool {
@@ -166,7 +171,7 @@ impl Look<'_> {
     }
     /// A slip too short for the K of this desk.
     fn short_slip(&self, desk: &[u8]) -> bool {
-        desk.first().is_some_and(|k| (1..=64).contains(k) && self.slip_len < 1 + 3 * usize::from(*k))
+        desk.first().is_some_and(|k| (1..=64).contains(k) && self.slip.len() < 1 + 3 * usize::from(*k))
     }
     /// The piece, where the feed stands at this answer, or at any but 0.
     fn piece_at(&self, stopped: bool) -> Option<&[u8]> {
@@ -200,7 +205,7 @@ impl Look<'_> {
     }
     /// A good header whose desk or sheet is too short.
     fn short_for_header(&self, desk: bool) -> bool {
-        let large = |k: u8| self.sheet_len >= usize::from(k) * usize::from(k);
+        let large = |k: u8| self.sheet.len() >= usize::from(k) * usize::from(k);
         self.bad_header(|h| {
             h[..3] == [0x4C, 0x48, 1] && (1..=64).contains(&h[3]) && if desk { large(h[3]) } else { !large(h[3]) }
         })
@@ -233,6 +238,35 @@ impl Look<'_> {
     }
     fn start(&self, such: impl Fn(&[u8]) -> bool) -> bool {
         matches!(self.call, Call::FeedStart) && such(self.feed)
+    }
+}
+
+/// A fault: the cycle that the slip shows.
+impl Look<'_> {
+    fn shown(&self) -> Option<&Shown> {
+        let faults = self.answer == 1 && (self.record().is_some() || self.piece_at(false).is_some());
+        let shown = || if faults { Shown::of(self.after, self.sheet_after, self.slip) } else { None };
+        self.shown.get_or_init(shown).as_ref()
+    }
+    fn shows(&self, such: impl Fn(&Shown) -> bool) -> bool {
+        self.shown().is_some_and(such)
+    }
+    /// A choice that would take another cycle.
+    fn chooses(&self, choice: Choice) -> bool {
+        self.shows(|s| s.chooses(choice))
+    }
+    fn of_length(&self, lengths: RangeInclusive<usize>) -> bool {
+        self.shows(|s| lengths.contains(&s.n()))
+    }
+    /// A cycle that passes neither the record's class nor a lock held in its frame.
+    fn apart(&self) -> bool {
+        let (Some(shown), Some((_, kind, class, _))) = (self.shown(), self.record()) else { return false };
+        let frame = self.frame_after();
+        let mut held = (0..depth(self.after, frame)).map(|place| hold(self.after, frame, place) % 64);
+        !(kind < 2 && shown.passes(class)) && !held.any(|class| shown.passes(class))
+    }
+    fn clean_before(&self) -> bool {
+        !Drawing::of(self.before, self.sheet).has_cycle()
     }
 }
 
@@ -334,6 +368,34 @@ pub const SIGHTS: &[Sight] = &[
             (0..p).any(|q| hold(desk, f, q) % 64 == lock % 64 && hold(desk, f, q) != lock)
         })
     }),
+    // The cycle shown.
+    sight("cycle of 1 dependency", 990, |l| l.of_length(1..=1)),
+    sight("cycle of 2 dependencies", 820, |l| l.of_length(2..=2)),
+    sight("cycle of 3 dependencies", 260, |l| l.of_length(3..=3)),
+    sight("cycle of 4 to 7 dependencies", 190, |l| l.of_length(4..=7)),
+    sight("cycle of 8 to 15 dependencies", 62, |l| l.of_length(8..=15)),
+    sight("cycle of 16 to 31 dependencies", 31, |l| l.of_length(16..=31)),
+    sight("cycle of 32 to 63 dependencies", 71, |l| l.of_length(32..=63)),
+    sight("cycle of 64 dependencies", 23, |l| l.of_length(64..=64)),
+    sight("several cycles of the fewest", 1000, |l| l.shows(|s| s.several)),
+    sight("several cycles of the fewest, 4 or more dependencies", 230, |l| l.of_length(4..=64) && l.shows(|s| s.several)),
+    sight("several cycles of the fewest, closed by one record", 160, |l| l.shows(|s| s.several) && l.clean_before()),
+    sight("cycle by the kind before the next class", 170, |l| l.chooses(Choice::NextBeforeKind)),
+    sight("cycle by the source before the next class", 24, |l| l.chooses(Choice::NextBeforeSource)),
+    sight("cycle by the kind before the source", 73, |l| l.chooses(Choice::SourceBeforeKind)),
+    sight("cycle by ER before EN, or SR before SN", 520, |l| l.chooses(Choice::KindsByLetters)),
+    sight("cycle by hold before hard before soft", 160, |l| l.chooses(Choice::SourcesBackwards)),
+    sight("cycle that first parents do not lead to", 410, |l| l.chooses(Choice::Parents)),
+    sight("cycle closed by R before one closed by N", 340, |l| l.chooses(Choice::ClosedByN)),
+    sight("cycle where one less is barred by the closing joint", 230, |l| l.chooses(Choice::ClosingIgnored)),
+    sight("interrupt ER before hold EN on one pair", 20, |l| l.shows(|s| s.beside(|(a, b), other| a == 0 && b > 0 && other == (1, 0)))),
+    sight("hold before an interrupt of one kind on one pair", 70, |l| l.shows(|s| s.beside(|a, b| a.0 == b.0 && a.1 == 0))),
+    sight("hard before soft of one kind on one pair", 55, |l| l.shows(|s| s.beside(|a, b| a == (b.0, 1) && b.1 == 2))),
+    sight("least kind barred by the next joint", 180, |l| l.shows(|s| s.barred(false))),
+    sight("least kind barred by the closing joint", 220, |l| l.shows(|s| s.barred(true))),
+    sight("shorter cycle above a longer one", 420, |l| l.shows(Shown::above_a_lower)),
+    sight("cycles of the fewest from several classes", 890, |l| l.shows(Shown::another_first)),
+    sight("cycle apart from the record", 1200, |l| l.apart()),
     // Refusals.
     sight("try in a full frame", 2900, |l| l.refused(8, |_, _, mode| TRIES.contains(&mode))),
     sight("try of class K or more", 640, |l| l.refused(4, |_, _, mode| TRIES.contains(&mode))),
@@ -440,6 +502,8 @@ pub const SIGHTS: &[Sight] = &[
     at_feed("record that stops after others of the piece", 44, |l| l.opened() && l.behind().is_some() && l.records() > 1),
     at_feed("fault over a cut", 49, |l| l.stops(1) && l.opened() && l.kept() > 0 && l.records() == 1),
     at_feed("fault, and bytes behind it", 34, |l| l.stops(1) && l.behind() > Some(0)),
+    at_feed("fault in a piece, several cycles of the fewest", 150, |l| l.shows(|s| s.several)),
+    at_feed("fault in a piece, a shorter cycle above a longer one", 46, |l| l.shows(Shown::above_a_lower)),
     at_feed("piece after a stop", 10_000, |l| l.piece_at(true).is_some_and(|p| !p.is_empty())),
     at_feed("empty piece after a stop", 1300, |l| l.piece_at(true).is_some_and(|p| p.is_empty())),
     at_feed("piece after a fault", 77, |l| l.answer == 1 && l.piece_at(true).is_some_and(|p| p.len() > 5)),

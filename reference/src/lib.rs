@@ -1,9 +1,9 @@
 //! An independent second program for the lock log judge.
 //!
 //! Written from the documents alone (01, "What will be built, and the rules", and
-//! of 02 "A try never waits" and "Logs arrive in pieces", with the feed's layout and
-//! fit test as they were handed over), to be compared byte for byte with the proved
-//! library. Sentences in quotation marks are the documents'.
+//! of 02 "A try never waits", "Logs arrive in pieces" and "Show the shortest circle",
+//! with the feed's layout and fit test as they were handed over), to be compared byte
+//! for byte with the proved library. Sentences in quotation marks are the documents'.
 //!
 //! How closed strong paths are decided: a path is a walk over *arrivals*, an
 //! arrival being a class together with the second letter (N or R) of the arrow
@@ -12,6 +12,8 @@
 //! a closed strong path is exactly a cycle among arrivals. Whether there is a
 //! cycle is found by *peeling*: arrivals without a remaining successor are taken
 //! away until none can be; a cycle exists exactly if something remains.
+//!
+//! How the circle shown is chosen: see [`least_circle`].
 #![forbid(unsafe_code)]
 
 use std::io::{ErrorKind, Read, Write};
@@ -359,7 +361,8 @@ pub fn step(desk: &mut [u8], sheet: &mut [u8], slip: &mut [u8], record: &[u8]) -
         return 0;
     }
     desk[1] = 1;
-    show(desk, sheet, slip, &drawing.shortest_cycle(left));
+    let circle = drawing.least_cycle(left, desk, sheet);
+    show(slip, &circle.expect("where something remains, a cycle exists"));
     1
 }
 
@@ -491,44 +494,82 @@ impl Arrivals {
         }
     }
 
-    /// A shortest cycle among the arrivals in `left`, by breadth-first search from
-    /// each. A shortest one passes no class twice: were class x passed twice, the
-    /// circle would fall into two circles through x, and as the joints (a, b') and
-    /// (b, a') at x are strong, (a, a') or (b, b') is strong too (else a and b end
-    /// in R, a' and b' begin with S), so a shorter closed strong path would exist.
-    fn shortest_cycle(&self, left: Set) -> Vec<usize> {
-        let mut best: Vec<usize> = Vec::new();
-        for start in members(left) {
-            let mut parent = [start; 128];
-            let mut seen: Set = 0;
-            let mut wave: Set = 1 << start;
-            let mut length = 0;
-            while wave != 0 && seen >> start & 1 == 0 && (best.is_empty() || length + 1 < best.len())
-            {
-                let mut found: Set = 0;
-                for i in members(wave) {
-                    let new = self.next[i] & left & !seen;
-                    for j in members(new) {
-                        parent[j] = i;
-                    }
-                    seen |= new;
-                    found |= new;
-                }
-                wave = found;
-                length += 1;
+    /// The number of arrows in a shortest cycle through an arrival.
+    fn shortest_through(&self, start: usize) -> Option<usize> {
+        let mut reached: Set = 0;
+        let mut wave: Set = 1 << start;
+        let mut length = 0;
+        while wave != 0 {
+            length += 1;
+            let further = members(wave).fold(0, |all, i| all | self.next[i]);
+            if further >> start & 1 == 1 {
+                return Some(length);
             }
-            if seen >> start & 1 == 1 {
-                let mut cycle = vec![start];
-                let mut at = parent[start];
-                while at != start {
-                    cycle.push(at);
-                    at = parent[at];
+            wave = further & !reached;
+            reached |= further;
+        }
+        None
+    }
+
+    /// The circle of [`least_circle`], with its cycles among the arrivals in `left`.
+    fn least_cycle(&self, left: Set, desk: &[u8], sheet: &[u8]) -> Option<Vec<Triple>> {
+        // "fewest arrows", and the arrivals on cycles of so many.
+        let mut fewest = usize::MAX;
+        let mut on: Set = 0;
+        for i in members(left) {
+            if let Some(length) = self.shortest_through(i) {
+                if length < fewest {
+                    (fewest, on) = (length, 0);
                 }
-                cycle.reverse();
-                best = cycle;
+                if length == fewest {
+                    on |= 1 << i;
+                }
             }
         }
-        best
+        // "the lowest class first", by whichever letter the last arrow arrives there.
+        let first = members(on).map(|i| i % 64).min()?;
+        [first, 64 + first]
+            .into_iter()
+            .filter(|&start| on >> start & 1 == 1)
+            .filter_map(|start| self.least_walk(start, fewest, desk, sheet))
+            .min()
+    }
+
+    /// The least list of triples among all walks of exactly `length` arrows that begin
+    /// and end with the arrival `start`.
+    ///
+    /// For one arrow more each round, the least list of a walk from `start` to each
+    /// arrival is worked out. Walks of one length to one arrival go on alike, whatever
+    /// led there, and lists of one length are compared before what is added to them: so
+    /// a least walk is always a least walk with one arrow fewer and then a last arrow.
+    /// What the last arrow goes to is no part of the list: its class is compared with
+    /// the next arrow.
+    fn least_walk(&self, start: usize, length: usize, desk: &[u8], sheet: &[u8]) -> Option<Vec<Triple>> {
+        // The arrivals from which exactly 0, 1, 2 .. arrows lead to `start`: with so
+        // many arrows left, nobody else need be looked at.
+        let mut away: Vec<Set> = vec![1 << start];
+        for nearer in 0..length {
+            let leads = |&i: &usize| self.next[i] & away[nearer] != 0;
+            away.push((0..128).filter(leads).fold(0, |all, i| all | 1 << i));
+        }
+        let mut least: Vec<Option<Vec<Triple>>> = vec![None; 128];
+        least[start] = Some(Vec::new());
+        for arrows_left in (0..length).rev() {
+            let mut longer: Vec<Option<Vec<Triple>>> = vec![None; 128];
+            for there in members(away[arrows_left]) {
+                let mut walks: Vec<(&Vec<Triple>, Triple)> = Vec::new();
+                for here in members(away[arrows_left + 1]) {
+                    if let Some(walk) = &least[here] {
+                        walks.extend(arrows(desk, sheet, here, there).map(|arrow| (walk, arrow)));
+                    }
+                }
+                if let Some((walk, arrow)) = walks.into_iter().min() {
+                    longer[there] = Some([&walk[..], &[arrow]].concat());
+                }
+            }
+            least = longer;
+        }
+        least.swap_remove(start)
     }
 
     /// The arrivals of all strong paths of one or more arrows from a class.
@@ -552,25 +593,110 @@ pub fn closed_strong_path(desk: &[u8], sheet: &[u8]) -> bool {
 
 // ---------------------------------------------------------- the circle shown
 
-/// Writes the circle through these arrivals: "Byte 0 is n, 1 to K; then n times
-/// three bytes: class, kind (1, 2, 4 or 8), source (0 hold, 1 hard, 2 soft)."
-fn show(desk: &[u8], sheet: &[u8], slip: &mut [u8], cycle: &[usize]) {
-    let n = cycle.len();
-    // "the lowest class first"
-    let lowest = (0..n).min_by_key(|&i| cycle[i] % 64).unwrap_or(0);
-    slip[0] = n as u8;
-    for i in 0..n {
-        let here = cycle[(lowest + i) % n];
-        let there = cycle[(lowest + i + 1) % n];
-        let choice = (0..3)
-            .flat_map(|source| [ER, EN, SR, SN].map(|kind| (kind, source)))
-            .find(|&(kind, source)| {
-                ends_with_r(kind) == (there >= 64)
-                    && !(here >= 64 && begins_with_s(kind))
-                    && drawn(desk, sheet, here % 64, there % 64, kind, source)
-            });
-        let (kind, source) = choice.expect("a step between arrivals is made by a drawn arrow");
-        slip[1 + 3 * i..4 + 3 * i].copy_from_slice(&[(here % 64) as u8, kind, source]);
+/// An arrow as the slip shows it: "class, kind (1, 2, 4 or 8), source (0 hold, 1 hard,
+/// 2 soft)". Compared, and lists of them too, "from left to right".
+pub type Triple = (u8, u8, u8);
+
+/// THE circle: "fewest arrows, and among those the least when the slip's triples are
+/// compared from left to right". None where the drawing has no closed strong path, and
+/// where desk or sheet is unfit.
+///
+/// How it is found. A circle is a cycle among arrivals; the fewest arrows of any cycle
+/// are found by breadth-first search from each arrival. A cycle of so many passes no
+/// class twice: were class x passed twice, by arrows a, a' and by arrows b, b', the
+/// cycle would fall into a' .. b and b' .. a, and one of these is strong all round (if
+/// neither, a and b end in R and a' and b' begin with S, so a, a' isn't strong), and
+/// shorter. So the circles with the fewest arrows are the cycles with the fewest, each
+/// begun at its lowest class. The least of them begins with the lowest class that is on
+/// any, and every such cycle through that class has it for its lowest. Which of those
+/// cycles is the least is settled by `least_walk`, for each of the two letters by
+/// which the last arrow can arrive.
+pub fn least_circle(desk: &[u8], sheet: &[u8]) -> Option<Vec<Triple>> {
+    if unfit(desk, sheet, None).is_some() {
+        return None;
+    }
+    let drawing = Arrivals::of(desk, sheet);
+    drawing.least_cycle(drawing.peel(), desk, sheet)
+}
+
+/// The arrows that lead from one arrival to another.
+fn arrows<'a>(
+    desk: &'a [u8],
+    sheet: &'a [u8],
+    here: usize,
+    there: usize,
+) -> impl Iterator<Item = Triple> + 'a {
+    [ER, EN, SR, SN]
+        .into_iter()
+        .filter(move |&kind| ends_with_r(kind) == (there >= 64))
+        .filter(move |&kind| !(here >= 64 && begins_with_s(kind)))
+        .flat_map(|kind| [0, 1, 2].map(|source| (kind, source)))
+        .filter(move |&(kind, source)| drawn(desk, sheet, here % 64, there % 64, kind, source))
+        .map(move |(kind, source)| ((here % 64) as u8, kind, source))
+}
+
+/// Writes a circle: "Byte 0 is n, 1 to K; then n times three bytes". "Bytes past 1 + 3n
+/// stay."
+fn show(slip: &mut [u8], circle: &[Triple]) {
+    slip[0] = circle.len() as u8;
+    for (i, &(class, kind, source)) in circle.iter().enumerate() {
+        slip[1 + 3 * i..4 + 3 * i].copy_from_slice(&[class, kind, source]);
+    }
+}
+
+/// Every circle of exactly n arrows as the slip would show it, the least first, by
+/// trying all: for small drawings. Empty where desk or sheet is unfit.
+///
+/// It shares nothing with [`least_circle`] but `drawn` and the letters of the kinds.
+pub fn all_circles(desk: &[u8], sheet: &[u8], n: usize) -> Vec<Vec<Triple>> {
+    let mut all = Vec::new();
+    if unfit(desk, sheet, None).is_none() && n > 0 {
+        for first in 0..desk[0] {
+            go_round(desk, sheet, n, first, &mut Vec::new(), &mut all);
+        }
+    }
+    all.sort();
+    all
+}
+
+/// Goes on from a class, after the arrows before, to all circles of n arrows.
+fn go_round(
+    desk: &[u8],
+    sheet: &[u8],
+    n: usize,
+    class: u8,
+    before: &mut Vec<Triple>,
+    all: &mut Vec<Vec<Triple>>,
+) {
+    let first = before.first().map_or(class, |arrow| arrow.0);
+    let closing = before.len() + 1 == n;
+    for to in 0..desk[0] {
+        // "Each arrow goes to the next class, the last to the first. No class twice; the
+        // lowest class first."
+        let new = to > first && to != class && before.iter().all(|arrow| arrow.0 != to);
+        let goes_there = if closing { to == first } else { new };
+        if !goes_there {
+            continue;
+        }
+        for kind in [ER, EN, SR, SN] {
+            for source in [0, 1, 2] {
+                if !drawn(desk, sheet, usize::from(class), usize::from(to), kind, source) {
+                    continue;
+                }
+                // "no arrow ending in R is followed by one beginning with S"
+                if before.last().is_some_and(|last| ends_with_r(last.1) && begins_with_s(kind)) {
+                    continue;
+                }
+                before.push((class, kind, source));
+                if !closing {
+                    go_round(desk, sheet, n, to, before, all);
+                } else if !(ends_with_r(kind) && begins_with_s(before[0].1)) {
+                    // "strong at its closing joint too"
+                    all.push(before.clone());
+                }
+                before.pop();
+            }
+        }
     }
 }
 

@@ -102,11 +102,9 @@ fn judge(k: u8, records: &[Rec]) -> (usize, u8) {
             0 => assert_eq!(b.slip, before.slip),
             1 => {
                 assert_eq!(b.desk[1], 1);
-                assert!(true_circle(&b.desk, &b.sheet, &b.slip));
-                let used = 1 + 3 * b.slip[0] as usize;
-                assert_eq!(b.slip[used..], before.slip[used..]);
-                assert!(text.starts_with(&format!("fault at record {}\n", i + 1)));
-                assert_eq!(text.lines().count(), 1 + b.slip[0] as usize);
+                let circle = listed(&b).unwrap();
+                assert_eq!(b.slip, shown_over(&before.slip, &circle));
+                assert_eq!(text, format!("fault at record {}\n{}", i + 1, printed(&circle)));
                 b.refused(r, 10);
             }
             _ => {
@@ -121,6 +119,29 @@ fn judge(k: u8, records: &[Rec]) -> (usize, u8) {
     }
     assert_eq!(text, format!("clean, {} records\n", records.len()));
     (records.len(), 0)
+}
+
+/// The least circle, by trying all circles of one arrow, of two and so on.
+fn listed(b: &Bench) -> Option<Vec<Triple>> {
+    (1..=b.desk[0] as usize).find_map(|n| all_circles(&b.desk, &b.sheet, n).into_iter().min())
+}
+/// A slip after this circle was written into it.
+fn shown_over(slip: &[u8], circle: &[Triple]) -> Vec<u8> {
+    let mut bytes = vec![circle.len() as u8];
+    for &(class, kind, source) in circle {
+        bytes.extend([class, kind, source]);
+    }
+    bytes.extend(&slip[bytes.len()..]);
+    bytes
+}
+/// What the program prints of a circle.
+fn printed(circle: &[Triple]) -> String {
+    let to = circle.iter().cycle().skip(1);
+    let lines = circle.iter().zip(to).map(|((from, kind, source), (to, _, _))| {
+        let kind = ["", "ER", "EN", "", "SR", "", "", "", "SN"][*kind as usize];
+        format!("{from} {kind} {to} {}\n", ["hold", "hard", "soft"][*source as usize])
+    });
+    lines.collect()
 }
 
 fn assert_clean(records: &[Rec]) {
@@ -930,6 +951,7 @@ fn random_drawings_against_the_definition() {
         assert_eq!(b.sheet, before.sheet);
         if closed {
             faults += 1;
+            assert_eq!(b.slip, shown_over(&before.slip, &listed(&b).unwrap()));
             assert!(true_circle(&b.desk, &b.sheet, &b.slip));
             // No slip with one byte of the circle changed passes unless it is true too.
             let n = b.slip[0];
@@ -955,10 +977,10 @@ fn long_circles() {
             b.sheet[c * k + (c + 1) % k] = if c % 2 == 0 { ER } else { EN };
         }
         assert_eq!(b.step(&event(0, SOFT_ON)), 1);
-        assert_eq!(b.slip[0] as usize, k);
         assert!(true_circle(&b.desk, &b.sheet, &b.slip));
+        let slip: Vec<u8> = (0..k as u8).flat_map(|c| [c, [ER, EN][c as usize % 2], 0]).collect();
+        assert_eq!(b.slip, [vec![k as u8], slip].concat());
         for c in 0..k {
-            assert_eq!(b.slip[1 + 3 * c] as usize, c);
             assert_eq!(b.ask(c as u64), (0, u64::MAX >> (64 - k), k as u32));
         }
         // One weak joint undoes it.
@@ -998,6 +1020,721 @@ fn false_circles() {
     let mut slip = vec![0; 25];
     slip[..4].copy_from_slice(&[1, 0, SR, 0]);
     assert!(!true_circle(&b.desk, &b.sheet, &slip));
+}
+
+// ---------------------------------------------------------- the circle shown
+
+/// A hand-made bench: hold arrows (from, sum of kinds, to) and marks (class, bits).
+fn made(k: usize, holds: &[(usize, u8, usize)], marks: &[(usize, u8)]) -> Bench {
+    let mut b = Bench::new(k);
+    for &(from, kinds, to) in holds {
+        b.sheet[from * k + to] |= kinds;
+    }
+    for &(class, bits) in marks {
+        b.desk[MARKS + class] |= bits;
+    }
+    assert_eq!(b.unfit(), None);
+    b
+}
+
+/// This circle is shown where this drawing stands on an open desk without holds, by
+/// function, step and feed, whatever record (that draws nothing) comes.
+fn assert_shows(b: &Bench, circle: &[Triple]) {
+    assert_eq!(least_circle(&b.desk, &b.sheet).as_deref(), Some(circle));
+    assert!(closed_strong_path(&b.desk, &b.sheet));
+    for core in 0..8 {
+        for kind in [HARD_ON, HARD_OFF, SOFT_ON, SOFT_OFF, ENTER_SOFT, ENTER_HARD] {
+            let r = event(core, kind);
+            let mut after = b.clone();
+            assert_eq!(after.step(&r), 1);
+            assert_eq!(after.slip, shown_over(&b.slip, circle));
+            assert_eq!(after.sheet, b.sheet);
+            assert_eq!(after.desk[MARKS..HOLDS], b.desk[MARKS..HOLDS]);
+            assert!(true_circle(&after.desk, &after.sheet, &after.slip));
+            after.refused(&r, 10);
+            assert_eq!(least_circle(&after.desk, &after.sheet).as_deref(), Some(circle));
+            let mut fed = Fed::lying(0, 1, 0, [0; 5], 41, b.clone());
+            assert_eq!(fed.feed(&r[..core as usize % 6]), (0, 41));
+            assert_eq!(fed.feed(&[&r[core as usize % 6..], &[0x4C]].concat()), (1, 42));
+            assert_eq!(fed.b, after);
+        }
+    }
+}
+
+/// The same for small drawings, where all circles can be listed too.
+fn assert_least(k: usize, holds: &[(usize, u8, usize)], marks: &[(usize, u8)], circle: &[Triple]) {
+    let b = made(k, holds, marks);
+    assert_shows(&b, circle);
+    assert_eq!(listed(&b).as_deref(), Some(circle));
+}
+
+#[test]
+fn circles_of_the_logs() {
+    // As the rules give them, by hand. P4, P6 are clean, P1 too.
+    let task = |core, a, ma, b, mb| [take(core, a, ma), take(core, b, mb)];
+    let p9 = [take(0, 0, E), take(0, 1, R), take(0, 2, E), take(1, 2, E), take(1, 0, E)];
+    for (name, records, lines) in [
+        ("P2", p2_records().to_vec(), "1 EN 2 hold\n2 EN 1 hold\n"),
+        ("P3", [task(0, 0, R, 1, E), task(1, 1, R, 0, E)].concat(), "0 SN 1 hold\n1 SN 0 hold\n"),
+        ("P5", [task(0, 0, E, 1, R), task(1, 1, E, 0, R)].concat(), "0 ER 1 hold\n1 ER 0 hold\n"),
+        ("P7", task(0, 0, R, 0, NR).to_vec(), "0 SN 0 hold\n"),
+        ("P8", task(0, 0, E, 0, R).to_vec(), "0 ER 0 hold\n"),
+        ("P9", p9.to_vec(), "0 EN 2 hold\n2 EN 0 hold\n"),
+        ("P10", vec![take(0, 3, E), release(0, 3), event(0, ENTER_HARD), take(0, 3, E)], "3 EN 3 hard\n"),
+        ("P12", vec![take(0, 6, E), release(0, 6), event(0, ENTER_SOFT), take(0, 6, E)], "6 EN 6 soft\n"),
+    ] {
+        let text = program(&log(8, &records));
+        assert_eq!(text, format!("fault at record {}\n{lines}", records.len()), "{name}");
+    }
+    // P2's slip, and the bytes past it.
+    let mut b = Bench::new(3);
+    assert_eq!(p2_records().map(|r| b.step(&r)), [0, 0, 0, 0, 0, 1]);
+    assert_eq!(b.slip, [2, 1, 2, 0, 2, 2, 0, 0xA5, 0xA5, 0xA5]);
+    assert_eq!(least_circle(&b.desk, &b.sheet), Some(vec![(1, 2, 0), (2, 2, 0)]));
+    // One record closes several circles: 2 EN 1 and 2 EN 0 first, then 1 EN 0, and with
+    // the last record 1 EN 2 and 0 EN 2.
+    let several = [
+        take(1, 2, E), take(1, 1, E), release(1, 1), take(1, 0, E), release(1, 0), release(1, 2), //
+        take(0, 1, E), take(0, 0, E), take(0, 2, E),
+    ];
+    assert_fault(&several);
+    assert_eq!(program(&log(8, &several)), "fault at record 9\n0 EN 2 hold\n2 EN 0 hold\n");
+    // The same with the last take a recursive read, or a read of 2 on core 1: 0 ER 2
+    // goes on by 2 EN 0, but not by 2 SN 0.
+    let with = |at: usize, r: Rec| {
+        let mut records = several;
+        records[at] = r;
+        records
+    };
+    let text = program(&log(8, &with(8, take(0, 2, R))));
+    assert_eq!(text, "fault at record 9\n0 ER 2 hold\n2 EN 0 hold\n");
+    let text = program(&log(8, &with(0, take(1, 2, NR))));
+    assert_eq!(text, "fault at record 9\n0 EN 2 hold\n2 SN 0 hold\n");
+    let mut both = with(0, take(1, 2, NR));
+    both[8] = take(0, 2, R);
+    assert_clean(&both);
+    // A hard handler's 3E, then in the task 3 and 5 with hard off, 5 and 3 with hard on,
+    // where 5 EN 3 is drawn and 5 marked unsafe at once: the closing record draws 3
+    // unsafe as well, so that one arrow is enough.
+    let marks_too = [
+        event(0, ENTER_HARD), take(0, 3, E), release(0, 3), event(0, EXIT_HARD), event(0, HARD_OFF), //
+        take(0, 3, E), take(0, 5, E), event(0, HARD_ON),
+    ];
+    assert_eq!(program(&log(8, &marks_too)), "fault at record 8\n3 EN 3 hard\n");
+    // With 3 released before hard on, only 5 is unsafe: 3 EN 5 hold, 5 EN 3 hard.
+    let mut without = marks_too.to_vec();
+    without.insert(7, release(0, 3));
+    assert_eq!(program(&log(8, &without)), "fault at record 9\n3 EN 5 hold\n5 EN 3 hard\n");
+}
+
+#[test]
+fn whichever_record_closed_it() {
+    // Three cores draw 0 EN 1, 1 EN 2, 2 EN 0 in all orders.
+    let parts = [0u8, 1, 2].map(|c| [take(c, c, E), take(c, (c + 1) % 3, E)]);
+    for order in [[0, 1, 2], [0, 2, 1], [1, 0, 2], [1, 2, 0], [2, 0, 1], [2, 1, 0]] {
+        let records = order.map(|i: usize| parts[i]).concat();
+        assert_fault(&records);
+        assert_eq!(program(&log(3, &records)), "fault at record 6\n0 EN 1 hold\n1 EN 2 hold\n2 EN 0 hold\n");
+    }
+    // A circle stands on an open desk, and the record closes another.
+    let standing = made(8, &[(1, EN, 2), (2, EN, 1), (6, EN, 5), (3, EN, 0), (0, EN, 4)], &[]);
+    let after = |held: u8, taken: u8| {
+        let mut b = standing.clone();
+        b.desk[DEPTHS + 9] = 1; // core 3's task
+        b.desk[HOLDS + 9 * 20] = held;
+        assert_eq!(b.unfit(), None);
+        assert_eq!(b.step(&take(3, taken, E)), 1);
+        assert_eq!(b.slip, shown_over(&standing.slip, &listed(&b).unwrap()));
+        b.slip[..1 + 3 * b.slip[0] as usize].to_vec()
+    };
+    // 5 EN 6 closes a circle with a higher class first, 4 EN 3 a longer one, 0 EN 3 one
+    // with a lower class, 7 EN 7 a shorter one.
+    assert_eq!(after(5, 6), [2, 1, EN, 0, 2, EN, 0]);
+    assert_eq!(after(4, 3), [2, 1, EN, 0, 2, EN, 0]);
+    assert_eq!(after(0, 3), [2, 0, EN, 0, 3, EN, 0]);
+    assert_eq!(after(7, 7), [1, 7, EN, 0]);
+    // A circle that was closed by the record's own arrow, and a lesser kind seen there.
+    assert_eq!(after(128 + 1, 2), [2, 1, EN, 0, 2, EN, 0]); // 1 SN 2 too
+}
+
+#[test]
+fn kind_and_source_before_the_next_class() {
+    // "0 ER 2" is before "0 EN 1".
+    let two = [(0, EN, 1), (1, EN, 0), (0, ER, 2), (2, EN, 0)];
+    assert_least(3, &two, &[], &[(0, ER, 0), (2, EN, 0)]);
+    // With one kind, the lower class; with ER to both, too.
+    assert_least(3, &[(0, EN, 1), (1, EN, 0), (0, EN, 2), (2, ER, 0)], &[], &[(0, EN, 0), (1, EN, 0)]);
+    let both = [two[0], two[1], two[2], two[3], (0, ER, 1)];
+    assert_least(3, &both, &[], &[(0, ER, 0), (1, EN, 0)]);
+    // "0 EN 2 hold" is before "0 EN 1 hard": 0 is hard-unsafe E, 1 hard-safe N.
+    let hold = [(1, EN, 0), (0, EN, 2), (2, EN, 0)];
+    assert_least(3, &hold, &[(0, 4), (1, 1)], &[(0, EN, 0), (2, EN, 0)]);
+    // Also where the second circle is worse in all that follows.
+    assert_least(3, &[(1, ER, 0), (0, EN, 2), (2, EN, 0)], &[(0, 4), (1, 1)], &[(0, EN, 0), (2, EN, 0)]);
+    // "0 EN 2 hard" before "0 EN 1 soft", and "0 EN 1 hard" before "0 EN 2 soft".
+    let back = [(1, EN, 0), (2, EN, 0)];
+    assert_least(3, &back, &[(0, 4 + 64), (1, 16), (2, 1)], &[(0, EN, 1), (2, EN, 0)]);
+    assert_least(3, &back, &[(0, 4 + 64), (1, 1), (2, 16)], &[(0, EN, 1), (1, EN, 0)]);
+    // In the middle of a circle: 1 ER 3 before 1 EN 2, but 0 EN 1 before either.
+    let middle = [(0, EN, 1), (0, EN, 4), (1, EN, 2), (1, ER, 3), (4, ER, 2), (2, EN, 0), (3, EN, 0)];
+    assert_least(5, &middle, &[], &[(0, EN, 0), (1, ER, 0), (3, EN, 0)]);
+    // 0 ER 4 comes before all of these.
+    let first = [&middle[..], &[(0, ER, 4)]].concat();
+    assert_least(5, &first, &[], &[(0, ER, 0), (4, ER, 0), (2, EN, 0)]);
+    // The class is compared before the kinds that follow it: 0 EN 1 SN 0, 0 EN 2 ER 0.
+    assert_least(3, &[(0, EN, 1), (1, SN, 0), (0, EN, 2), (2, ER, 0)], &[], &[(0, EN, 0), (1, SN, 0)]);
+}
+
+#[test]
+fn kinds_before_sources() {
+    // An interrupt ER is before a hold EN on the same pair, hard before soft.
+    let holds = [(0, EN, 1), (1, EN, 0)];
+    assert_least(2, &holds, &[(0, 4), (1, 2)], &[(0, ER, 1), (1, EN, 0)]);
+    assert_least(2, &holds, &[(0, 4 + 64), (1, 32)], &[(0, ER, 2), (1, EN, 0)]);
+    assert_least(2, &holds, &[(0, 4 + 64), (1, 2 + 32)], &[(0, ER, 1), (1, EN, 0)]);
+    // Level by level: 0 is hard-unsafe alone, so there is no soft arrow.
+    assert_least(2, &holds, &[(0, 4), (1, 32)], &[(0, EN, 0), (1, EN, 0)]);
+    // A soft ER before a hard EN, a hard EN before a hold SN, a hold before a hard one.
+    assert_least(2, &[(1, EN, 0)], &[(0, 4 + 64), (1, 1 + 32)], &[(0, ER, 2), (1, EN, 0)]);
+    assert_least(2, &[(0, SN, 1), (1, EN, 0)], &[(0, 4), (1, 1)], &[(0, EN, 1), (1, EN, 0)]);
+    assert_least(2, &[(0, ER, 1), (1, EN, 0)], &[(0, 4), (1, 2)], &[(0, ER, 0), (1, EN, 0)]);
+    // All kinds in their order 1, 2, 4, 8.
+    for (kinds, least) in [(15, ER), (14, EN), (12, SR), (8, SN), (9, ER), (10, EN), (6, EN)] {
+        assert_least(2, &[(0, kinds, 1), (1, EN, 0)], &[], &[(0, least, 0), (1, EN, 0)]);
+        assert_least(2, &[(0, EN, 1), (1, kinds, 0)], &[], &[(0, EN, 0), (1, least, 0)]);
+    }
+    // One class: hold, hard, soft; ER, EN, SN, and SR never.
+    assert_least(1, &[(0, SN, 0)], &[(0, 8 + 1)], &[(0, SN, 0)]);
+    assert_least(1, &[(0, SR, 0)], &[(0, 8 + 1)], &[(0, SN, 1)]);
+    assert_least(1, &[(0, SN, 0)], &[(0, 4 + 1)], &[(0, EN, 1)]);
+    assert_least(1, &[(0, EN, 0)], &[(0, 4 + 64 + 32)], &[(0, ER, 2)]);
+    assert_least(1, &[], &[(0, 255)], &[(0, ER, 1)]);
+    assert_least(1, &[(0, 15, 0)], &[(0, 255)], &[(0, ER, 0)]);
+}
+
+#[test]
+fn the_least_kind_must_leave_a_circle() {
+    // The next joint: after 0 ER 1 no SN.
+    assert_least(2, &[(0, ER | EN, 1), (1, SN, 0)], &[], &[(0, EN, 0), (1, SN, 0)]);
+    assert_least(2, &[(0, ER | EN, 1), (1, SR, 0)], &[], &[(0, EN, 0), (1, SR, 0)]);
+    // The closing joint: after 1 ER 0 no S.
+    assert_least(2, &[(0, SR | SN, 1), (1, ER | EN, 0)], &[], &[(0, SR, 0), (1, EN, 0)]);
+    assert_least(2, &[(0, SN, 1), (1, SR | SN, 0)], &[], &[(0, SN, 0), (1, SN, 0)]);
+    // Both: 0 SR 1 would need 1 E. 0, 1 SR 0 would need 0 E. 1.
+    assert_least(2, &[(0, SR | SN, 1), (1, ER | SN, 0)], &[], &[(0, SN, 0), (1, SN, 0)]);
+    // A lesser kind by an interrupt is barred as well, and a hard EN is what is left.
+    assert_least(2, &[(1, SN, 0)], &[(0, 4), (1, 1 + 2)], &[(0, EN, 1), (1, SN, 0)]);
+    // A joint further on: 1 S. 2 bars 0 ER 1, and 2 SN 0 bars 1 SR 2.
+    let ring = [(0, ER | EN, 1), (1, SR | SN, 2), (2, SN, 0)];
+    assert_least(3, &ring, &[], &[(0, EN, 0), (1, SN, 0), (2, SN, 0)]);
+    // The same pair's ER is barred, another pair's isn't.
+    let other = [(0, ER | EN, 1), (1, SN, 0), (0, ER, 2), (2, EN, 0)];
+    assert_least(3, &other, &[], &[(0, ER, 0), (2, EN, 0)]);
+    // ER leaves a circle, but a longer one: 0 ER 1 EN 2 EN 0 and 0 EN 2 EN 0.
+    let longer = [(0, ER, 1), (1, EN, 2), (0, EN, 2), (2, EN, 0)];
+    assert_least(3, &longer, &[], &[(0, EN, 0), (2, EN, 0)]);
+    // 0 ER leads to 1 and to 2, and only 2 goes on after R.
+    let after_r = [(0, ER, 1), (1, SN, 0), (0, ER, 2), (2, EN, 0)];
+    assert_least(3, &after_r, &[], &[(0, ER, 0), (2, EN, 0)]);
+    // 0 S. 1 at the closing joint: 0 SN 1 ER 2 ER 0 isn't strong there, 2 EN 0 is missing,
+    // and of 0 EN 3 EN 2 ER 0 each kind is the least there is.
+    let closing = [(0, SN, 1), (1, ER, 2), (2, ER, 0), (0, EN, 3), (3, EN, 2)];
+    assert_least(4, &closing, &[], &[(0, EN, 0), (3, EN, 0), (2, ER, 0)]);
+    // First letter S, all the rest E: only the last arrow is held to it.
+    let rest = [(0, 12, 1), (1, 3, 2), (2, 3, 3), (3, 3, 0)];
+    assert_least(4, &rest, &[], &[(0, SR, 0), (1, ER, 0), (2, ER, 0), (3, EN, 0)]);
+    // The closing joint decides a class in the middle: 2 ER 0 alone, 3 EN 0 too.
+    let which = [(0, SN, 1), (1, EN, 2), (1, EN, 3), (2, ER, 0), (3, ER | EN, 0)];
+    assert_least(4, &which, &[], &[(0, SN, 0), (1, EN, 0), (3, EN, 0)]);
+}
+
+#[test]
+fn fewest_arrows_first() {
+    // 3, 4 before 0, 2, 3.
+    let holds = [(0, EN, 2), (2, EN, 3), (3, EN, 0), (3, EN, 4), (4, EN, 3)];
+    assert_least(5, &holds, &[], &[(3, EN, 0), (4, EN, 0)]);
+    // Kinds don't count against length.
+    let kinds = [(0, ER, 2), (2, ER, 3), (3, ER, 0), (3, SN, 4), (4, SN, 3)];
+    assert_least(5, &kinds, &[], &[(3, SN, 0), (4, SN, 0)]);
+    // One soft arrow at the highest class before two holds at the lowest.
+    assert_least(8, &[(0, ER, 1), (1, ER, 0)], &[(7, 8 + 128 + 16)], &[(7, SN, 2)]);
+    // Not the lowest class of all circles, but of all with the fewest: 1, 2 and not 0.
+    let lowest = [(0, ER, 1), (1, EN, 2), (2, EN, 1), (2, EN, 0), (3, ER, 4), (4, ER, 3)];
+    assert_least(5, &lowest, &[], &[(1, EN, 0), (2, EN, 0)]);
+    // 0 leads to the circle without being on it.
+    assert_least(4, &[(0, ER, 1), (1, EN, 3), (3, EN, 1), (3, ER, 2)], &[], &[(1, EN, 0), (3, EN, 0)]);
+    // A class on two circles of that length, neither begun by it: 3, 0 and 3, 1.
+    assert_least(4, &[(3, ER, 1), (1, ER, 3), (3, EN, 0), (0, EN, 3)], &[], &[(0, EN, 0), (3, EN, 0)]);
+    // The lowest class first, though the last arrow is the least of all.
+    assert_least(6, &[(5, ER, 2), (2, EN, 4), (4, EN, 5)], &[], &[(2, EN, 0), (4, EN, 0), (5, ER, 0)]);
+}
+
+#[test]
+fn the_shortest_through_a_class_may_pass_another_twice() {
+    // 0 ER 1 SN 0 isn't strong; 0 ER 1 EN 2 EN 1 SN 0 is, and passes 1 twice. What is
+    // shown is the circle in it.
+    let holds = [(0, ER, 1), (1, EN, 2), (2, EN, 1), (1, SN, 0)];
+    assert_least(3, &holds, &[], &[(1, EN, 0), (2, EN, 0)]);
+    let b = made(3, &holds, &[]);
+    assert_eq!([1, 2, 3].map(|n| all_circles(&b.desk, &b.sheet, n).len()), [0, 1, 0]);
+    // The detour a circle of one arrow: 0 ER 1 ER 1 isn't of use, 1 EN 1 is.
+    let own = [(0, ER, 1), (1, EN, 1), (1, SN, 0)];
+    assert_least(2, &own, &[], &[(1, EN, 0)]);
+    let none = made(2, &[(0, ER, 1), (1, SR, 1), (1, SN, 0)], &[]);
+    assert_eq!(least_circle(&none.desk, &none.sheet), None);
+    // The detour as long as another circle further up: 3 is the fewest, and 1 begins.
+    let tie = [(0, ER, 1), (1, EN, 2), (2, EN, 3), (3, EN, 1), (1, SN, 0), (4, ER, 5), (5, ER, 6), (6, ER, 4)];
+    assert_least(7, &tie, &[], &[(1, EN, 0), (2, EN, 0), (3, EN, 0)]);
+    // The detour by a lower class: 0 ER 2 EN 1 EN 2 SN 3 EN 0.
+    let twice = [(0, ER, 2), (2, EN, 1), (1, EN, 2), (2, SN, 3), (3, EN, 0)];
+    assert_least(4, &twice, &[], &[(1, EN, 0), (2, EN, 0)]);
+}
+
+#[test]
+fn parents_of_a_search_are_not_enough() {
+    // 3 is found from 1 first; the least comes from 2.
+    let diamond = [(0, EN, 1), (0, ER, 2), (1, EN, 3), (2, EN, 3), (3, EN, 0)];
+    assert_least(4, &diamond, &[], &[(0, ER, 0), (2, EN, 0), (3, EN, 0)]);
+    // 3 is found from 2 last; the least comes from 1.
+    let plain = [(0, EN, 1), (0, EN, 2), (1, EN, 3), (2, ER, 3), (3, EN, 0)];
+    assert_least(4, &plain, &[], &[(0, EN, 0), (1, EN, 0), (3, EN, 0)]);
+    // 4 by R comes from 2 alone, 4 by N from 1 alone; what follows 4 decides.
+    let letters = [(0, EN, 1), (0, EN, 2), (1, EN, 4), (2, ER, 4), (4, SN, 0)];
+    assert_least(5, &letters, &[], &[(0, EN, 0), (1, EN, 0), (4, SN, 0)]);
+    let other = [(0, EN, 1), (0, EN, 2), (1, ER, 4), (2, EN, 4), (4, SN, 0)];
+    assert_least(5, &other, &[], &[(0, EN, 0), (2, EN, 0), (4, SN, 0)]);
+    // The better way to 5 is found one step before it could be told: 0 EN 3 ER 5 and
+    // 0 EN 2 EN 5, where 2 is before 3 but 0 ER 3 before 0 EN 2.
+    let late = [(0, EN, 2), (0, EN | ER, 3), (2, ER, 5), (3, EN, 5), (5, EN, 0)];
+    assert_least(6, &late, &[], &[(0, ER, 0), (3, EN, 0), (5, EN, 0)]);
+    // The way back: from 5 the search comes to 0 by ER, but 0 SN 1 wants N.
+    let back = [(0, SN, 1), (1, ER, 4), (1, EN, 5), (4, ER, 0), (5, EN, 0)];
+    assert_least(6, &back, &[], &[(0, SN, 0), (1, EN, 0), (5, EN, 0)]);
+}
+
+#[test]
+fn rings() {
+    // One ring through all classes, in the order of c * step: every kind everywhere but
+    // one place, where only SN is. All are ER but that one, and the one before it, EN.
+    for k in 1..=64usize {
+        let steps: &[usize] = if k == 64 { &[1, 5, 27, 63] } else { &[1, k.max(2) - 1] };
+        for &step in steps {
+            let class = |place: usize| place * step % k;
+            let places = if k < 8 || k == 64 { 0..k } else { k / 2 - 1..k / 2 + 1 };
+            for only in places {
+                let holds: Vec<_> =
+                    (0..k).map(|p| (class(p), if p == only { SN } else { 15 }, class(p + 1))).collect();
+                let circle: Vec<Triple> = (0..k)
+                    .map(|p| {
+                        let kind = if p == only {
+                            SN
+                        } else if (p + 1) % k == only {
+                            EN
+                        } else {
+                            ER
+                        };
+                        (class(p) as u8, kind, 0)
+                    })
+                    .collect();
+                let mut b = made(k, &holds, &[]);
+                assert_eq!(least_circle(&b.desk, &b.sheet), Some(circle.clone()));
+                let slip = b.slip.clone();
+                assert_eq!(b.step(&event(7, SOFT_OFF)), 1);
+                assert_eq!(b.slip, shown_over(&slip, &circle));
+                // SR there instead: the one before it must still be EN, and the one
+                // after it has an E.
+                let other = |kind| if kind == SN { SR } else { kind };
+                let holds: Vec<_> = holds.into_iter().map(|(a, m, c)| (a, other(m), c)).collect();
+                let circle: Vec<Triple> = circle.into_iter().map(|(c, m, s)| (c, other(m), s)).collect();
+                let b = made(k, &holds, &[]);
+                assert_eq!(least_circle(&b.desk, &b.sheet), (k > 1).then_some(circle));
+            }
+        }
+    }
+    // 32 holds and 32 interrupts can't make a ring of 64, as every unsafe class goes to
+    // every safe one; but one interrupt arrow can close it.
+    for (marks, last) in [([4, 2], (63, ER, 1)), ([4 + 64, 16], (63, EN, 2)), ([8, 1 + 2], (63, SR, 1))] {
+        let holds: Vec<_> = (0..63).map(|c| (c, EN, c + 1)).collect();
+        let b = made(64, &holds, &[(63, marks[0]), (0, marks[1])]);
+        let mut circle: Vec<Triple> = (0..63).map(|c| (c, EN, 0)).collect();
+        circle.push(last);
+        assert_shows(&b, &circle);
+    }
+    // Two rings of 32: the one with the lowest class, though the other has lesser kinds.
+    let holds: Vec<_> = (0..64).map(|c| (c, if c % 2 == 0 { SN } else { ER }, (c + 2) % 64)).collect();
+    assert_shows(&made(64, &holds, &[]), &(0..32).map(|c| (2 * c, SN, 0)).collect::<Vec<_>>());
+}
+
+#[test]
+fn two_to_the_thirtieth_circles() {
+    // 0, then thirty places with two classes each, 1 and 2, 3 and 4 .. 59 and 60, then 61.
+    let layers = |low: u8, high: u8, first: [u8; 2], last: [u8; 2], closing: u8| {
+        let mut holds = vec![(0, first[0], 1), (0, first[1], 2), (61, closing, 0)];
+        for place in 1..30 {
+            let (a, b) = (2 * place - 1, 2 * place);
+            for from in [a, b] {
+                holds.extend([(from, low, a + 2), (from, high, b + 2)]);
+            }
+        }
+        holds.extend([(59, last[0], 61), (60, last[1], 61)]);
+        made(64, &holds, &[])
+    };
+    let circle = |classes: &dyn Fn(u8) -> u8, kinds: &dyn Fn(u8) -> u8| -> Vec<Triple> {
+        (0..32).map(|i| (if i == 0 { 0 } else if i == 31 { 61 } else { classes(i) }, kinds(i), 0)).collect()
+    };
+    // All alike: the lower of each two.
+    let b = layers(EN, EN, [EN, EN], [EN, EN], EN);
+    assert_shows(&b, &circle(&|i| 2 * i - 1, &|_| EN));
+    // ER to the higher of each two.
+    let b = layers(EN, ER, [EN, ER], [EN, EN], EN);
+    assert_shows(&b, &circle(&|i| 2 * i, &|i| if i < 30 { ER } else { EN }));
+    // But from the last two only SN goes on: the last but one must arrive by N.
+    let b = layers(EN, ER, [EN, ER], [SN, SN], EN);
+    let kinds = |i| [EN, SN, EN, ER][if i < 29 { 3 } else { i as usize - 29 }];
+    assert_shows(&b, &circle(&|i| if i < 30 { 2 * i } else { 59 }, &kinds));
+    // From 60 alone nothing goes on, so 59 it is, by EN.
+    let b = layers(EN, ER, [EN, ER], [EN, 0], EN);
+    let kinds = |i| if i < 29 { ER } else { EN };
+    assert_shows(&b, &circle(&|i| if i < 30 { 2 * i } else { 59 }, &kinds));
+    // 0 begins with S: SR to the higher, and the closing arrow can't be ER.
+    let b = layers(EN, ER, [SN, SR], [ER, ER], ER | EN);
+    let kinds = |i| [SR, ER, EN][usize::from(i > 0) + usize::from(i == 31)];
+    assert_shows(&b, &circle(&|i| 2 * i, &kinds));
+    // And the closing arrow from 61 must then arrive by N at all.
+    let b = layers(EN, ER, [SN, SR], [ER, ER], ER);
+    assert_eq!(least_circle(&b.desk, &b.sheet), None);
+    // Four kinds and two classes at each of 32 places, the last to the first: 0 to 31.
+    let mut holds = Vec::new();
+    for from in 0..64 {
+        let to = (from + 1) % 32;
+        holds.extend([(from, 15, to), (from, 15, to + 32)]);
+    }
+    assert_shows(&made(64, &holds, &[]), &(0..32).map(|c| (c, ER, 0)).collect::<Vec<_>>());
+    // With only ER from the lower to the higher and S otherwise: 0 ER 33 must go on by E,
+    // but from 33 on there is only S; so 0 SN 1 SN 2 and so on.
+    let holds: Vec<_> = (0..64)
+        .flat_map(|from| {
+            let to = (from + 1) % 32;
+            [(from, SR | SN, to), (from, if from < 32 { ER } else { SR }, to + 32)]
+        })
+        .collect();
+    assert_shows(&made(64, &holds, &[]), &(0..32).map(|c| (c, SN, 0)).collect::<Vec<_>>());
+}
+
+/// Every slip of n arrows that the checker passes.
+fn true_slips(b: &Bench, n: usize) -> Vec<Vec<Triple>> {
+    let mut lists = vec![vec![]];
+    for _ in 0..n {
+        let mut longer = Vec::new();
+        for list in lists {
+            for class in 0..b.desk[0] {
+                for kind in [1, 2, 4, 8] {
+                    longer.extend((0..3).map(|source| [&list[..], &[(class, kind, source)]].concat()));
+                }
+            }
+        }
+        lists = longer;
+    }
+    lists.retain(|list: &Vec<Triple>| true_circle(&b.desk, &b.sheet, &shown_over(&b.slip, list)));
+    lists
+}
+
+/// Marks that may stand on a fit desk.
+fn fit_marks() -> Vec<u8> {
+    let marks = (0..=255u8).filter(|m| (m & 64 == 0 || m & 4 != 0) && (m & 128 == 0 || m & 8 != 0));
+    let marks: Vec<u8> = marks.collect();
+    assert_eq!(marks.len(), 144);
+    marks
+}
+
+#[test]
+fn one_class_all_drawings() {
+    let mut seen = std::collections::BTreeSet::new();
+    for m in fit_marks() {
+        for kinds in 0..16 {
+            let mut b = made(1, &[(0, kinds, 0)], &[(0, m)]);
+            // Kinds in the order ER, EN, SN, and each by hold, hard, soft.
+            let bit = |byte: u8, bits: u8| byte & bits == bits;
+            let candidates = [
+                (bit(kinds, 1), 1, 0), (bit(m, 4 + 2), 1, 1), (bit(m, 64 + 32), 1, 2), //
+                (bit(kinds, 2), 2, 0), (bit(m, 4 + 1), 2, 1), (bit(m, 64 + 16), 2, 2), //
+                (bit(kinds, 8), 8, 0), (bit(m, 8 + 1), 8, 1), (bit(m, 128 + 16), 8, 2),
+            ];
+            let circle = candidates.into_iter().find(|c| c.0).map(|c| vec![(0, c.1, c.2)]);
+            assert_eq!(least_circle(&b.desk, &b.sheet), circle);
+            assert_eq!(listed(&b), circle);
+            assert_eq!(true_slips(&b, 1), all_circles(&b.desk, &b.sheet, 1));
+            let slip = b.slip.clone();
+            assert_eq!(b.step(&event(2, ENTER_SOFT)), u8::from(circle.is_some()));
+            assert_eq!(b.slip, circle.as_ref().map_or(slip.clone(), |c| shown_over(&slip, c)));
+            seen.insert(circle);
+        }
+    }
+    assert_eq!(seen.len(), 10); // each of the nine, and none
+}
+
+#[test]
+fn two_classes_all_sheets_and_all_marks() {
+    let check = |sheet: [u8; 4], marks: [u8; 2], slips: bool| {
+        let mut b = Bench::new(2);
+        b.sheet.copy_from_slice(&sheet);
+        b.desk[MARKS..MARKS + 2].copy_from_slice(&marks);
+        let circle = least_circle(&b.desk, &b.sheet);
+        assert_eq!(circle, listed(&b), "{sheet:?} {marks:?}");
+        assert_eq!(circle.is_some(), closed_strong_path(&b.desk, &b.sheet));
+        if slips {
+            for n in 1..=2 {
+                assert_eq!(true_slips(&b, n), all_circles(&b.desk, &b.sheet, n));
+            }
+        }
+        circle.map_or(0, |c| c.len())
+    };
+    let mut dice = Dice(0x2B0B_5EED_0C1C_1E55);
+    let mut lengths = [0; 3];
+    let marks = fit_marks();
+    for code in 0..1u32 << 16 {
+        let sheet = [code, code >> 4, code >> 8, code >> 12].map(|b| (b & 15) as u8);
+        lengths[check(sheet, [0, 0], code % 64 == 0)] += 1;
+    }
+    // No arrow to itself but SR, and one class safe and the other unsafe only, so that one
+    // arrow isn't enough.
+    for safe in marks.iter().filter(|&m| m & 0xCC == 0) {
+        for unsafe_ in marks.iter().filter(|&m| m & 0x33 == 0) {
+            for code in 0..1u32 << 10 {
+                let itself = [code >> 8 & 1, code >> 9].map(|bit| SR * bit as u8);
+                let sheet = [itself[0], (code & 15) as u8, (code >> 4 & 15) as u8, itself[1]];
+                lengths[check(sheet, [*safe, *unsafe_], code % 512 == 0)] += 1;
+                lengths[check(sheet, [*unsafe_, *safe], code % 512 == 1)] += 1;
+            }
+        }
+    }
+    for a in &marks {
+        for b in &marks {
+            let mut sheet = [0; 4].map(|_: u8| (dice.under(16) & dice.under(16)) as u8);
+            sheet[0] &= SR;
+            sheet[3] &= SR;
+            lengths[check(sheet, [*a, *b], dice.under(64) == 0)] += 1;
+            lengths[check([0, sheet[1], 0, 0], [*a, *b], false)] += 1;
+        }
+    }
+    assert!(lengths.iter().all(|&many| many > 10_000), "{lengths:?}");
+}
+
+#[test]
+fn three_classes_and_true_slips() {
+    // All slips of three arrows, and those the checker passes.
+    let mut dice = Dice(0x0003_3333_C1A5_5E50);
+    let mut three = 0;
+    for round in 0..60 {
+        let mut b = Bench::new(3);
+        for (i, byte) in b.sheet.iter_mut().enumerate() {
+            let forward = [1, 5, 6].contains(&i);
+            *byte = dice.under(16) as u8 & if forward { 15 } else { [SR, 0][round % 2] };
+        }
+        if round % 3 == 0 {
+            b.desk[MARKS] = [8, 4 + 64, 4][round / 3 % 3];
+            b.desk[MARKS + 1] = [1 + 2, 32, 1][round / 3 % 3];
+        }
+        for n in 1..=3 {
+            let all = true_slips(&b, n);
+            assert_eq!(all, all_circles(&b.desk, &b.sheet, n));
+            three += usize::from(n == 3 && all.len() > 1 && least_circle(&b.desk, &b.sheet) == Some(all[0].clone()));
+        }
+        assert_eq!(least_circle(&b.desk, &b.sheet), listed(&b));
+    }
+    assert!(three > 20, "{three}");
+    let b = made(3, &[(0, 15, 1), (1, 15, 2), (2, 15, 0)], &[]);
+    assert!(all_circles(&b.desk, &b.sheet, 0).is_empty());
+    assert!(all_circles(&b.desk, &b.sheet, 4).is_empty());
+    // At each of n joints the letters before and after are free but for one of the four
+    // pairs: 3 to the n.
+    assert_eq!(all_circles(&b.desk, &b.sheet, 3).len(), 27);
+    let b = made(4, &[(0, 15, 1), (1, 15, 2), (2, 15, 3), (3, 15, 0), (1, 15, 0)], &[]);
+    assert_eq!([1, 2, 3, 4, 5].map(|n| all_circles(&b.desk, &b.sheet, n).len()), [0, 9, 0, 81, 0]);
+}
+
+/// A drawing with its classes, in any order, at so many places, and arrows from each place
+/// to the next. A wild one has gaps and other arrows too; in a tame one most circles are
+/// as long as there are places, and others lead only to or from classes that stand aside.
+fn drawing_of_places(dice: &mut Dice, k: usize, places: usize, wild: bool) -> Bench {
+    let mut b = Bench::new(k);
+    let aside = places;
+    let mut place: Vec<usize> =
+        (0..k).map(|c| if c < places { c } else { dice.under(places as u64 + 1) as usize }).collect();
+    for i in (1..k).rev() {
+        place.swap(i, dice.under(i as u64 + 1) as usize);
+    }
+    let thin = dice.under(3);
+    for from in 0..k {
+        for to in 0..k {
+            let (here, there) = (place[from], place[to]);
+            let next = here != aside && (here + 1) % places == there;
+            b.sheet[from * k + to] = match (next, wild) {
+                (true, true) if thin > 0 && dice.under(4) == 0 => 0,
+                (true, true) => match dice.under(5) {
+                    0 => EN,
+                    1 => (dice.under(16) & dice.under(16)) as u8,
+                    2 => [ER, EN, ER | EN, SN][dice.under(4) as usize],
+                    _ => [SN, EN, SR, SR | SN][dice.under(4) as usize],
+                },
+                (true, false) if dice.under(places as u64) == 0 => [SN, SR | SN, ER, SR][dice.under(4) as usize],
+                (true, false) => [EN, EN | ER, EN | SN, EN | SR, 14, 15][dice.under(6) as usize],
+                (false, true) if dice.under(if k > 8 { 60 } else { 10 }) == 0 => {
+                    [SR, SR, ER, SR | SN, EN][dice.under(5 - thin) as usize]
+                }
+                (false, false) if (here == aside && from < to) || (there == aside && from > to) => {
+                    (dice.under(16) & dice.under(16) & dice.under(16)) as u8
+                }
+                _ => 0,
+            };
+        }
+    }
+    if dice.under(2) == 0 {
+        // One place unsafe and the next safe, at one level or both.
+        let at = dice.under(places as u64) as usize;
+        let (unsafe_, safe) = ([4, 8, 4 + 64, 8 + 128, 12 + 64][dice.under(5) as usize], dice.under(256) as u8 & 0x33);
+        for c in 0..k {
+            if place[c] == at && dice.under(3) > 0 {
+                b.desk[MARKS + c] |= unsafe_;
+            }
+            if place[c] == (at + 1) % places && dice.under(3) > 0 {
+                b.desk[MARKS + c] |= safe;
+            }
+        }
+    }
+    assert_eq!(b.unfit(), None);
+    b
+}
+
+#[test]
+fn small_drawings_against_the_list() {
+    let mut dice = Dice(0x5EA5_1DE0_F1AC_E5ED);
+    let mut lengths = [0; 8];
+    let (mut several, mut interrupts) = (0, 0);
+    for _ in 0..60_000 {
+        let k = 2 + dice.under(6) as usize;
+        let places = 1 + dice.under(k as u64) as usize;
+        let wild = dice.under(2) == 0;
+        let mut b = drawing_of_places(&mut dice, k, places, wild);
+        let circle = least_circle(&b.desk, &b.sheet);
+        assert_eq!(circle, listed(&b), "{:?} {:?}", b.sheet, &b.desk[MARKS..HOLDS]);
+        assert_eq!(circle, by_choosing(&b));
+        let n = circle.as_ref().map_or(0, |c| c.len());
+        lengths[n] += 1;
+        several += u64::from(n > 2 && all_circles(&b.desk, &b.sheet, n).len() > 1);
+        interrupts += u64::from(n > 2 && circle.iter().flatten().any(|arrow| arrow.2 > 0));
+        let slip = b.slip.clone();
+        assert_eq!(b.step(&event(0, SOFT_ON)), u8::from(n > 0));
+        assert_eq!(b.slip, circle.map_or(slip.clone(), |c| shown_over(&slip, &c)));
+    }
+    assert!(several > 3_000 && interrupts > 500, "{several} with several circles, {interrupts} with interrupts");
+    assert!(lengths.iter().all(|&many| many > 400), "{lengths:?}");
+}
+
+/// The least circle by choosing arrow by arrow, always the least with which a closed
+/// strong path of n arrows is still possible. For drawings too large for the list.
+fn by_choosing(b: &Bench) -> Option<Vec<Triple>> {
+    let k = b.desk[0] as usize;
+    // From each class all arrows (kind, source, to), the least first.
+    let mut out = vec![Vec::new(); k];
+    for from in 0..k {
+        for kind in [ER, EN, SR, SN] {
+            for source in 0..3 {
+                let to = (0..k).filter(|&to| drawn(&b.desk, &b.sheet, from, to, kind, source));
+                out[from].extend(to.map(|to| (kind, source, to)));
+            }
+        }
+    }
+    // For each first class and first letter, and each number of arrows left: whether that
+    // many lead to the first class and may be followed by that letter, from each class,
+    // by arrows of which the first may follow an N (or an R).
+    type Ways = Vec<[bool; 2]>;
+    let mut ways: Vec<[Vec<Ways>; 2]> = (0..k)
+        .map(|first| {
+            [false, true].map(|first_is_s| {
+                vec![(0..k).map(|c| [c == first, c == first && !first_is_s]).collect()]
+            })
+        })
+        .collect();
+    for n in 1..=k {
+        for first in 0..k {
+            for first_is_s in [false, true] {
+                let ways = &ways[first][usize::from(first_is_s)];
+                let mut circle: Vec<Triple> = Vec::new();
+                let mut class = first;
+                for left in (0..n).rev() {
+                    let found = out[class].iter().find(|&&(kind, _, to)| {
+                        let joint = match circle.last() {
+                            None => begins_with_s(kind) == first_is_s,
+                            Some(last) => !(ends_with_r(last.1) && begins_with_s(kind)),
+                        };
+                        joint && ways[left][to][usize::from(ends_with_r(kind))]
+                    });
+                    let Some(&(kind, source, to)) = found else { break };
+                    circle.push((class as u8, kind, source));
+                    class = to;
+                }
+                if circle.len() == n {
+                    return Some(circle);
+                }
+                assert!(circle.is_empty());
+            }
+        }
+        for ways in ways.iter_mut().flatten() {
+            let nearer = &ways[n - 1];
+            let leads = |&(kind, _, to): &(u8, u8, usize)| nearer[to][usize::from(ends_with_r(kind))];
+            let more = out
+                .iter()
+                .map(|arrows| [arrows.iter().any(leads), arrows.iter().any(|a| !begins_with_s(a.0) && leads(a))])
+                .collect();
+            ways.push(more);
+        }
+    }
+    None
+}
+
+#[test]
+fn large_drawings_against_choosing() {
+    let mut dice = Dice(0x1A26_ED2A_3106_5EED);
+    let mut lengths = [0; 65];
+    for round in 0..2_000 {
+        let k = if round % 2 == 0 { 64 } else { 8 + dice.under(57) as usize };
+        let places = 1 + dice.under(k as u64) as usize;
+        let places = if round % 4 == 0 { places.max(k - dice.under(8) as usize) } else { places };
+        let mut b = drawing_of_places(&mut dice, k, places, round % 5 == 0);
+        let circle = least_circle(&b.desk, &b.sheet);
+        assert_eq!(circle, by_choosing(&b), "{:?} {:?}", b.sheet, &b.desk[MARKS..HOLDS]);
+        lengths[circle.as_ref().map_or(0, |c| c.len())] += 1;
+        let slip = b.slip.clone();
+        assert_eq!(b.step(&event(0, SOFT_ON)), u8::from(circle.is_some()));
+        assert_eq!(b.slip, circle.map_or(slip.clone(), |c| shown_over(&slip, &c)));
+    }
+    assert!(lengths.iter().all(|&many| many > 0), "{lengths:?}");
+}
+
+#[test]
+fn no_circle_and_unfit() {
+    // 0 SR 1 hard beside either; 0 EN 1 SR 0 is strong all round, 0 ER 1 SN 0 isn't.
+    assert_least(8, &[(0, EN, 1), (1, SR, 0), (0, ER, 2)], &[(0, 8), (1, 2)], &[(0, EN, 0), (1, SR, 0)]);
+    let clean = made(8, &[(0, ER, 1), (1, SN, 0), (2, SR, 2)], &[(0, 8), (1, 2)]);
+    assert_eq!(least_circle(&clean.desk, &clean.sheet), None);
+    assert!((0..9).all(|n| all_circles(&clean.desk, &clean.sheet, n).is_empty()));
+    let circle = made(8, &[(0, EN, 0)], &[]);
+    assert_shows(&circle, &[(0, EN, 0)]);
+    let changes: [&dyn Fn(&mut Bench); 5] = [
+        &|b| b.desk.truncate(637),
+        &|b| b.desk[0] = 65,
+        &|b| b.sheet.truncate(63),
+        &|b| b.sheet[63] = 16,
+        &|b| b.desk[MARKS] = 64,
+    ];
+    for change in changes {
+        let mut b = circle.clone();
+        change(&mut b);
+        assert_eq!(least_circle(&b.desk, &b.sheet), None);
+        assert!(all_circles(&b.desk, &b.sheet, 1).is_empty());
+        b.refused(&event(0, HARD_ON), 11);
+    }
 }
 
 // ---------------------------------------------------------------- random logs
@@ -1141,7 +1878,7 @@ fn random_logs_byte_by_byte() {
             if answer == 0 {
                 assert_eq!(b.slip, before.slip);
             } else {
-                assert!(true_circle(&b.desk, &b.sheet, &b.slip));
+                assert_eq!(b.slip, shown_over(&before.slip, &listed(&b).unwrap()));
                 b.refused(&r, 10);
                 break;
             }
@@ -2394,24 +3131,44 @@ fn time_of_a_step() {
         let each = start.elapsed().as_nanos() as f64 / rounds as f64 / 1000.0;
         println!("    {each:.1} us a question");
     }
-    let mut dense = Bench::new(64);
-    dense.sheet.fill(15);
-    let mut long = Bench::new(64);
-    for c in 0..64 {
-        long.sheet[c * 64 + (c + 1) % 64] = EN;
-        for to in 0..=c {
-            if (c, to) != (63, 0) {
-                long.sheet[c * 64 + to] |= SR;
+    // Faults: the drawings with the most to go through for each length.
+    let every = |arrow: &dyn Fn(usize, usize) -> u8| {
+        let mut b = Bench::new(64);
+        for from in 0..64 {
+            for to in 0..64 {
+                b.sheet[from * 64 + to] = arrow(from, to);
             }
         }
+        b
+    };
+    let mut cases = vec![
+        ("every arrow".to_string(), 1, every(&|_, _| 15)),
+        ("every arrow but those to itself".to_string(), 2, every(&|a, b| if a == b { 0 } else { 15 })),
+        ("a ring, and every SR".to_string(), 64, every(&|a, b| if (a + 1) % 64 == b { SN | SR } else { SR })),
+        ("two rings, every arrow from one to the other".to_string(), 32, every(&|a, b| {
+            let next = a / 32 == b / 32 && (a + 1) % 32 == b % 32;
+            if next || a / 32 < b / 32 { 15 } else { 0 }
+        })),
+        ("a ring, and every arrow from it to a line".to_string(), 32, every(&|a, b| {
+            let ring = a < 32 && b < 32 && (a + 1) % 32 == b;
+            if ring || b >= 32 && a < b { 15 } else { 0 }
+        })),
+    ];
+    for n in [2usize, 3, 4, 8, 16, 32, 64] {
+        cases.push((
+            format!("{} classes at each of {n} places", 64 / n),
+            n as u8,
+            every(&|a, b| if (a + 1) % n == b % n { 15 } else { 0 }),
+        ));
     }
-    for (name, b) in [("every arrow", dense), ("one long circle", long)] {
+    for (name, n, b) in cases {
         let start = std::time::Instant::now();
-        for _ in 0..500 {
+        for _ in 0..200 {
             let mut b = b.clone();
             assert_eq!(b.step(&event(0, HARD_ON)), 1);
+            assert_eq!(b.slip[0], n);
         }
-        let each = start.elapsed().as_nanos() as f64 / 500.0 / 1000.0;
+        let each = start.elapsed().as_nanos() as f64 / 200.0 / 1000.0;
         println!("fault, {name}: {each:.1} us a step");
     }
 }

@@ -259,12 +259,12 @@ class Walk:
 
 
 def random_log(intent, i):
-    """The i-th log of an intent: clean, fault, ring, handler, churn, refused. The classes go from 1 to 64 again and again."""
+    """The i-th log of an intent: clean, fault, ring, handler, tie, churn, refused. The classes go from 1 to 64 again and again."""
     rng = random.Random(f"{intent} {i}")
     classes = 1 + i % MAX_CLASSES
     count = rng.randrange(*rng.choices((SHORT, MIDDLE, LONG), (50, 38, 12))[0])
-    if intent == "ring":
-        return ring_log(classes, rng)
+    if intent in ("ring", "tie"):
+        return (ring_log if intent == "ring" else tie_log)(classes, rng)
     if intent in ("handler", "churn"):
         return (handler_log if intent == "handler" else churn_log)(max(classes, 2), rng)
     walk = Walk(classes, rng)
@@ -322,6 +322,58 @@ def handler_log(classes, rng):
              [*off, record(three, ACQUIRE, inner, or_try(EXCLUSIVE, rng)), *acquired(three, outer, EXCLUSIVE), record(three, RELEASE, outer),
               record(three, RELEASE, inner)]]
     return header(classes) + b"".join(rec for part in rng.sample(parts, 3) for rec in part)
+
+
+def tie_log(classes, rng):
+    """Several cycles that one record closes, many of them of one length. Before it, dependencies of several kinds go from each layer of classes to the
+    next. It acquires the first class over others, of the last layer above all; or it makes the classes of the first layer unsafe, when those of the
+    second are safe and some of the last lead to the first. A class that is safe is held with both interrupts off."""
+    most = min(classes, rng.choice((2, 3, 4, 5, 6, 7, 8, 12, 24, 64)))
+    free = rng.sample(range(classes), rng.randrange((most + 1) // 2, most + 1))
+    by_mark = len(free) > 1 and rng.random() < 0.3
+    layers = [[free.pop() for _ in range(2 if by_mark and len(free) > 2 and rng.random() < 0.5 else 1)]]
+    while free:
+        layers.append([free.pop() for _ in range(min(len(free), rng.randrange(1, 4)))])
+    later = [c for layer in layers[1:] for c in layer]
+    share = rng.choice((0, 0, 0.3, 0.6))
+    safe = layers[1] if by_mark else [c for c in later if rng.random() < share]
+    off = set(layers[0] + later if by_mark else safe)
+    made = []
+
+    def put(core, *events):
+        made.extend(record(core, *(event if isinstance(event, tuple) else (event,))) for event in events)
+
+    def some(modes):
+        return rng.sample(modes, rng.randrange(1, len(modes) + 1))
+
+    def draw(a, b):
+        core, is_off = rng.randrange(CORES), a in off or b in off
+        put(core, *(HARD_OFF, SOFT_OFF) * is_off)
+        for held in some((EXCLUSIVE, rng.choice((READ, RECURSIVE_READ)))):
+            taken = some((rng.choice((EXCLUSIVE, READ)), RECURSIVE_READ))
+            put(core, (ACQUIRE, a, or_try(held, rng)), *(event for mode in taken for event in ((ACQUIRE, b, mode), (RELEASE, b))), (RELEASE, a))
+        put(core, *(SOFT_ON, HARD_ON) * is_off)
+
+    for c in safe:
+        for enter in some((ENTER_HARD, ENTER_SOFT)):
+            core, is_soft = rng.randrange(CORES), enter == ENTER_SOFT
+            taken = some((rng.choice((EXCLUSIVE, READ)), RECURSIVE_READ))
+            put(core, enter, *[HARD_OFF] * is_soft, *(event for mode in taken for event in ((ACQUIRE, c, mode), (RELEASE, c))), *[HARD_ON] * is_soft, enter + 1)
+    pairs = [(a, b) for i in range(len(layers) - 1) for a in layers[i] for b in layers[i + 1] if not (by_mark and i == 0) and rng.random() < 0.9]
+    pairs += [(a, b) for a in layers[-1] for b in layers[0] if by_mark and rng.random() < 0.9]
+    for a, b in rng.sample(pairs, len(pairs)):
+        draw(a, b)
+    for mode in some(range(TRY)) if safe and not by_mark else ():
+        put(rng.randrange(CORES), (ACQUIRE, layers[0][0], or_try(mode, rng)), (RELEASE, layers[0][0]))
+    core = rng.randrange(CORES)
+    if by_mark:
+        put(core, HARD_OFF, SOFT_OFF, *((ACQUIRE, c, or_try(rng.randrange(TRY), rng)) for c in layers[0]))
+        put(core, *rng.choice(((HARD_ON, SOFT_ON), (SOFT_ON, HARD_ON), (SOFT_ON, HARD_ON))))
+    else:
+        over = layers[-1] + rng.sample(later, rng.randrange(min(len(later), 3) + 1)) if later else layers[0]
+        put(core, *(HARD_OFF, SOFT_OFF) * (rng.random() < 0.5 or not off.isdisjoint(over)))
+        put(core, *((ACQUIRE, c, TRY + mode) for c in over for mode in some(range(TRY))), (ACQUIRE, layers[0][0], rng.randrange(TRY)))
+    return header(classes) + b"".join(made)
 
 
 def churn_log(classes, rng):

@@ -1,5 +1,5 @@
-"""The rules of a lock log for the tests of the program and of the host: what a record is answered and changes, the dependencies that are drawn then, and
-what they reach. Of the program's faults the second program decides whether they are due."""
+"""The rules of a lock log for the tests of the program and of the host: what a record is answered and changes, the dependencies that are drawn then,
+what they reach, and the cycle that is shown. Of the program's faults the second program decides whether they are due."""
 import re
 
 ACQUIRE, RELEASE, HARD_ON, HARD_OFF, SOFT_ON, SOFT_OFF, ENTER_SOFT, EXIT_SOFT, ENTER_HARD, EXIT_HARD = range(10)
@@ -12,6 +12,7 @@ MAX_CLASSES, CORES, DEPTH = 64, 8, 20
 # A core's next state: a row a state, a column an event from HARD_ON on, x where it is refused.
 NEXT = ["02014x6x", "1301xx7x", "0223xxxx", "1323xxxx", "45xxx08x", "45xxxxxx", "xxxxxxx0", "xxxxxxx1", "xxxxxxx4"]
 TASK, SOFT, HARD = range(3)
+KINDS, SOURCES = ("ER", "EN", "SR", "SN"), ("hold", "hard", "soft")  # in the order of the slip's bytes
 FRAME = [TASK, TASK, TASK, TASK, SOFT, SOFT, HARD, HARD, HARD]
 
 
@@ -125,6 +126,51 @@ class Machine:
         """Whether there is a closed strong path."""
         return any(self.reach(c, letter)[letter] >> c & 1 for c in range(self.classes) for letter in "RN")
 
+    def dependencies(self):
+        """All dependencies by the class where they begin: (place of the kind, place of the source, class where it ends)."""
+        leaving = {c: set() for c in range(self.classes)}
+        for c, kind, d in self.hold_dependencies:
+            leaving[c].add((KINDS.index(kind), 0, d))
+        for level, c, first in self.unsafe:
+            for other, d, second in self.safe:
+                if other == level:
+                    leaving[c].add((KINDS.index(first + second), SOURCES.index(level), d))
+        return leaving
+
+    def least_cycle(self, see=lambda what: None):
+        """The cycle that is shown, as (class, kind, class, source), or None. An arrival is 2 * class + 1 by N, 2 * class by R; sets of them are words.
+        What settled a choice between several is told to `see`."""
+        leaving = {2 * c + by_n: [(kind, source, 2 * d + kind % 2) for kind, source, d in drawn if by_n or kind < 2]
+                   for c, drawn in self.dependencies().items() for by_n in (0, 1)}
+        onward = {a: sum({1 << b for _, _, b in drawn}) for a, drawn in leaving.items()}
+        most, starts = self.classes, []
+        for start in leaving:
+            length = round_from(onward, start, most)
+            if length and (length < most or not starts):
+                most, starts = length, []
+            if length and (not starts or start // 2 == starts[0] // 2):
+                starts.append(start)
+        if not starts:
+            return None
+        # One triple more each round, the least of those that go on from where the triples before may have led, for each start
+        standing, cycle = [(start, start) for start in starts], []
+        home = {start: leads_home(onward, start, most) for start in starts}
+        for left in reversed(range(most)):
+            choices = {}
+            for start, at in standing:
+                for kind, source, b in leaving[at]:
+                    if home[start][left] >> b & 1:
+                        choices.setdefault((at // 2, kind, source), set()).add((start, b))
+            least, *others = sorted(choices)
+            for other in others:
+                part = next(part for part in range(3) if least[part] != other[part])
+                below = min(b for _, b in choices[other]) // 2 < min(b for _, b in choices[least]) // 2
+                see(("a class", "a kind", "a source")[part] + " before others" + " that go to a lower class" * below)
+            standing = choices[least]
+            cycle.append(least)
+        ends = [c for c, _, _ in cycle[1:] + cycle[:1]]
+        return [(c, KINDS[kind], end, SOURCES[source]) for (c, kind, source), end in zip(cycle, ends)]
+
     def wrong_cycle(self, cycle):
         """What is wrong with a cycle of (class, kind, class, source), or None."""
         classes = [entry[0] for entry in cycle]
@@ -144,6 +190,34 @@ class Machine:
         return None
 
 
+def members(word):
+    while word:
+        yield (word & -word).bit_length() - 1
+        word &= word - 1
+
+
+def round_from(onward, start, most):
+    """How many dependencies lead from an arrival back to it, the fewest; None where that takes more than `most`."""
+    seen, wave = 0, 1 << start
+    for length in range(1, most + 1):
+        after = 0
+        for a in members(wave):
+            after |= onward[a]
+        if after >> start & 1:
+            return length
+        wave = after & ~seen
+        seen |= after
+    return None
+
+
+def leads_home(onward, start, most):
+    """The arrivals from which exactly 0, 1, .. (fewer than `most`) dependencies lead to the start."""
+    home = [1 << start]
+    while len(home) < most:
+        home.append(sum(1 << a for a, after in onward.items() if after & home[-1]))
+    return home
+
+
 NUMBER = rb"(0|[1-9][0-9]*)"
 CLEAN = re.compile(rb"clean, " + NUMBER + rb" records")
 REFUSED = re.compile(rb"refused " + NUMBER + rb" at record " + NUMBER)
@@ -151,9 +225,10 @@ FAULT = re.compile(rb"fault at record " + NUMBER)
 ENTRY = re.compile(NUMBER + rb" (ER|EN|SR|SN) " + NUMBER + rb" (hold|hard|soft)")
 
 
-def read_output(data, out, see=lambda machine, rec: None):
+def read_output(data, out, see=lambda machine, rec: None, see_tie=lambda what: None):
     """What an output says of a log: (word, number, cycle), the word clean, refused or fault, the number the refusal's. ValueError where it is not
-    an output, or is untrue of the log by the rules (but for a fault that is not seen). Each record that is accepted is shown to `see` before."""
+    an output, or is untrue of the log by the rules (but for a fault that is not seen). Each record that is accepted is shown to `see` before, and what
+    settled a choice between several cycles is told to `see_tie`."""
     lines = out.split(b"\n")
     if lines.pop() != b"":
         raise ValueError("no line end at the end")
@@ -180,6 +255,8 @@ def read_output(data, out, see=lambda machine, rec: None):
         cycle = [(int(e[1]), e[2].decode(), int(e[3]), e[4].decode()) for e in entries]
         if wrong := machine.wrong_cycle(cycle):
             raise ValueError(wrong)
+        if cycle != (least := machine.least_cycle(see_tie)):
+            raise ValueError(f"the cycle to be shown is {least}")
         return "fault", 0, cycle
     if rest:
         raise ValueError("a line too many")

@@ -22,7 +22,7 @@ meets n x y long below past =
     ext-getD 0 x y long (λ j l. elim (decLt j n) [ yes h ↦ below j h | no h ↦ past j (omega arith) ])
 
 -- So are two that one buffer became, where only the first n bytes may differ.
-both-keep : (n : ℕ) (before x y : List ℕ) → ((j : ℕ) → j < n → getD x j 0 ≡ getD y j 0) → KeepsPast n before x → KeepsPast n before y → x ≡ y
+pub both-keep : (n : ℕ) (before x y : List ℕ) → ((j : ℕ) → j < n → getD x j 0 ≡ getD y j 0) → KeepsPast n before x → KeepsPast n before y → x ≡ y
 both-keep n before x y below a b = meets n x y (a .long ∙ sym (b .long)) below (λ j l. a .past j l ∙ sym (b .past j l))
 
 -- Two bytes of the same digits are equal.

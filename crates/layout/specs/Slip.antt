@@ -1,27 +1,17 @@
 -- The cycle that a slip has, read back from its bytes: for the program's text, and for the proofs.
+use mathlib.Core.Bool.{cond}
 use mathlib.Core.List.{List}
-use Prim.Native.Nat.{ℕ, zero, suc, _+_, _*_}
+use Prim.Native.Nat.{ℕ, suc, _+_, _*_}
+use lib.Dec.{ltb}
 use lib.ListN.{getD}
-use Rattle.rules.specs.Marks.{hardIrq, softIrq}
-use Rattle.rules.specs.Graph.{Kind, Source, lock, irq}
-use Rattle.rules.specs.KindNames.{ER, EN, SR, SN}
 use Rattle.rules.specs.Decision.{tabulate}
 use Rattle.rules.specs.Cycle.{Entry}
+use Rattle.rules.specs.Ranks.{kindOfByte, sourceOfByte}
 use Rattle.layout.specs.Layout.{entriesAt, entrySize, countOf}
 
--- The kind and the source of a byte of a slip: 1 ER, 2 EN, 4 SR, 8 SN; 0 a lock dependency, 1 hard, 2 soft. Other bytes stand in no slip.
-abbrev pub kindOfByte : ℕ → Kind
-kindOfByte zero = EN
-kindOfByte (suc zero) = ER
-kindOfByte (suc (suc zero)) = EN
-kindOfByte (suc (suc (suc zero))) = EN
-kindOfByte (suc (suc (suc (suc zero)))) = SR
-kindOfByte (suc (suc (suc (suc (suc n))))) = SN
-
-abbrev pub sourceOfByte : ℕ → Source
-sourceOfByte zero = lock
-sourceOfByte (suc zero) = irq hardIrq
-sourceOfByte (suc (suc n)) = irq softIrq
+-- The place after i in a cycle of n dependencies.
+abbrev pub nextPlace : ℕ → ℕ → ℕ
+nextPlace n i = cond (ltb (suc i) n) (suc i) 0
 
 -- The entry at place i, and all that the slip counts.
 abbrev pub entryOf : List ℕ → ℕ → Entry

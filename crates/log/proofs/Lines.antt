@@ -13,8 +13,8 @@ use Rattle.rules.specs.Graph.{lock, irq}
 use Rattle.rules.specs.KindNames.{ER, EN, SR, SN}
 use Rattle.rules.specs.Cycle.{entryAt, following}
 use Rattle.layout.specs.Layout.{countOf}
-use Rattle.layout.specs.Slip.{kindOfByte, sourceOfByte, entryOf, entriesOf}
-use Rattle.search.specs.Reports.{nextPlace}
+use Rattle.rules.specs.Ranks.{kindOfByte, sourceOfByte}
+use Rattle.layout.specs.Slip.{entryOf, entriesOf, nextPlace}
 use Rattle.rules.proofs.Closure.{length-tabulate, getD-tabulate}
 use Rattle.log.specs.Text.{digits, kindText, sourceText, entryText, faultText, lineSize, linesOf, Appended, EntryPut}
 use Rattle.log.proofs.Digits.{places-of-byte, places-of-word}

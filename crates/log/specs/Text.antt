@@ -10,7 +10,8 @@ use Rattle.rules.specs.HeldLocks.{First, Second, E, S, R, N}
 use Rattle.rules.specs.Marks.{hardIrq, softIrq}
 use Rattle.rules.specs.Graph.{Kind, Source, lock, irq}
 use Rattle.layout.specs.Layout.{countOf}
-use Rattle.layout.specs.Slip.{kindOfByte, sourceOfByte, entriesOf}
+use Rattle.rules.specs.Ranks.{kindOfByte, sourceOfByte}
+use Rattle.layout.specs.Slip.{entriesOf}
 use Rattle.rules.specs.Limits.{maxClasses}
 use Rattle.rules.specs.Cycle.{Entry, entryAt, following}
 use Rattle.log.specs.declared.Outcome.{Outcome}

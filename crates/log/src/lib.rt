@@ -11,8 +11,8 @@ ghost use Prim.Native.Nat.{_+_, _*_, _<_, _≤_};
 ghost use lib.ListN.{length};
 ghost use Rattle.rules.specs.Limits.{maxClasses};
 ghost use Rattle.layout.specs.Layout.{slipSize, entriesAt, entrySize, countOf};
-ghost use Rattle.search.specs.Reports.{nextPlace};
-ghost use Rattle.layout.specs.Slip.{kindOfByte, sourceOfByte, entriesOf};
+ghost use Rattle.rules.specs.Ranks.{kindOfByte, sourceOfByte};
+ghost use Rattle.layout.specs.Slip.{entriesOf, nextPlace};
 ghost use Rattle.log.specs.Text.{digits, kindText, sourceText, cycleText, cleanText, refusedText, faultText, lineSize, entryLineSize, cycleSize, Appended, EntryPut, Showable, textOf, isAnswer, outcomeOf};
 
 // Room for the longest text: a line, and a line for each entry of a cycle.

@@ -31,6 +31,7 @@ use Rattle.validator.specs.Step.{Validated}
 use Rattle.question.specs.Question.{Asked}
 use Rattle.validator.specs.Calls.{Buffers, Called}
 use Rattle.plungerowl.specs.Runs.{Ran, Opening}
+use Rattle.validator.proofs.Reports.{reported-one}
 use Rattle.plungerowl.specs.Demands.{SameStep, ClosedByFault, FaultExactly, DrawnFromRecords, Balanced}
 use Rattle.plungerowl.proofs.Runs.{held-fit, validated-by, slip-long, run-holds, opening-holds}
 
@@ -51,7 +52,10 @@ module _ {b b₁ b₂ : Buffers} {r : Bytes} {x y : ℕ} (p : Called b r x b₁)
             (b .desk) (u .keeps-desk) (v .keeps-desk);
         sheet-is = settled-sheet-after K (facts (b .desk) (b .sheet) f .some) (o .graph .locks) (b₁ .sheet) (b₂ .sheet) (stand-encodes (u .stands) .in-sheet)
             (stand-encodes (v .stands) .in-sheet) (b .sheet) (u .keeps-sheet) (v .keeps-sheet);
-        slip-is = λ h. u .unreported h ∙ sym (v .unreported (λ z. h (n ∙ z)));
+        slip-is = elim (ℕ-discrete x 1) [
+          | yes z ↦ reported-one (u .reported z) (v .reported (sym n ∙ z))
+          | no h ↦ u .unreported h ∙ sym (v .unreported (λ z. h (n ∙ z)))
+        ];
       }
 
   pub step-settles : SameStep x y b₁ b₂
@@ -67,7 +71,7 @@ module _ {b b₁ b₂ : Buffers} {r : Bytes} {x y : ℕ} (p : Called b r x b₁)
             number-is = u .0 ∙ sym (v .0);
             desk-is = u .1 ∙ sym (v .1);
             sheet-is = u .2 ∙ sym (v .2);
-            slip-is = λ h. u .3 ∙ sym (v .3);
+            slip-is = u .3 ∙ sym (v .3);
           }
 
 -- A digit is 0 or 1, so digits that are 1 together are the same.

@@ -271,7 +271,7 @@ fault-shown {b} {b′} t z = by (fitsAll (b .desk) (b .sheet) (b .slip)) refl
     by false e = absurd (let y = t .is-unfit e .0 in omega arith)
     by true e =
         let r = t .validated e .reported z in
-        omega (arith, r .bytes .count, r .cycle .at-most, facts (b .desk) (b .sheet) (and-cases (desk-fits (b .desk) (b .sheet)) _ e .0) .few)
+        omega (arith, r .bytes .count, r .least .cycle .at-most, facts (b .desk) (b .sheet) (and-cases (desk-fits (b .desk) (b .sheet)) _ e .0) .few)
 
 header-clean : (t : Bool) (a : ℕ) → a ≡ cond t 0 badOpening → a ≡ 1 → ⊥
 header-clean true a e z = omega arith

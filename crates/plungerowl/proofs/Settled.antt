@@ -1,7 +1,7 @@
 -- The calls of the feed settle the number, the record's number and every byte, and a log's bytes settle what comes of it. Assumes nothing.
 use mathlib.Core.Path.{_≡_, refl, sym, ap, subst, subst₂, _∙_}
-use mathlib.Core.Bool.{Bool, true, false, cond, false≢true}
-use mathlib.Core.List.{List, [], _++_, append-nil}
+use mathlib.Core.Bool.{Bool, true, false, false≢true}
+use mathlib.Core.List.{List, [], _++_}
 use Prim.Native.Nat.{ℕ, _+_, _^_, _≤_, _<_}
 use native.Mathlib.Decide.{ℕ-discrete}
 use native.Mathlib.Omega.{arith}
@@ -9,18 +9,17 @@ use lib.Dec.{eqb}
 use lib.ListN.{length, take, drop, length-append}
 use lib.Seq.{take-at, drop-at}
 use Rattle.rules.specs.Verdict.{badOpening}
-use Rattle.rules.specs.Run.{State}
-use Rattle.rules.specs.Log.{headerSize, unitSize, headerClasses, Outcome}
+use Rattle.rules.specs.Log.{unitSize, Outcome}
 use Rattle.layout.specs.Layout.{AreBytes}
 use Rattle.fit.proofs.Facts.{facts}
 use Rattle.fit.proofs.Fitting.{stand-encodes}
 use Rattle.fit.proofs.Settled.{settled-desk-after, settled-sheet-after}
-use Rattle.opening.specs.Open.{Opened, opens}
-use Rattle.validator.specs.Calls.{Buffers, Called}
+use Rattle.validator.specs.Calls.{Buffers}
 use Rattle.progress.specs.Feed.{Feed, feedSize, view, fits, unitBegun, withPart}
 use Rattle.progress.proofs.Kept.{bytes-back}
 use Rattle.feed.specs.Fed.{more, UnitValidated, header, a-record, Fed, stopped, kept, completed, Ended, stands, no-header, between, short}
 use Rattle.feed.specs.Calls.{holding, Started, FeedCall, FedPiece, FedEnd}
+use Rattle.validator.proofs.Reports.{reported-one}
 use Rattle.plungerowl.specs.Demands.{SameStep}
 use Rattle.plungerowl.specs.Logs.{classesIn, LeftBy, WholeLog, short-header, bad-header, by-rules, joined, FeedRan, LastCall, Repeated, SameFeed}
 use Rattle.plungerowl.proofs.Demands.{step-settles}
@@ -29,7 +28,7 @@ use Rattle.plungerowl.proofs.Wholes.{repeats}
 use Rattle.plungerowl.proofs.Feeds.{log-in-pieces}
 
 same-step : (a : ℕ) (b : Buffers) → SameStep a a b b
-same-step a b = record { number-is = refl; desk-is = refl; sheet-is = refl; slip-is = λ _. refl }
+same-step a b = record { number-is = refl; desk-is = refl; sheet-is = refl; slip-is = refl }
 
 -- Two results of a feed.
 record Same (f f′ : Feed) (b b′ : Buffers) : Type 0 where
@@ -44,7 +43,7 @@ unit-settles {n = n} (header {answer = x} {b′ = b₁} e p s) (header {answer =
     let a : x ≡ y = p .answer ∙ sym (q .answer) in
     record {
       feed-is = ap (λ (k : ℕ). unitBegun k (eqb k 0) n) a;
-      step = record { number-is = a; desk-is = p .desk ∙ sym (q .desk); sheet-is = p .sheet ∙ sym (q .sheet); slip-is = λ _. s ∙ sym r };
+      step = record { number-is = a; desk-is = p .desk ∙ sym (q .desk); sheet-is = p .sheet ∙ sym (q .sheet); slip-is = s ∙ sym r };
     }
 unit-settles (header e p s) (a-record e′ t) = absurd (false≢true (sym e ∙ e′))
 unit-settles (a-record e t) (header e′ p s) = absurd (false≢true (sym e′ ∙ e))
@@ -52,26 +51,19 @@ unit-settles {n = n} {b = b} (a-record {b′ = b₁} e t) (a-record {b′ = b₂
     let s = step-settles {b = b} {b₁ = b₁} {b₂ = b₂} t t′ in
     record { feed-is = ap (λ (k : ℕ). unitBegun k true (more n)) (s .number-is); step = s }
 
--- The two ways go on alike: from the same buffers, or, after a fault, not at all.
 same-front : (u u′ rest rest′ : List ℕ) (n : ℕ) → u ++ rest ≡ u′ ++ rest′ → length u ≡ n → length u′ ≡ n → (u ≡ u′) × (rest ≡ rest′)
 same-front u u′ rest rest′ n e l m = (
   sym (take-at u rest n l) ∙ ap (take n) e ∙ take-at u′ rest′ n m,
   sym (drop-at u rest n l) ∙ ap (drop n) e ∙ drop-at u′ rest′ n m,
 )
 
-after-same : {f₁ f₂ g₁ g₂ : Feed} {b₁ b₂ c₁ c₂ : Buffers} {rest : List ℕ} → Same f₁ f₂ b₁ b₂ → Fed f₁ b₁ rest g₁ c₁ → Fed f₂ b₂ rest g₂ c₂
+-- The two ways go on alike, from the same buffers.
+after-same : {f₁ f₂ g₁ g₂ : Feed} {b₁ b₂ c₁ c₂ : Buffers} {rest : List ℕ} → Same f₁ f₂ b₁ b₂ → Fed f₂ b₂ rest g₂ c₂
     → ((g : Feed) (c : Buffers) → Fed f₁ b₁ rest g c → Same g₁ g c₁ c) → Same g₁ g₂ c₁ c₂
-after-same {f₁} {f₂} {g₁} {g₂} {b₁} {b₂} {c₁} {c₂} {rest} s p q go =
-    elim (ℕ-discrete (f₁ .answer) 1) [
-      | yes e ↦
-          let x = takes-nothing (λ z. absurd (omega arith)) p in
-          let y = takes-nothing (λ z. absurd (let a = s .step .number-is in omega arith)) q in
-          rw (x .0, x .1, y .0, y .1) s
-      | no n ↦
-          let t = s .step in
-          let w : b₂ ≡ b₁ = same-buffers b₁ b₂ (sym (t .desk-is)) (sym (t .sheet-is)) (sym (t .slip-is n)) in
-          go g₂ c₂ (subst₂ (λ (f : Feed) (b : Buffers). Fed f b rest g₂ c₂) (sym (s .feed-is)) w q)
-    ]
+after-same {g₂ = g₂} {b₁ = b₁} {b₂} {c₂ = c₂} {rest} s q go =
+    let t = s .step in
+    let w : b₂ ≡ b₁ = same-buffers b₁ b₂ (sym (t .desk-is)) (sym (t .sheet-is)) (sym (t .slip-is)) in
+    go g₂ c₂ (subst₂ (λ (f : Feed) (b : Buffers). Fed f b rest g₂ c₂) (sym (s .feed-is)) w q)
 
 kept-settles : {f g : Feed} {b c : Buffers} {bytes : List ℕ} → f .answer ≡ 0 → length (f .loose ++ bytes) < unitSize (f .opened) → Fed f b bytes g c
     → Same (withPart f bytes) g b c
@@ -86,7 +78,7 @@ unit-then e q l j r go (stopped n) = absurd (n e)
 unit-then {unit = unit} {rest} e q l j r go (kept e′ h) = absurd (let n = ap length q ∙ length-append unit rest in omega arith)
 unit-then {f} {g₂ = g₂} {b = b} {c₂ = c₂} {unit = unit} {rest} e q l j r go (completed {f₁ = f₂} {b₁ = b₂} unit′ rest′ e′ q′ l′ j′ r′) =
     let s = same-front unit unit′ rest rest′ (unitSize (f .opened)) (sym q ∙ q′) l l′ in
-    after-same (unit-settles j (subst (λ (u : List ℕ). UnitValidated (f .opened) (f .number) b u f₂ b₂) (sym (s .0)) j′)) r
+    after-same (unit-settles j (subst (λ (u : List ℕ). UnitValidated (f .opened) (f .number) b u f₂ b₂) (sym (s .0)) j′))
     (subst (λ (x : List ℕ). Fed f₂ b₂ x g₂ c₂) (sym (s .1)) r′) go
 
 fed-settles : {f g₁ g₂ : Feed} {b c₁ c₂ : Buffers} {bytes : List ℕ} → Fed f b bytes g₁ c₁ → Fed f b bytes g₂ c₂ → Same g₁ g₂ c₁ c₂
@@ -188,7 +180,7 @@ module _ {b b₁ b₂ : Buffers} (K : ℕ) (o : Outcome) (u : LeftBy K o b b₁)
             (b .desk) (u .keeps-desk) (v .keeps-desk);
         sheet-is = settled-sheet-after K some (s .graph .locks) (b₁ .sheet) (b₂ .sheet) (stand-encodes (u .stands) .in-sheet)
             (stand-encodes (v .stands) .in-sheet) (b .sheet) (u .keeps-sheet) (v .keeps-sheet);
-        slip-is = λ h. u .unreported h ∙ sym (v .unreported h);
+        slip-is = elim (ℕ-discrete (o .answer) 1) [ yes z ↦ reported-one (u .reported z) (v .reported z) | no h ↦ u .unreported h ∙ sym (v .unreported h) ];
       }
 
 pub whole-settles : {b b₁ b₂ : Buffers} {log : List ℕ} {ended : Bool} {a n a′ n′ : ℕ} → WholeLog b log ended a n b₁ → WholeLog b log ended a′ n′ b₂
@@ -205,7 +197,7 @@ whole-settles {b} {b₁} {b₂} {log} (by-rules o h e q w) (by-rules o′ k d r 
     let s : o′ ≡ o = r ∙ sym q in
     rw s (left-settles (classesIn log) o w (subst (λ (y : Outcome). LeftBy (classesIn log) y b b₂) s x), refl)
 
--- Two ways to cut one log, both without its end or both with it: the same answer, record number, desk, sheet and slip (but for the choice of a cycle).
+-- Two ways to cut one log, both without its end or both with it: the same answer, record number, desk, sheet and slip.
 pub cut-anywhere : {feed₀ feed feed₁ feed₂ feed₀′ feed′ feed₁′ feed₂′ : List ℕ} {b b₁ b₂ b₁′ b₂′ : Buffers} {ps ps′ : List (List ℕ)} {last last′ : List ℕ}
     {ended : Bool} {a n a′ n′ : ℕ} → Started feed₀ 0 feed → FeedRan feed b ps feed₁ b₁ → LastCall feed₁ b₁ last ended a n feed₂ b₂ → Started feed₀′ 0 feed′
     → FeedRan feed′ b ps′ feed₁′ b₁′ → LastCall feed₁′ b₁′ last′ ended a′ n′ feed₂′ b₂′ → joined ps ++ last ≡ joined ps′ ++ last′

@@ -16,19 +16,19 @@ use Rattle.layout.specs.Decoding.{view, StandFor}
 use Rattle.validator.specs.Step.{Reported}
 use Rattle.validator.specs.Calls.{Buffers}
 
--- Two results of one call of the step: the number and every byte are the same, but for the slip of a fault, whose cycle is the program's choice.
+-- Two results of one call of the step: the number and every byte are the same.
 pub record SameStep (answer answer′ : ℕ) (b b′ : Buffers) : Type 0 where
   pub number-is : answer ≡ answer′
   pub desk-is : b .desk ≡ b′ .desk
   pub sheet-is : b .sheet ≡ b′ .sheet
-  pub slip-is : (answer ≡ 1 → ⊥) → b .slip ≡ b′ .slip
+  pub slip-is : b .slip ≡ b′ .slip
 
 -- Demand 1, of one step: an open desk is closed by a fault and by nothing else.
 pub record ClosedByFault (before : List ℕ) (answer : ℕ) (after : List ℕ) : Type 0 where
   pub exactly : closedOf before ≡ 0 → (closedOf after ≡ 1) ↔ (answer ≡ 1)
 
 -- Demand 2, of an accepted record, where g is the graph with what it draws: the answer is a fault exactly when g has a closed strong path, and
--- with the fault comes a cycle of g.
+-- with the fault comes the least cycle of g.
 pub record FaultExactly (K : ℕ) (g : Graph) (answer : ℕ) (slip slip′ : List ℕ) : Type 0 where
   pub exactly : (answer ≡ 0) ⊎ (answer ≡ 1) → (answer ≡ 1) ↔ ClosedStrongPath K g
   pub cycle : answer ≡ 1 → Reported K g slip slip′

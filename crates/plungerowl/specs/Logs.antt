@@ -90,7 +90,7 @@ pub record Repeated (feed : List ℕ) (b : Buffers) (answer number : ℕ) (feed�
   pub same-feed : feed′ ≡ feed
   pub same : b′ ≡ b
 
--- Two results of one call of the feed: the same but for the slip of a fault, whose cycle is the program's choice.
+-- Two results of one call of the feed: the numbers and every byte of the four buffers are the same.
 pub record SameFeed (answer answer′ number number′ : ℕ) (feed feed′ : List ℕ) (b b′ : Buffers) : Type 0 where
   pub step : SameStep answer answer′ b b′
   pub record-is : number ≡ number′

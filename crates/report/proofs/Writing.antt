@@ -1,24 +1,45 @@
 -- The slip, written entry by entry. Assumes nothing.
-use mathlib.Core.Path.{_≡_, refl, sym, ap, _∙_}
+use mathlib.Core.Path.{_≡_, refl, sym, ap, _∙_, subst}
 use mathlib.Core.List.{List}
-use Prim.Native.Nat.{ℕ, zero, suc, _+_, _*_, _<_, _≤_}
+use Prim.Native.Nat.{ℕ, zero, suc, _+_, _*_, _/_, _^_, _<_, _≤_}
 use native.Mathlib.Nat.{add-zero}
 use native.Mathlib.Decide.{ℕ-discrete}
 use native.Mathlib.Omega.{arith}
 use lib.ListN.{length, getD, set, length-set}
+use lib.Pow.{pow-mono}
 use lib.Seq.{getD-set-same, getD-set-other}
-use Rattle.rules.specs.Cycle.{Entry, entryAt, entryBytes}
+use Rattle.rules.specs.Graph.{kindBit, sourceNumber}
+use Rattle.rules.specs.Cycle.{Entry, entryBytes}
+use Rattle.rules.specs.KindNames.{SN}
+use Rattle.rules.specs.Ranks.{kindOfByte, kindAt}
 use Rattle.rules.proofs.Closure.{length-tabulate, getD-tabulate}
-use Rattle.layout.specs.Layout.{countOf, KeepsPast}
-use Rattle.layout.specs.Slip.{entryOf, entriesOf}
-use Rattle.search.specs.Reports.{foundClass, foundKind, nextPlace, Searched}
-use Rattle.search.specs.declared.Found.{Found}
-use Rattle.search.proofs.Reported.{cycle-of}
-use Rattle.report.specs.Shown.{SourceOf, Writable, EntryWritten, Shown}
+use Rattle.layout.specs.Layout.{KeepsPast}
+use Rattle.shortest.specs.Shortest.{foundEntry}
+use Rattle.shortest.specs.declared.Found.{Found}
+use Rattle.report.specs.Shown.{EntryWritten, Shown}
 
--- A cycle that the search found can be written.
-pub writable : {K : ℕ} {rows : List ℕ} {f : Found} → Searched K rows f → 0 < f .n → Writable K f
-writable s some = record { some = some; few = s .few; inside = s .inside; bytes = s .bytes }
+-- ---- Bytes of a rank.
+
+from-5 : (n : ℕ) → 5 ≤ n → kindOfByte n ≡ SN
+from-5 zero l = absurd (omega arith)
+from-5 (suc zero) l = absurd (omega arith)
+from-5 (suc (suc zero)) l = absurd (omega arith)
+from-5 (suc (suc (suc zero))) l = absurd (omega arith)
+from-5 (suc (suc (suc (suc zero)))) l = absurd (omega arith)
+from-5 (suc (suc (suc (suc (suc n))))) l = refl
+
+module _ (rank : ℕ) where
+  pub kind-0 : rank < 3 → 1 ≡ kindBit (kindAt rank)
+  kind-0 l = let e : rank / 3 ≡ 0 = omega arith in rw e refl
+
+  pub kind-1 : ¬ (rank < 3) → rank < 6 → 2 ≡ kindBit (kindAt rank)
+  kind-1 n l = let e : rank / 3 ≡ 1 = omega arith in rw e refl
+
+  pub kind-2 : ¬ (rank < 6) → rank < 9 → 4 ≡ kindBit (kindAt rank)
+  kind-2 n l = let e : rank / 3 ≡ 2 = omega arith in rw e refl
+
+  pub kind-3 : ¬ (rank < 9) → 8 ≡ kindBit (kindAt rank)
+  kind-3 n = ap kindBit (sym (from-5 (2 ^ (rank / 3)) (let l : 2 ^ 3 ≤ 2 ^ (rank / 3) = pow-mono {i = 3} {j = rank / 3} (omega arith) in omega arith)))
 
 -- ---- One entry.
 
@@ -58,69 +79,39 @@ first-byte slip n = record { long = length-set slip 0 n; past = λ j l. getD-set
 -- ---- The loop.
 
 -- The number and the first i entries are written.
-pub record Writing (K : ℕ) (desk sheet : List ℕ) (f : Found) (before : List ℕ) (i : ℕ) (now : List ℕ) : Type 0 where
+pub record Writing (f : Found) (before : List ℕ) (i : ℕ) (now : List ℕ) : Type 0 where
   pub long : length now ≡ length before
   pub count : getD now 0 0 ≡ f .n
   pub past : (j : ℕ) → 1 + 3 * i ≤ j → getD now j 0 ≡ getD before j 0
-  pub class : (j : ℕ) → j < i → getD now (1 + 3 * j) 0 ≡ foundClass f j
-  pub kind : (j : ℕ) → j < i → getD now (1 + 3 * j + 1) 0 ≡ getD (f .kinds) j 0
-  pub source : (j : ℕ) → j < i
-      → SourceOf K desk sheet (foundClass f j) (foundClass f (nextPlace (f .n) j)) (getD (f .kinds) j 0) (getD now (1 + 3 * j + 2) 0)
+  pub bytes : (j k : ℕ) → j < i → k < 3 → getD now (1 + 3 * j + k) 0 ≡ getD (entryBytes (foundEntry f j)) k 0
 
-module _ {K : ℕ} {desk sheet : List ℕ} {f : Found} {before : List ℕ} where
-  pub writing-start : getD before 0 0 ≡ f .n → Writing K desk sheet f before 0 before
-  writing-start count =
-      record {
-        long = refl;
-        count = count;
-        past = λ j l. refl;
-        class = λ j l. absurd (omega arith);
-        kind = λ j l. absurd (omega arith);
-        source = λ j l. absurd (omega arith);
-      }
+module _ {f : Found} {before : List ℕ} where
+  pub writing-start : getD before 0 0 ≡ f .n → Writing f before 0 before
+  writing-start count = record { long = refl; count = count; past = λ j l. refl; bytes = λ j k l. absurd (omega arith) }
 
-  pub writing-step : {i source : ℕ} {now after : List ℕ} → Writing K desk sheet f before i now
-      → SourceOf K desk sheet (foundClass f i) (foundClass f (nextPlace (f .n) i)) (getD (f .kinds) i 0) source
-      → EntryWritten now i (foundClass f i) (getD (f .kinds) i 0) source after → Writing K desk sheet f before (i + 1) after
-  writing-step {i} W s w =
+  pub writing-step : {i kind source : ℕ} {now after : List ℕ} → Writing f before i now → kind ≡ kindBit (foundEntry f i .kind)
+      → source ≡ sourceNumber (foundEntry f i .source) → EntryWritten now i (foundEntry f i .class) kind source after → Writing f before (i + 1) after
+  writing-step {i} {after = after} W p q w =
       record {
         long = w .long ∙ W .long;
         count = w .below 0 (omega arith) ∙ W .count;
         past = λ j l. w .above j (omega arith) ∙ W .past j (omega arith);
-        class = λ j l. elim (ℕ-discrete j i) [ yes e ↦ rw e (w .class-at) | no n ↦ w .below (1 + 3 * j) (omega arith) ∙ W .class j (omega arith) ];
-        kind = λ j l. elim (ℕ-discrete j i) [ yes e ↦ rw e (w .kind-at) | no n ↦ w .below (1 + 3 * j + 1) (omega arith) ∙ W .kind j (omega arith) ];
-        source = λ j l.
-            elim (ℕ-discrete j i) [ yes e ↦ rw (e, w .source-at) s | no n ↦ rw (w .below (1 + 3 * j + 2) (omega arith)) (W .source j (omega arith)) ];
+        bytes = λ j k l m. elim (ℕ-discrete j i) [ yes e ↦ subst (λ (x : ℕ). getD after (1 + 3 * x + k) 0 ≡ getD (entryBytes (foundEntry f x)) k 0) (sym e) (here k m) | no n ↦ w .below (1 + 3 * j + k) (omega arith) ∙ W .bytes j k (omega arith) m ];
       }
+    where
+      here : (k : ℕ) → k < 3 → getD after (1 + 3 * i + k) 0 ≡ getD (entryBytes (foundEntry f i)) k 0
+      here zero m = ap (λ (x : ℕ). getD after x 0) (add-zero (1 + 3 * i)) ∙ w .class-at
+      here (suc zero) m = w .kind-at ∙ p
+      here (suc (suc zero)) m = w .source-at ∙ q
+      here (suc (suc (suc k))) m = absurd (omega arith)
 
--- ---- The slip as entries.
-
-module _ {K : ℕ} {desk sheet : List ℕ} {f : Found} {before now : List ℕ} (wr : Writable K f) (W : Writing K desk sheet f before (f .n) now) where
-  long : length (entriesOf now) ≡ f .n
-  long = length-tabulate (countOf now) (entryOf now) ∙ W .count
-
-  at : (i : ℕ) → i < f .n → entryAt (entriesOf now) i ≡ entryOf now i
-  at i l = getD-tabulate (countOf now) (entryOf now) _ i (rw (W .count) l)
-
-  byte-at : (i j : ℕ) → i < f .n → j < 3 → getD now (1 + 3 * i + j) 0 ≡ getD (entryBytes (entryOf now i)) j 0
-  byte-at i zero l m = ap (λ (x : ℕ). getD now x 0) (add-zero (1 + 3 * i))
-  byte-at i (suc zero) l m = W .kind i l ∙ wr .bytes i l ∙ sym (rw (W .kind i l) refl)
-  byte-at i (suc (suc zero)) l m = W .source i l .number
-  byte-at i (suc (suc (suc j))) l m = absurd (omega arith)
-
-  pub shown : {slip : List ℕ} → KeepsPast 1 slip before → Shown K desk sheet f slip now
-  shown k =
+  pub shown : {slip now : List ℕ} → Writing f before (f .n) now → KeepsPast 1 slip before → Shown f slip now
+  shown W k =
+      let long = length-tabulate (f .n) (foundEntry f) in
       record {
         keeps = record { long = W .long ∙ k .long; past = λ j l. W .past j l ∙ k .past j (omega arith) };
-        count = W .count;
         bytes = record {
-          count = sym (length-tabulate (countOf now) (entryOf now));
-          entries = λ i j l m. let k : i < f .n = rw long at l in byte-at i j k m ∙ ap (λ (e : Entry). getD (entryBytes e) j 0) (sym (at i k));
+          count = W .count ∙ sym long;
+          entries = λ i j l m. let h : i < f .n = rw long at l in W .bytes i j h m ∙ ap (λ (e : Entry). getD (entryBytes e) j 0) (sym (getD-tabulate (f .n) (foundEntry f) _ i h));
         };
-        cycle = λ is-closed cores marks locks rows sb mb r s.
-            cycle-of r s (entriesOf now) (wr .some) long (λ i l. rw (at i l) (W .class i l)) (λ i l. rw (at i l, W .kind i l) refl)
-            (λ i l.
-            rw (at i l)
-            (W .source i l .drawn is-closed cores marks locks (foundKind f i) sb mb (wr .bytes i l)
-            (s .some (wr .some) (record { locks = locks; marks = marks }) r .drawn i l)));
       }

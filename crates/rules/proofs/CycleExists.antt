@@ -18,26 +18,27 @@ use Rattle.rules.specs.Cycle.{Entry, entryAt, following, Cycle}
 use Rattle.rules.proofs.Booleans.{or-cases, and-cases}
 use Rattle.rules.proofs.Decided.{in-range}
 use Rattle.rules.proofs.Cycles.{cycle-sound}
-use Rattle.rules.proofs.Rounds.{Leg, Route, stay, pass, Round, Shorter, repeats, turned}
+use Rattle.rules.specs.Rounds.{Leg, Route, stay, pass, Round}
+use Rattle.rules.proofs.Rounds.{Shorter, repeats, turned}
 use Rattle.rules.proofs.Pigeons.{some-below, pigeons}
 
-source-of : (K : ℕ) (g : Graph) (f t : ℕ) (k : Kind) → dependency K g f t k ≡ true → (o : Source) × (dependencyBy o g f t k ≡ true)
+pub source-of : (K : ℕ) (g : Graph) (f t : ℕ) (k : Kind) → dependency K g f t k ≡ true → (o : Source) × (dependencyBy o g f t k ≡ true)
 unfolding dependency
 source-of K g f t k h =
     ⊎-elim (λ x. ⊎-elim (λ y. (lock, y)) (λ y. (irq hardIrq, y)) (or-cases (dependencyBy lock g f t k) _ x)) (λ x. (irq softIrq, x))
     (or-cases (dependencyBy lock g f t k || dependencyBy (irq hardIrq) g f t k) _ (and-cases (ltb f K && ltb t K) _ h .1))
 
 -- The entry behind the last is the first.
-following-at : (es : List Entry) (i : ℕ) → i < length es → entryAt (es ++ entryAt es 0 ∷ []) (suc i) ≡ following es i
+pub following-at : (es : List Entry) (i : ℕ) → i < length es → entryAt (es ++ entryAt es 0 ∷ []) (suc i) ≡ following es i
 following-at es i l = elim (decLt (suc i) (length es)) [
   | yes k ↦ rw (lt-ltb (suc i) (length es) k) (List·getD-append es _ _ (suc i) k)
   | no k ↦ rw (le-ltb (suc i) (length es) (omega arith)) (getD-at es _ [] _ (suc i) (omega arith))
 ]
 
 -- Entry e leads to entry f, and is strong there.
-record Leads (K : ℕ) (g : Graph) (e f : Entry) : Type 0 where
-  leg : Leg K g e (f .class)
-  strong : Joint (e .kind) (f .kind)
+pub record Leads (K : ℕ) (g : Graph) (e f : Entry) : Type 0 where
+  pub leg : Leg K g e (f .class)
+  pub strong : Joint (e .kind) (f .kind)
 
 module _ {K : ℕ} {g : Graph} where
   -- ---- A closed strong path is a round.
@@ -46,7 +47,9 @@ module _ {K : ℕ} {g : Graph} where
   entry-of {f} {t} {k} d = record { class = f; kind = k; source = source-of K g f t k (d .drawn) .0 }
 
   leg-of : {f t : ℕ} {k : Kind} (d : Dependency K g f k t) → Leg K g (entry-of d) t
-  leg-of {f} {t} {k} d = record { in-range = in-range K g f t k (d .drawn) .0; drawn = source-of K g f t k (d .drawn) .1 }
+  leg-of {f} {t} {k} d =
+      let l = in-range K g f t k (d .drawn) in
+      record { in-range = l .0; to-range = l .1; drawn = source-of K g f t k (d .drawn) .1 }
 
   route-of : {f t : ℕ} {k l : Kind} (b : Second) → strongJoint b (k .first) ≡ true → StrongPath K g f k t l
       → (es : List Entry) × Route K g f b es t (l .second) × (1 ≤ length es)
@@ -55,7 +58,7 @@ module _ {K : ℕ} {g : Graph} where
       let r = route-of (k .second) (i .strong) p in
       (entry-of d ∷ r .0, pass (leg-of d) j (r .1), omega arith)
 
-  path-round : (p : ClosedStrongPath K g) → (es : List Entry) × Round K g (p .at) es
+  pub path-round : (p : ClosedStrongPath K g) → (es : List Entry) × Round K g (p .at) es
   path-round p =
       let r = route-of (p .ends .second) (p .closing .strong) (p .path) in
       (r .0, record { letter = p .ends .second; route = r .1; not-empty = r .2 })
@@ -70,12 +73,12 @@ module _ {K : ℕ} {g : Graph} where
   leads (pass s j (pass t i w)) f q k zero l = record { leg = s; strong = record { strong = i } }
   leads (pass s j w) f q k (suc i) l = leads w f q k i (omega arith)
 
-  first-entry : {x y : ℕ} {b d : Second} {es : List Entry} → Route K g x b es y d → 1 ≤ length es
+  pub first-entry : {x y : ℕ} {b d : Second} {es : List Entry} → Route K g x b es y d → 1 ≤ length es
       → (entryAt es 0 .class ≡ x) × (strongJoint b (entryAt es 0 .kind .first) ≡ true)
   first-entry stay l = absurd (omega arith)
   first-entry (pass s j w) l = (refl, j)
 
-  round-cycle : {c : ℕ} {es : List Entry} → Round K g c es
+  pub round-cycle : {c : ℕ} {es : List Entry} → Round K g c es
       → ((i j : ℕ) → i < j → j < length es → entryAt es i .class ≡ entryAt es j .class → ⊥)
       → ((i : ℕ) → i < length es → ¬ (entryAt es i .class < c)) → Cycle K g es
   round-cycle {es = es} r once none-below =

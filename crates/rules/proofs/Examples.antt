@@ -1,18 +1,17 @@
--- The tables of examples hold of the rules, and the cycle that document 01 prints for P2 is one. Both by computation. Assumes nothing.
+-- The tables of examples hold of the rules, by computation. Assumes nothing.
 use mathlib.Core.Path.{_≡_, refl}
 use mathlib.Core.Bool.{true, false}
 use mathlib.Core.List.{[], _∷_, map}
-use Prim.Native.Nat.{ℕ, zero, suc, _<_}
-use native.Mathlib.Omega.{arith}
+use lib.ListN.{length}
 use Rattle.rules.specs.Record.{isMalformed}
 use Rattle.rules.specs.Decision.{cyclic, reaches}
 use Rattle.rules.specs.Verdict.{refusal}
 use Rattle.rules.specs.HeldLocks.{releaseNewest}
 use Rattle.rules.specs.Graph.{dependency}
 use Rattle.rules.specs.KindNames.{EN}
-use Rattle.rules.specs.Cycle.{Cycle}
+use Rattle.rules.specs.CycleDecision.{isCycle, found, leastCycle}
 use Rattle.rules.specs.Run.{start, answers, run, graphAt}
-use Rattle.rules.specs.Examples.{exclusive, read, recursive, tryExclusive, lockOf, DrawnCase, drawnCase, drawnCases, MarkCase, markCase, markCases, Example, p2Cycle, table, tries, example, p2, p6, allClean, endsWith, faultAt, takes, frees, does, says}
+use Rattle.rules.specs.Examples.{exclusive, read, recursive, tryExclusive, lockOf, DrawnCase, drawnCase, drawnCases, MarkCase, markCase, markCases, Example, cycleCases, CycleCase, cycleCase, table, tries, example, p2, p6, allClean, endsWith, faultAt, takes, frees, does, says}
 
 pub table-holds : map (λ (e : Example). answers 8 start (e .log)) table ≡ map (λ (e : Example). e .given) table
 unfolding table example p2 p6 allClean endsWith faultAt takes frees does says isMalformed refusal dependency cyclic
@@ -22,27 +21,14 @@ pub tries-hold : map (λ (e : Example). answers 4 start (e .log)) tries ≡ map 
 unfolding tries example allClean endsWith faultAt takes frees does says isMalformed refusal dependency cyclic
 tries-hold = refl
 
-of-two : (P : ℕ → Type 0) → P 0 → P 1 → (i : ℕ) → i < 2 → P i
-of-two P a b zero l = a
-of-two P a b (suc zero) l = b
-of-two P a b (suc (suc i)) l = absurd (omega arith)
+-- Each log of the table of cycles ends in a fault, and that is the cycle shown.
+pub cycles-close : map (λ (e : CycleCase). answers (e .classes) start (e .log)) cycleCases ≡ map (λ (e : CycleCase). faultAt (length (e .log))) cycleCases
+unfolding cycleCases cycleCase p2 endsWith faultAt takes frees does says isMalformed refusal dependency cyclic
+cycles-close = refl
 
-pub p2-cycle : Cycle 8 (graphAt 8 start p2 5) p2Cycle
-unfolding p2 takes frees says isMalformed refusal dependency cyclic
-p2-cycle =
-    record {
-      not-empty = omega arith;
-      at-most = omega arith;
-      in-range = of-two _ (omega arith) (omega arith);
-      drawn = of-two _ refl refl;
-      strong = of-two _ (record { strong = refl }) (record { strong = refl });
-      once = λ i j l m q.
-          let at-0 : i ≡ 0 = omega arith in
-          let at-1 : j ≡ 1 = omega arith in
-          let z : _≡_ {A = ℕ} 1 2 = rw (at-0, at-1) at q in
-          omega arith;
-      lowest-first = of-two _ (omega arith) (omega arith);
-    }
+pub cycles-shown : map (λ (e : CycleCase). leastCycle (e .classes) (run (e .classes) start (e .log) .graph)) cycleCases ≡ map (λ (e : CycleCase). found (e .shown)) cycleCases
+unfolding cycleCases cycleCase p2 takes frees does says isMalformed refusal dependency cyclic leastCycle isCycle
+cycles-shown = refl
 
 -- Rules that show in no answer, or in few: no dependency crosses frames, a try is marked unsafe and not safe, a release takes the newest.
 pub draws : map (λ (e : DrawnCase). run 5 start (e .log) .graph .locks (e .from) (e .to) EN) drawnCases ≡ map (λ (e : DrawnCase). e .drawn) drawnCases

@@ -10,4 +10,6 @@ pub mod Cycles
 pub mod Pigeons
 pub mod Rounds
 pub mod CycleExists
+pub mod Ranks
+pub mod LeastCycles
 pub mod Examples

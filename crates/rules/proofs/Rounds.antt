@@ -1,33 +1,15 @@
 -- Rounds of dependencies: one that passes a class twice has a shorter one in it, and one may begin at any of its classes. Assumes nothing.
 use mathlib.Core.Path.{_≡_, ap, _∙_}
-use mathlib.Core.Bool.{true}
-use mathlib.Core.List.{List, [], _∷_, _++_}
+use mathlib.Core.List.{List, _++_}
 use Prim.Native.Nat.{ℕ, zero, suc, _+_, _<_, _≤_}
 use native.Mathlib.Omega.{arith}
 use lib.ListN.{length, take, drop, length-append, length-take, length-drop}
 use lib.Seq.{getD-take}
 use Rattle.rules.specs.HeldLocks.{Second, R, N}
-use Rattle.rules.specs.Graph.{Graph, dependencyBy}
-use Rattle.rules.specs.StrongPath.{strongJoint}
+use Rattle.rules.specs.Graph.{Graph}
 use Rattle.rules.specs.Cycle.{Entry, entryAt}
+use Rattle.rules.specs.Rounds.{Route, stay, pass, Round}
 use Rattle.rules.proofs.Decided.{joint-after-N}
-
--- The entry's dependency goes to class z.
-pub record Leg (K : ℕ) (g : Graph) (e : Entry) (z : ℕ) : Type 0 where
-  pub in-range : e .class < K
-  pub drawn : dependencyBy (e .source) g (e .class) z (e .kind) ≡ true
-
--- The entries lead from class x, arrived at by b, to class y, arrived at by d.
-pub data Route (K : ℕ) (g : Graph) : (x : ℕ) (b : Second) (es : List Entry) (y : ℕ) (d : Second) → Type 0 where
-  stay : {x : ℕ} {b : Second} → Route K g x b [] x b
-  pass : {z y : ℕ} {b d : Second} {e : Entry} {es : List Entry} → Leg K g e z → strongJoint b (e .kind .first) ≡ true
-      → Route K g z (e .kind .second) es y d → Route K g (e .class) b (e ∷ es) y d
-
--- One or more entries from class c back to c. They begin as after the letter that the last arrives by, so they are strong where they close.
-pub record Round (K : ℕ) (g : Graph) (c : ℕ) (es : List Entry) : Type 0 where
-  pub letter : Second
-  pub route : Route K g c letter es c letter
-  pub not-empty : 1 ≤ length es
 
 -- A round of fewer than n entries.
 pub record Shorter (K : ℕ) (g : Graph) (n : ℕ) : Type 0 where
@@ -37,17 +19,17 @@ pub record Shorter (K : ℕ) (g : Graph) (n : ℕ) : Type 0 where
   pub less : length entries < n
 
 module _ {K : ℕ} {g : Graph} where
-  connect : {x y z : ℕ} {b d f : Second} {es fs : List Entry} → Route K g x b es y d → Route K g y d fs z f → Route K g x b (es ++ fs) z f
+  pub connect : {x y z : ℕ} {b d f : Second} {es fs : List Entry} → Route K g x b es y d → Route K g y d fs z f → Route K g x b (es ++ fs) z f
   connect stay v = v
   connect (pass s j w) v = pass s j (connect w v)
 
   -- What goes on after R goes on after N.
-  raise : {x y : ℕ} {b d : Second} {es : List Entry} → Route K g x b es y d → 1 ≤ length es → Route K g x N es y d
+  pub raise : {x y : ℕ} {b d : Second} {es : List Entry} → Route K g x b es y d → 1 ≤ length es → Route K g x N es y d
   raise stay l = absurd (omega arith)
   raise (pass {e = e} s j w) l = pass s (joint-after-N K g (e .kind .first)) w
 
   -- A route, cut before its entry i.
-  cut : {x y : ℕ} {b d : Second} {es : List Entry} → Route K g x b es y d → (i : ℕ) → i < length es
+  pub cut : {x y : ℕ} {b d : Second} {es : List Entry} → Route K g x b es y d → (i : ℕ) → i < length es
       → (a : Second) × Route K g x b (take i es) (entryAt es i .class) a × Route K g (entryAt es i .class) a (drop i es) y d
   cut stay i l = absurd (omega arith)
   cut (pass {b = b} s j w) zero l = (b, stay, pass s j w)

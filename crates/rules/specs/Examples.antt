@@ -1,4 +1,4 @@
--- Document 01, "Logs for the bench": P1 to P12 with their variants and the refusal logs, as one table under one claim; request a in another.
+-- Document 01, "Logs for the bench": P1 to P12 with their variants and the refusal logs, as one table under one claim; requests a and c in tables of their own.
 use mathlib.Core.Bool.{Bool, true, false}
 use mathlib.Core.List.{List, [], _∷_, _++_}
 use Prim.Native.Nat.{ℕ, _+_, pred}
@@ -7,8 +7,8 @@ use Rattle.rules.specs.Record.{Bytes}
 use Rattle.rules.specs.Context.{exitHard}
 use Rattle.rules.specs.HeldLocks.{E, N, HeldLock}
 use Rattle.rules.specs.Marks.{Level, hardIrq, softIrq, Usage, safe, unsafe}
-use Rattle.rules.specs.Graph.{lock}
-use Rattle.rules.specs.KindNames.{EN}
+use Rattle.rules.specs.Graph.{Kind, Source, lock, irq}
+use Rattle.rules.specs.KindNames.{ER, EN, SN}
 use Rattle.rules.specs.Cycle.{Entry}
 
 -- ---- Records: an acquire, a release, an interrupt event. The document's E, r, R are the modes exclusive, read, recursive.
@@ -84,10 +84,6 @@ example log given = record { log = log; given = given }
 unfoldable pub p2 : List Bytes
 p2 = takes 0 1 exclusive ∷ takes 0 2 exclusive ∷ frees 0 2 ∷ frees 0 1 ∷ takes 1 2 exclusive ∷ takes 1 1 exclusive ∷ []
 
--- What the document prints for P2: "1 EN 2 hold", "2 EN 1 hold".
-abbrev pub p2Cycle : List Entry
-p2Cycle = record { class = 1; kind = EN; source = lock } ∷ record { class = 2; kind = EN; source = lock } ∷ []
-
 unfoldable pub p6 : List Bytes
 p6 = takes 0 0 recursive ∷ takes 0 0 recursive ∷ []
 
@@ -152,6 +148,52 @@ tries =
     ∷ example (takes 0 1 recursive ∷ takes 0 1 tryExclusive ∷ frees 0 1 ∷ takes 0 2 exclusive ∷ takes 1 2 exclusive ∷ takes 1 1 recursive ∷ []) (allClean 6)
     -- a try of class K; mode 6, before 4; a release of a try with its mode, and with mode 0
     ∷ example (takes 0 4 tryExclusive ∷ takes 0 4 6 ∷ takes 0 1 tryExclusive ∷ says 0 1 1 tryExclusive ∷ frees 0 1 ∷ []) (4 ∷ 3 ∷ 0 ∷ 3 ∷ 0 ∷ [])
+    ∷ []
+
+-- ---- Request c: which cycle is shown, where one record closes several.
+
+abbrev pub goes : ℕ → Kind → Source → Entry
+goes class kind source = record { class = class; kind = kind; source = source }
+
+pub record CycleCase : Type 0 where
+  pub classes : ℕ
+  pub log : List Bytes
+  pub shown : List Entry
+
+unfoldable pub cycleCase : ℕ → List Bytes → List Entry → CycleCase
+cycleCase classes log shown = record { classes = classes; log = log; shown = shown }
+
+unfoldable pub cycleCases : List CycleCase
+cycleCases =
+    -- P2, as the document prints it
+    cycleCase 3 p2 (goes 1 EN lock ∷ goes 2 EN lock ∷ [])
+    -- the kind before the next class: 0 ER 2 before 0 EN 1
+    ∷ cycleCase 3
+    (takes 0 0 exclusive ∷ takes 0 1 exclusive ∷ frees 0 1 ∷ takes 0 2 recursive ∷ frees 0 2 ∷ frees 0 0 ∷ takes 1 1 exclusive ∷ takes 1 2 exclusive
+    ∷ takes 1 0 exclusive ∷ [])
+    (goes 0 ER lock ∷ goes 2 EN lock ∷ [])
+    -- the source before the next class: 0 EN 2 by a lock before 0 EN 1 by a hard interrupt
+    ∷ cycleCase 3
+    (does 0 enterHard ∷ takes 0 1 exclusive ∷ frees 0 1 ∷ does 0 exitHard ∷ takes 0 0 exclusive ∷ does 0 hardOff ∷ takes 0 2 exclusive ∷ does 1 hardOff
+    ∷ takes 1 2 exclusive ∷ takes 1 1 exclusive ∷ takes 1 0 exclusive ∷ [])
+    (goes 0 EN lock ∷ goes 2 EN lock ∷ [])
+    -- the kind before the source: 0 ER 1 by a hard interrupt before 0 EN 1 by a lock
+    ∷ cycleCase 2
+    (does 0 enterHard ∷ takes 0 1 recursive ∷ frees 0 1 ∷ does 0 exitHard ∷ takes 0 0 exclusive ∷ does 0 hardOff ∷ takes 0 1 exclusive ∷ does 1 hardOff
+    ∷ takes 1 1 exclusive ∷ takes 1 0 exclusive ∷ [])
+    (goes 0 ER (irq hardIrq) ∷ goes 1 EN lock ∷ [])
+    -- 0 ER 1 is barred by the joint at 1, and 1 ER 0 by the closing joint
+    ∷ cycleCase 2
+    (takes 0 0 exclusive ∷ takes 0 1 recursive ∷ frees 0 1 ∷ takes 0 1 exclusive ∷ takes 1 1 read ∷ takes 1 0 exclusive ∷ [])
+    (goes 0 EN lock ∷ goes 1 SN lock ∷ [])
+    ∷ cycleCase 2
+    (takes 0 1 exclusive ∷ takes 0 0 recursive ∷ frees 0 0 ∷ takes 0 0 exclusive ∷ takes 1 0 read ∷ takes 1 1 exclusive ∷ [])
+    (goes 0 SN lock ∷ goes 1 EN lock ∷ [])
+    -- the fewest before the lowest: 2, 3 before 0, 1, 2
+    ∷ cycleCase 4
+    (takes 0 2 exclusive ∷ takes 0 3 exclusive ∷ frees 0 3 ∷ takes 0 0 exclusive ∷ frees 0 2 ∷ takes 0 1 exclusive ∷ takes 1 1 exclusive ∷ takes 1 3 exclusive
+    ∷ takes 1 2 exclusive ∷ [])
+    (goes 2 EN lock ∷ goes 3 EN lock ∷ [])
     ∷ []
 
 -- ---- What is drawn, where no answer from opening shows it.

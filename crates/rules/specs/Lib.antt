@@ -9,6 +9,10 @@ pub mod KindNames
 pub mod StrongPath
 pub mod Decision
 pub mod Cycle
+pub mod LeastCycle
+pub mod Rounds
+pub mod Ranks
+pub mod CycleDecision
 pub mod Verdict
 pub mod Run
 pub mod TwoRuns

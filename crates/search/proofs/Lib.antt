@@ -1,5 +1,3 @@
-pub mod Choices
+pub mod Sets
 pub mod Visits
-pub mod Orders
 pub mod Paths
-pub mod Reported

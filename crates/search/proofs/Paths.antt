@@ -1,96 +1,19 @@
--- The search against the rules' strong paths. Assumes nothing.
+-- The question's search against the rules' strong paths. Assumes nothing.
 use mathlib.Core.Path.{_≡_, refl, subst}
 use mathlib.Core.Bool.{Bool, true, false}
 use mathlib.Core.Logic.{_⊎_, inl, inr, ⊎-elim}
 use mathlib.Core.List.{List}
 use Prim.Native.Nat.{ℕ, _-_, _<_}
 use native.Mathlib.Omega.{arith}
-use lib.Pow.{pow-pos}
 use Rattle.words.specs.Bits.{bit, Without}
-use Rattle.words.proofs.Words.{bit-zero, bit-cases}
 use Rattle.rules.specs.HeldLocks.{First, Second, E, S, R, N}
 use Rattle.rules.specs.Graph.{Kind, Graph}
-use Rattle.rules.specs.StrongPath.{strongJoint, Dependency, Joint, StrongPath, one, more, Reaches}
-use Rattle.rules.specs.Decision.{cyclic}
-use Rattle.rules.proofs.Decided.{in-range, cyclic-sound}
+use Rattle.rules.specs.StrongPath.{strongJoint, StrongPath, one, more, Reaches}
 use Rattle.search.specs.Rows.{Successor, Rows, Ranged, Reached}
-use Rattle.search.specs.Arrivals.{wordBy, In, size, Fits, Put, kindBy, Union, Onward}
-use Rattle.search.specs.Trails.{Ends, ends, Closed, Exhausted, Given, Visited}
-use Rattle.search.specs.Reports.{Searched}
+use Rattle.search.specs.Arrivals.{wordBy, none, In, size, Fits, Put, kindBy, Union, Onward, After}
 use Rattle.search.specs.declared.Arrivals.{Arrivals}
-use Rattle.search.specs.declared.Trail.{Trail}
-use Rattle.search.specs.declared.Found.{Found}
-use Rattle.search.proofs.Choices.{empty, no-arrival, size-bound}
-use Rattle.search.proofs.Visits.{after-N, weaken}
-
-module _ {K : ℕ} {g : Graph} where
-  -- A strong path with one dependency more.
-  snoc : {f t u : ℕ} {k l m : Kind} → StrongPath K g f k t l → Joint l m → Dependency K g t m u → StrongPath K g f k u m
-  snoc (one d) j e = more d j (one e)
-  snoc (more d i p) j e = more d i (snoc p j e)
-
-  starts-in : {f t : ℕ} {k l : Kind} → StrongPath K g f k t l → f < K
-  starts-in (one {f} {t} {k} d) = in-range K g f t k (d .drawn) .0
-  starts-in (more {f} {m} {k = k} d i p) = in-range K g f m k (d .drawn) .0
-
-  -- ---- Where all strong paths end there is no closed one.
-
-  module _ {rows : List ℕ} (r : Rows K g rows) where
-    no-closed : {x : ℕ} {a : Second} {k l : Kind} → Ends rows x a → StrongPath K g x k x l → l .second ≡ a → strongJoint a (k .first) ≡ true → ⊥
-    no-closed {x} {a} {k} (ends h) (one d) e j = no-closed (h x k j (r .complete x k x (d .drawn))) (one d) refl (rw e j)
-    no-closed {x} {a} {k} {l} (ends h) (more {m = m} d i p) e j =
-        no-closed (h m k j (r .complete x k m (d .drawn))) (snoc p (record { strong = rw e j }) d) refl (i .strong)
-
-    by-any : {x : ℕ} (a : Second) → Ends rows x N → Ends rows x a
-    by-any N h = h
-    by-any R (ends h) = ends (λ j k i s. h j k (weaken (k .first) i) s)
-
-    pub not-cyclic : ((j : ℕ) → j < K → Ends rows j N) → cyclic K g ≡ false
-    not-cyclic h = by (cyclic K g) refl
-      where
-        by : (b : Bool) → cyclic K g ≡ b → cyclic K g ≡ false
-        by false e = e
-        by true e =
-            let c = cyclic-sound K g e in
-            absurd (no-closed (by-any (c .ends .second) (h (c .at) (starts-in (c .path)))) (c .path) refl (c .closing .strong))
-
-pub fresh-settled : {rows : List ℕ} → Exhausted rows (record { r = 0; n = 0 }) (record { r = 0; n = 0 })
-fresh-settled = record { kept = λ j b h. h; over = λ j b h. absurd (no-arrival j b h); fits = record { r = omega arith; n = omega arith } }
-
-module _ {rows : List ℕ} {K : ℕ} where
-  pub none-law : {s : Arrivals} {f : Found} → f .n ≡ 0 → Exhausted rows s s → ((j : ℕ) → j < K → In s j N) → Searched K rows f
-  none-law z c all =
-      record {
-        none = λ _ g r. not-cyclic r (λ j l. c .over j N (all j l));
-        some = λ l. absurd (omega arith);
-        few = omega arith;
-        inside = λ i l. absurd (omega arith);
-        bytes = λ i l. absurd (omega arith);
-        once = λ i j l m. absurd (omega arith);
-        lowest-first = λ i l. absurd (omega arith);
-      }
-
-  pub root : {c : ℕ} {s : Arrivals} → Ranged K rows → c < K → Exhausted rows s s → Given rows K c (record { on = 0; e = 0 }) s K
-  root {c} ranged l settled =
-      record {
-        ranged = ranged;
-        class = l;
-        fresh = bit-zero c;
-        inside = pow-pos K;
-        e-on = λ j h. h;
-        on-e = λ j h. inl h;
-        enough = omega arith;
-        least = omega arith;
-        settled = settled;
-      }
-
-  -- No class is on the stack, so a trail that is found is a cycle.
-  pub root-closed : {c : ℕ} {s : Arrivals} {u : Trail} → Visited rows K c N (record { on = 0; e = 0 }) K s u → (u .found ≡ 0 → ⊥) → Closed rows K u
-  root-closed {u = u} v n =
-      let not-open : u .found ≡ 1 → ⊥ = λ e. empty (u .target) refl (v .open′ e .known) in
-      v .closed (omega (arith, v .cases))
-
--- ---- The worklist.
+use Rattle.search.proofs.Sets.{no-arrival, size-bound, none-left}
+use Rattle.search.proofs.Visits.{after-N, snoc}
 
 -- Class t ends a strong path from class c, and is arrived at by a.
 pub record Arrives (K : ℕ) (g : Graph) (c t : ℕ) (a : Second) : Type 0 where
@@ -98,12 +21,6 @@ pub record Arrives (K : ℕ) (g : Graph) (c t : ℕ) (a : Second) : Type 0 where
   pub ends-by : Kind
   pub path : StrongPath K g c begins t ends-by
   pub arrival : ends-by .second ≡ a
-
--- t is s with the arrivals that follow x, arrived at by a.
-pub record After (rows : List ℕ) (x : ℕ) (a : Second) (s t : Arrivals) : Type 0 where
-  pub kept : (j : ℕ) (b : Second) → In s j b → In t j b
-  pub all : (j : ℕ) (f : First) (b : Second) → strongJoint a f ≡ true → Successor rows x (kindBy f b) j → In t j b
-  pub only : (j : ℕ) (b : Second) → In t j b → In s j b ⊎ ((f : First) × (strongJoint a f ≡ true) × Successor rows x (kindBy f b) j)
 
 pub after-r : {rows : List ℕ} {x : ℕ} {s t : Arrivals} → Onward rows x E s t → After rows x R s t
 after-r o =
@@ -133,7 +50,7 @@ pub progress-less : {e d : Arrivals} {i : ℕ} (a : Second) → Put i a e d → 
 progress-less a p z = omega (arith, p .more z, size-bound (p .fits))
 
 module _ {rows : List ℕ} {K c : ℕ} (ranged : Ranged K rows) (less : c < K) where
-  pub progress-none : {s : Arrivals} → After rows c N (record { r = 0; n = 0 }) s → Progress rows K c s (record { r = 0; n = 0 })
+  pub progress-none : {s : Arrivals} → After rows c N none s → Progress rows K c s none
   progress-none {s} o =
       record {
         inside = λ j b h. let m = new j b h in ranged .inside c (kindBy (m .0) b) j less (m .2);
@@ -165,9 +82,6 @@ module _ {rows : List ℕ} {K c : ℕ} (ranged : Ranged K rows) (less : c < K) w
             (λ q. o .all j f v (subst (λ (w : Second). strongJoint w f ≡ true) (q .1) z) (subst (λ (w : ℕ). Successor rows w (kindBy f v) j) (q .0) n)) (put .only x b m);
         fits = put .fits;
       }
-
-none-left : {w v r : ℕ} → Without w v r → r ≡ 0 → (j : ℕ) → j < 64 → bit w j ≡ 1 → bit v j ≡ 1
-none-left {v = v} wo e j l m = ⊎-elim (λ y. y) (λ y. absurd (empty j e (wo .all j l m y))) (bit-cases v j)
 
 module _ {rows : List ℕ} {K c : ℕ} where
   pub reached-law : {s e : Arrivals} {w r n : ℕ} → Ranged K rows → Progress rows K c s e → Without (s .r) (e .r) r → r ≡ 0 → Without (s .n) (e .n) n → n ≡ 0

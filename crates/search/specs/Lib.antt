@@ -1,4 +1,3 @@
 pub mod Rows
 pub mod Arrivals
-pub mod Trails
-pub mod Reports
+pub mod Walk

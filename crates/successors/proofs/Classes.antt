@@ -29,7 +29,7 @@ row-inside {c} {k} {n} h r =
 
 -- ---- The words of a class.
 
-safe-at : (l : Level) (b : Second) (desk : List ℕ) (k : ℕ) (w : SafeWords) → SafeColumns desk k (levelDigit l) w
+pub safe-at : (l : Level) (b : Second) (desk : List ℕ) (k : ℕ) (w : SafeWords) → SafeColumns desk k (levelDigit l) w
     → safeOf w b ≡ column desk marksAt (usageDigit (safe b) + levelDigit l) k
 safe-at hardIrq N desk k w s = s .n
 safe-at hardIrq R desk k w s = s .r

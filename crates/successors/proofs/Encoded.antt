@@ -33,13 +33,13 @@ or-assoc false b c = refl
 flag-three : (a b c : Bool) → max (flag a) (max (flag b) (flag c)) ≡ flag (a || b || c)
 flag-three a b c = ap (max (flag a)) (flag-or b c) ∙ flag-or a (b || c) ∙ ap flag (or-assoc a b c)
 
-flag-and : (a b : Bool) → min (flag b) (flag a) ≡ flag (a && b)
+pub flag-and : (a b : Bool) → min (flag b) (flag a) ≡ flag (a && b)
 flag-and true true = refl
 flag-and true false = refl
 flag-and false true = refl
 flag-and false false = refl
 
-flag-true : (a : Bool) → flag a ≡ 1 → a ≡ true
+pub flag-true : (a : Bool) → flag a ≡ 1 → a ≡ true
 flag-true true h = refl
 flag-true false h = absurd (omega arith)
 
@@ -70,14 +70,14 @@ ranged-law desk sheet k rows h f =
 
 module _ (K : ℕ) (is-closed : Bool) (cores : ℕ → Core) (marks : Marks) (locks : Dependencies) (desk sheet : List ℕ)
     (s : DeskBytes K is-closed cores marks desk) (m : SheetBytes K locks sheet) where
-  mark-digit : (c : ℕ) (l : Level) (u : Usage) → c < 64 → bit (markOf desk c) (usageDigit u + levelDigit l) ≡ flag (marks c l u)
+  pub mark-digit : (c : ℕ) (l : Level) (u : Usage) → c < 64 → bit (markOf desk c) (usageDigit u + levelDigit l) ≡ flag (marks c l u)
   mark-digit c l u h =
       let f = mark-flag marks c l u in
       ap (λ (x : ℕ). bit x (usageDigit u + levelDigit l)) (s .usage c h)
       ∙ ap (λ (x : ℕ). bit x (usageDigit u + levelDigit l)) (mark-packed marks c)
       ∙ bit-pack 8 (λ i. getD (markFlags marks c) i false) (usageDigit u + levelDigit l) (f .0) ∙ ap flag (f .1)
 
-  kind-digit : (f t : ℕ) (a : First) (b : Second) → f < K → t < K
+  pub kind-digit : (f t : ℕ) (a : First) (b : Second) → f < K → t < K
       → bit (kindsOf sheet K f t) (kindIndex (record { first = a; second = b })) ≡ flag (locks f t (record { first = a; second = b }))
   kind-digit f t a b hf ht =
       let e = kind-flag locks f t a b in

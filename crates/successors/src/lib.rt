@@ -73,7 +73,7 @@ fn joined(high: KindWords, low: KindWords) -> KindWords
 }
 
 // The words of the lock dependencies in the row of k bytes at a place of the sheet.
-fn lock_words(sheet: &[u8], at: usize, k: usize) -> KindWords
+pub fn lock_words(sheet: &[u8], at: usize, k: usize) -> KindWords
     requires { ⌜ (k ≤ 64) × (at + k ≤ length (now sheet)) ⌝ }
     ensures { λ r. ⌜ Columns (now (sheet .entry)) at k r ⌝ }
 {
@@ -89,15 +89,15 @@ fn lock_words(sheet: &[u8], at: usize, k: usize) -> KindWords
 // ---- Interrupt dependencies: by words.
 
 // The digits of the usage marks in a mark byte: a level's first digit, and the place of the mark from there.
-const HARD_DIGITS: u32 = 0;
+pub const HARD_DIGITS: u32 = 0;
 
-const SOFT_DIGITS: u32 = 4;
+pub const SOFT_DIGITS: u32 = 4;
 
 const SAFE_R: u32 = 1;
 
-const UNSAFE_E: u32 = 2;
+pub const UNSAFE_E: u32 = 2;
 
-const UNSAFE_S: u32 = 3;
+pub const UNSAFE_S: u32 = 3;
 
 fn digit(byte: u8, d: u32) -> u64
     requires { ⌜ d < 8 ⌝ }
@@ -122,7 +122,7 @@ fn marked(desk: &[u8], k: usize, d: u32) -> u64
 }
 
 // The safe marks of the level whose first digit is d.
-fn safe_words(desk: &[u8], k: usize, d: u32) -> SafeWords
+pub fn safe_words(desk: &[u8], k: usize, d: u32) -> SafeWords
     requires { ⌜ (deskSize ≤ length (now desk)) × (k ≤ 64) × (d < 7) ⌝ }
     ensures { λ r. ⌜ SafeColumns (now (desk .entry)) k d r ⌝ }
 {
@@ -133,7 +133,7 @@ fn safe_words(desk: &[u8], k: usize, d: u32) -> SafeWords
 }
 
 // The word, where the mark byte has the digit d.
-fn picked(mark: u8, d: u32, word: u64) -> u64
+pub fn picked(mark: u8, d: u32, word: u64) -> u64
     requires { ⌜ d < 8 ⌝ }
     ensures { λ r. ⌜ ((t : ℕ) → bit r t ≡ min (bit mark d) (bit word t)) ⌝ }
 {

@@ -1,3 +1,4 @@
 pub mod Fitness
 pub mod Conclusions
 pub mod Outcomes
+pub mod Reports

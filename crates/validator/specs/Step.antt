@@ -5,18 +5,19 @@ use mathlib.Core.List.{List}
 use Prim.Native.Nat.{ℕ, _<_}
 use lib.ListN.{length}
 use Rattle.rules.specs.Graph.{Graph}
-use Rattle.rules.specs.Cycle.{Entry, Cycle}
+use Rattle.rules.specs.Cycle.{Entry}
+use Rattle.rules.specs.LeastCycle.{LeastCycle}
 use Rattle.rules.specs.Verdict.{unfit, number}
 use Rattle.rules.specs.Run.{State, step}
 use Rattle.layout.specs.Layout.{deskSize, sheetSize, slipSize, classesOf, KeepsPast}
 use Rattle.layout.specs.Decoding.{view, StandFor, SlipBytes}
 use Rattle.layout.specs.Fit.{fitsAll}
 
--- With a fault: a cycle of the graph stands in the slip's first bytes, and the bytes past them stay. Which cycle is the program's choice; `Cycle`
--- says what every choice has in common.
+-- With a fault: the least cycle of the graph stands in the slip's first bytes, and the bytes past them stay. There is one such cycle only
+-- (crates/rules/proofs/LeastCycles.antt), so every byte of the slip is settled.
 pub record Reported (K : ℕ) (g : Graph) (slip slip′ : List ℕ) : Type 0 where
   pub entries : List Entry
-  pub cycle : Cycle K g entries
+  pub least : LeastCycle K g entries
   pub bytes : SlipBytes entries slip′
   pub keeps : KeepsPast (slipSize (length entries)) slip slip′
 

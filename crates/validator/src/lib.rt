@@ -15,7 +15,8 @@ use layout::STATES_AT;
 use record::CORE_AT;
 use record::is_malformed;
 use report::show;
-use search::find_cycle;
+use search::is_cyclic;
+use shortest::shortest_cycle;
 use successors::successors;
 use update::mark;
 ghost use Prim.Native.Nat.{_<_, _≤_};
@@ -36,11 +37,10 @@ fn conclude(desk: &mut [u8], sheet: &[u8], slip: &mut [u8], core: usize) -> u8
     let context = desk[STATES_AT + core] as usize;
     mark(desk, frame, k, context);
     let rows = successors(desk, sheet, k);
-    let found = find_cycle(&rows, k as u32);
-    if found.n == 0 {
+    if !is_cyclic(&rows, k as u32) {
         return OK;
     }
-    show(desk, sheet, slip, k, found);
+    show(slip, shortest_cycle(desk, sheet, &rows, k));
     desk[CLOSED_AT] = 1;
     FAULT
 }

@@ -1,6 +1,6 @@
 use borrow.Author.Needs.{needs}
 use native.Mathlib.Omega.{arith}
-use Rattle.search.proofs.Choices.{first-small, onward-law}
+use Rattle.search.proofs.Sets.{first-small, onward-law}
 use Rattle.search.proofs.onward.Statement.{statement}
 use Rattle.search.proofs.onward.Tie as tie
 

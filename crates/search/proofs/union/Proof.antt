@@ -1,4 +1,4 @@
-use Rattle.search.proofs.Choices.{union-law}
+use Rattle.search.proofs.Sets.{union-law}
 use Rattle.search.proofs.union.Statement.{statement}
 use Rattle.search.proofs.union.Tie as tie
 

@@ -1,19 +1,12 @@
 use Prim.Native.Nat.{_+_}
+use borrow.Author.Needs.{needs}
+use borrow.Author.Tests.{not-true, not-false}
 use native.Mathlib.Omega.{arith}
 use Rattle.layout.specs.Layout.{statesAt}
 use Rattle.action.proofs.Bytes.{state-less, held-in}
-use Rattle.report.proofs.Writing.{writable}
 use Rattle.validator.proofs.Conclusions.{conclude-clean, conclude-fault}
-use borrow.Author.Needs.{needs}
 use Rattle.validator.proofs.conclude.Statement.{statement}
 use Rattle.validator.proofs.conclude.Tie as tie
-use Rattle.validator.proofs.conclude.Reads as reads
-use Rattle.validator.proofs.conclude.Lts as lts
-use Rattle.action.proofs.frame_of.Reads as frame-of-reads
-use Rattle.report.proofs.show.Reads as show-reads
-use Rattle.search.proofs.find_cycle.Reads as find-cycle-reads
-use Rattle.successors.proofs.successors.Reads as successors-reads
-use Rattle.update.proofs.mark.Reads as mark-reads
 
 slice-read-k : tie.Need-slice-read-k
 slice-read-k c = search needs
@@ -22,10 +15,7 @@ cast-k : tie.Need-cast-k
 cast-k c = search needs
 
 frame-of-requires : tie.Need-frame-of-requires
-frame-of-requires c κs =
-    let p = c .before .before .before .before .before .pre in
-    let a = c .before .before .before .before .before .args in
-    (p .0 .encodes .long, p .1, state-less (a .desk .now) (p .0) (a .core) (p .1))
+frame-of-requires c κs = (c .before .before .before .before .before .pre .0 .encodes .long, c .before .before .before .before .before .pre .1, state-less (c .before .before .before .before .before .args .desk .now) (c .before .before .before .before .before .pre .0) (c .before .before .before .before .before .args .core) (c .before .before .before .before .before .pre .1))
 
 add-context : tie.Need-add-context
 add-context c = search needs
@@ -34,10 +24,7 @@ slice-read-context : tie.Need-slice-read-context
 slice-read-context c = search needs
 
 cast-context : tie.Need-cast-context
-cast-context c =
-    let p = c .before .before .before .before .before .before .before .pre in
-    let a = c .before .before .before .before .before .before .before .args in
-    omega (arith, c .slice-known4 .given (statesAt + a .core))
+cast-context c = let p = c .before .before .before .before .before .before .before .pre in omega (arith, c .slice-known4 .given (statesAt + c .before .before .before .before .before .before .before .args .core))
 
 mark-requires : tie.Need-mark-requires
 mark-requires c κs =
@@ -48,35 +35,28 @@ mark-requires c κs =
 successors-requires : tie.Need-successors-requires
 successors-requires c κs = search needs
 
-cast-find-cycle : tie.Need-cast-find-cycle
-cast-find-cycle c = search needs
+cast-is-cyclic : tie.Need-cast-is-cyclic
+cast-is-cyclic c = search needs
 
-find-cycle-requires : tie.Need-find-cycle-requires
-find-cycle-requires c κs = search needs
+is-cyclic-requires : tie.Need-is-cyclic-requires
+is-cyclic-requires c κs = search needs
 
 same-length : tie.Need-same-length
 same-length c = search needs
 
 returns : tie.Need-returns
 returns c =
-    let p = c .before .before .before .before .before .before .before .before .before .before .before .before .before .before .before .before .before .pre in
-    let a = c .before .before .before .before .before .before .before .before .before .before .before .before .before .before .before .before .before .args in
-    conclude-clean _ _ _ _ (p .0 .few) (p .1) _ _ _ (rw (c .before .before .before .before .before .before .before .before .before .before .before .frame-of .ensures) at (c .before .before .before .before .before .before .before .before .mark .ensures .0)) (c .before .before .before .before .successors .ensures) (c .before .before .find-cycle .ensures) (c .if1 .taken)
+    let p = c .before .before .before .before .before .before .before .before .before .before .before .before .before .before .before .before .pre in
+    conclude-clean _ _ _ _ (p .0 .few) (p .1) _ _ (rw (c .before .before .before .before .before .before .before .before .before .before .frame-of .ensures) at (c .before .before .before .before .before .before .before .mark .ensures .0)) (c .before .before .before .successors .ensures) (c .before .is-cyclic .ensures) (not-true _ (c .if1 .taken))
+
+shortest-cycle-requires : tie.Need-shortest-cycle-requires
+shortest-cycle-requires c κs = search needs
 
 show-requires : tie.Need-show-requires
-show-requires c κs =
-    let p = c .before .before .before .before .before .before .before .before .before .before .before .before .before .before .before .before .before .before .before .pre in
-    let a = c .before .before .before .before .before .before .before .before .before .before .before .before .before .before .before .before .before .before .before .args in
-    let n = c .before .before .if1 .left in
-    let e = c .before .before .before .before .before .before .before .before .before .before .mark .ensures .0 .keeps .long in
-    let l = p .0 .encodes .long in
-    (omega arith, p .0 .few, p .2, p .3, writable (c .before .before .before .before .find-cycle .ensures) (omega arith))
+show-requires c κs = (omega (arith, c .shortest-cycle .ensures .few, c .before .before .before .before .before .before .before .before .before .before .before .before .before .before .before .before .before .before .before .before .pre .0 .few), omega (arith, c .shortest-cycle .ensures .few, c .before .before .before .before .before .before .before .before .before .before .before .before .before .before .before .before .before .before .before .before .pre .3))
 
 slice-write-desk : tie.Need-slice-write-desk
-slice-write-desk c =
-    let p = c .before .before .before .before .before .before .before .before .before .before .before .before .before .before .before .before .before .before .before .before .before .before .pre in
-    let a = c .before .before .before .before .before .before .before .before .before .before .before .before .before .before .before .before .before .before .before .before .before .before .args in
-    let e = c .before .before .before .before .before .before .before .before .before .before .before .before .before .mark .ensures .0 .keeps .long in let l = p .0 .encodes .long in omega arith
+slice-write-desk c = omega (arith, c .before .before .before .before .before .before .before .before .before .before .before .before .before .before .mark .ensures .0 .keeps .long, c .before .before .before .before .before .before .before .before .before .before .before .before .before .before .before .before .before .before .before .before .before .before .before .pre .0 .encodes .long)
 
 same-length-2 : tie.Need-same-length-2
 same-length-2 c = search needs
@@ -86,28 +66,8 @@ same-length-3 c = search needs
 
 returns-2 : tie.Need-returns-2
 returns-2 c =
-    let p = c .before .before .before .before .before .before .before .before .before .before .before .before .before .before .before .before .before .before .before .before .before .before .pre in
-    let a = c .before .before .before .before .before .before .before .before .before .before .before .before .before .before .before .before .before .before .before .before .before .before .args in
-    conclude-fault _ _ _ _ (p .0 .few) (p .1) _ _ _ (rw (c .before .before .before .before .before .before .before .before .before .before .before .before .before .before .before .before .frame-of .ensures) at (c .before .before .before .before .before .before .before .before .before .before .before .before .before .mark .ensures .0)) (c .before .before .before .before .before .before .before .before .before .successors .ensures) (c .before .before .before .before .before .before .before .find-cycle .ensures) _ (c .before .before .before .before .before .if1 .left) (c .before .before .show .ensures)
+    let p = c .before .before .before .before .before .before .before .before .before .before .before .before .before .before .before .before .before .before .before .before .before .before .before .pre in
+    conclude-fault _ _ _ _ (p .0 .few) (p .1) _ _ (rw (c .before .before .before .before .before .before .before .before .before .before .before .before .before .before .before .before .before .frame-of .ensures) at (c .before .before .before .before .before .before .before .before .before .before .before .before .before .before .mark .ensures .0)) (c .before .before .before .before .before .before .before .before .before .before .successors .ensures) _ (c .before .before .before .before .before .before .before .before .is-cyclic .ensures) (not-false _ (c .before .before .before .before .before .before .before .if1 .left)) (c .before .before .before .shortest-cycle .ensures) (c .before .before .show .ensures)
 
 pub conclude-spec : {M : Type 1} → statement M
-conclude-spec =
-    tie.close
-    (tie.spec
-    slice-read-k
-    cast-k
-    frame-of-requires
-    add-context
-    slice-read-context
-    cast-context
-    mark-requires
-    successors-requires
-    cast-find-cycle
-    find-cycle-requires
-    same-length
-    returns
-    show-requires
-    slice-write-desk
-    same-length-2
-    same-length-3
-    returns-2)
+conclude-spec = tie.close (tie.spec slice-read-k cast-k frame-of-requires add-context slice-read-context cast-context mark-requires successors-requires cast-is-cyclic is-cyclic-requires same-length returns shortest-cycle-requires show-requires slice-write-desk same-length-2 same-length-3 returns-2)

@@ -1,0 +1,4 @@
+pub mod Routes
+pub mod Levels
+pub mod Starts
+pub mod Shortest

@@ -1,0 +1,422 @@
+// The cycle that is shown: the fewest dependencies, and of these the least by the slip's bytes. First the start, then at each class the first
+// dependency, by kind, source and next class, from which the start is reached again in time.
+use layout::MARKS_AT;
+use layout::MAX_CLASSES;
+use search::Arrivals;
+use successors::HARD_DIGITS;
+use successors::KindWords;
+use successors::ROWS;
+use successors::SOFT_DIGITS;
+use successors::SafeWords;
+use successors::UNSAFE_E;
+use successors::UNSAFE_S;
+use successors::lock_words;
+use successors::picked;
+use successors::safe_words;
+use words::both;
+use words::lowest;
+use words::with;
+ghost use mathlib.Core.Path.{_≡_};
+ghost use Prim.Native.Nat.{_+_, _*_, _/_, _%_, _<_, _≤_};
+ghost use lib.ListN.{length};
+ghost use Rattle.search.specs.Rows.{firstAt, firstIndex};
+ghost use Rattle.successors.specs.Successors.{Ready, SafeColumns};
+ghost use Rattle.shortest.specs.Levels.{LeadsBy, Widened, Behind, AtHome, IsIn, IsEmpty, stored, letterAt, Filled, levelAt};
+ghost use Rattle.shortest.specs.Starts.{Better, Begun};
+ghost use Rattle.shortest.specs.Shortest.{lockAt, safeAt, unsafeAt, Side, ranksAfter, Picked, RankWord, RankWords, Written, Letter, Chained, Shortest};
+
+// ---- Back from the start: the arrivals from which a number of dependencies leads there.
+
+// Whether a dependency from class with the first letter (0 for E, 2 for S) goes into the set.
+fn leads(rows: &[u64; ROWS], class: u32, first: u32, to: Arrivals) -> bool
+    requires { ⌜ (class < 64) × (first ≡ firstIndex (firstAt first)) ⌝ }
+    ensures { λ r. ⌜ LeadsBy (now (rows .entry)) class (firstAt first) to r ⌝ }
+{
+    let i = 4 * class as usize + first as usize;
+    let row_r = rows[i];
+    let row_n = rows[i + 1];
+    let to_r = both(row_r, to.r);
+    let to_n = both(row_n, to.n);
+    if to_r != 0 {
+        return true;
+    }
+    if to_n != 0 {
+        return true;
+    }
+    false
+}
+
+// The set out, with class where a dependency goes from there into the set `to`.
+fn widened(rows: &[u64; ROWS], class: u32, to: Arrivals, out: Arrivals) -> Arrivals
+    requires { ⌜ class < 64 ⌝ }
+    ensures { λ r. ⌜ Widened (now (rows .entry)) class to out r ⌝ }
+{
+    if leads(rows, class, 0, to) {
+        return Arrivals {
+            r: with(out.r, class),
+            n: with(out.n, class),
+        };
+    }
+    if leads(rows, class, 2, to) {
+        return Arrivals {
+            r: out.r,
+            n: with(out.n, class),
+        };
+    }
+    out
+}
+
+// The arrivals at classes from `from` on from which one dependency goes into the set.
+fn behind(rows: &[u64; ROWS], from: u32, k: u32, to: Arrivals) -> Arrivals
+    requires { ⌜ (from ≤ k) × (k ≤ 64) ⌝ }
+    ensures { λ r. ⌜ Behind (now (rows .entry)) from k to r ⌝ }
+{
+    let mut out = Arrivals { r: 0, n: 0 };
+    let mut class: u32 = from;
+    while class < k {
+        out = widened(rows, class, to, out);
+        class += 1;
+    }
+    out
+}
+
+// Where a cycle from class may end that begins as after the letter: 0 for R, 1 for N.
+fn home(class: u32, letter: u32) -> Arrivals
+    requires { ⌜ class < 64 ⌝ }
+    ensures { λ r. ⌜ AtHome class (letterAt letter) r ⌝ }
+{
+    if letter == 0 {
+        return Arrivals {
+            r: with(0, class),
+            n: with(0, class),
+        };
+    }
+    Arrivals {
+        r: 0,
+        n: with(0, class),
+    }
+}
+
+fn is_in(s: Arrivals, class: u32, letter: u32) -> bool
+    requires { ⌜ class < 64 ⌝ }
+    ensures { λ r. ⌜ IsIn s class (letterAt letter) r ⌝ }
+{
+    if letter == 0 {
+        if (s.r >> class) % 2 == 1 {
+            return true;
+        }
+        return false;
+    }
+    if (s.n >> class) % 2 == 1 {
+        return true;
+    }
+    false
+}
+
+fn is_empty(s: Arrivals) -> bool
+    ensures { λ r. ⌜ IsEmpty s r ⌝ }
+{
+    if s.r != 0 {
+        return false;
+    }
+    if s.n != 0 {
+        return false;
+    }
+    true
+}
+
+// Two words for each number of dependencies below MAX_CLASSES.
+const LEVELS: usize = 2 * MAX_CLASSES;
+
+fn store(levels: &mut [u64; LEVELS], m: usize, s: Arrivals)
+    requires { ⌜ m < 64 ⌝ }
+    ensures { λ _. ⌜ now (levels .exit) ≡ stored (now (levels .entry)) m s ⌝ }
+{
+    levels[2 * m] = s.r;
+    levels[2 * m + 1] = s.n;
+}
+
+fn level(levels: &[u64; LEVELS], m: usize) -> Arrivals
+    requires { ⌜ m < 64 ⌝ }
+    ensures { λ r. ⌜ r ≡ levelAt (now (levels .entry)) m ⌝ }
+{
+    Arrivals {
+        r: levels[2 * m],
+        n: levels[2 * m + 1],
+    }
+}
+
+// The length, up to limit, of a shortest cycle from class, its lowest, that begins as after the letter; 0 if there is none. Level m, for each
+// m below it, gets the arrivals from which m dependencies lead to its end.
+fn fill(
+    rows: &[u64; ROWS],
+    k: u32,
+    class: u32,
+    letter: u32,
+    limit: usize,
+    levels: &mut [u64; LEVELS],
+) -> usize
+    requires { ⌜ (k ≤ 64) × (class < k) × (limit ≤ 64) × (length (now levels) ≡ 128) ⌝ }
+    ensures { λ r. ⌜ Filled (now (rows .entry)) k class (letterAt letter) limit r (now (levels .exit)) ⌝ }
+{
+    let mut back = home(class, letter);
+    let mut m = 0;
+    while m < limit {
+        store(levels, m, back);
+        back = behind(rows, class, k, back);
+        m += 1;
+        if is_in(back, class, letter) {
+            return m;
+        }
+        if is_empty(back) {
+            return 0;
+        }
+    }
+    0
+}
+
+// ---- The start: the lowest class from which a cycle of the fewest dependencies starts.
+
+// The best start so far: a cycle of n dependencies (0: none yet) from class start / 2 as after the letter start % 2. A better one has at most
+// limit dependencies.
+pub struct Begin {
+    pub n: usize,
+    pub start: u32,
+    pub limit: usize,
+}
+
+fn better(b: Begin, n: usize, start: u32) -> Begin
+    ensures { λ r. ⌜ Better b n start r ⌝ }
+{
+    if n == 0 {
+        return b;
+    }
+    Begin {
+        n,
+        start,
+        limit: n - 1,
+    }
+}
+
+fn first_start(rows: &[u64; ROWS], k: u32, levels: &mut [u64; LEVELS]) -> Begin
+    requires { ⌜ (k ≤ 64) × (length (now levels) ≡ 128) ⌝ }
+    ensures { λ r. ⌜ Begun (now (rows .entry)) k (2 * k) r × (length (now (levels .exit)) ≡ 128) ⌝ }
+{
+    let mut best = Begin {
+        n: 0,
+        start: 0,
+        limit: k as usize,
+    };
+    let mut start: u32 = 0;
+    while start < 2 * k {
+        let n = fill(rows, k, start / 2, start % 2, best.limit, levels);
+        best = better(best, n, start);
+        start += 1;
+    }
+    best
+}
+
+// ---- The dependencies of a class by rank: three times the kind's place (ER 0, EN 1, SR 2, SN 3) and the source. Ranks are in the order of
+// the slip's bytes.
+
+const RANKS: usize = 12;
+
+// The ranks of ER and EN.
+const RANKS_OF_E: usize = 6;
+
+fn lock_word(locks: KindWords, place: usize) -> u64
+    requires { ⌜ place < 4 ⌝ }
+    ensures { λ r. ⌜ r ≡ lockAt locks place ⌝ }
+{
+    if place == 0 {
+        return locks.er;
+    }
+    if place == 1 {
+        return locks.en;
+    }
+    if place == 2 {
+        return locks.sr;
+    }
+    locks.sn
+}
+
+fn safe_word(safe: SafeWords, place: usize) -> u64
+    requires { ⌜ place < 4 ⌝ }
+    ensures { λ r. ⌜ r ≡ safeAt safe place ⌝ }
+{
+    if place % 2 == 0 {
+        return safe.r;
+    }
+    safe.n
+}
+
+// The digit of the hard-unsafe mark of the kind's first letter.
+fn unsafe_digit(place: usize) -> u32
+    requires { ⌜ place < 4 ⌝ }
+    ensures { λ r. ⌜ r ≡ unsafeAt place ⌝ }
+{
+    if place < 2 {
+        return UNSAFE_E;
+    }
+    UNSAFE_S
+}
+
+fn rank_word(mark: u8, locks: KindWords, hard: SafeWords, soft: SafeWords, rank: usize) -> u64
+    requires { ⌜ rank < 12 ⌝ }
+    ensures { λ r. ⌜ RankWord mark locks hard soft rank r ⌝ }
+{
+    let place = rank / 3;
+    if rank % 3 == 0 {
+        return lock_word(locks, place);
+    }
+    let d = unsafe_digit(place);
+    if rank % 3 == 1 {
+        return picked(mark, d + HARD_DIGITS, safe_word(hard, place));
+    }
+    picked(mark, d + SOFT_DIGITS, safe_word(soft, place))
+}
+
+// The successors of a class by rank. hard, soft: the safe marks of the levels.
+fn rank_words(
+    desk: &[u8],
+    sheet: &[u8],
+    k: usize,
+    class: usize,
+    hard: SafeWords,
+    soft: SafeWords,
+) -> [u64; RANKS]
+    requires { ⌜ Ready (now desk) (now sheet) k × (class < k) × SafeColumns (now desk) k 0 hard × SafeColumns (now desk) k 4 soft ⌝ }
+    ensures { λ r. ⌜ RankWords (now (desk .entry)) (now (sheet .entry)) k class r ⌝ }
+{
+    let mark = desk[MARKS_AT + class];
+    let locks = lock_words(sheet, class * k, k);
+    let mut words = [0u64; RANKS];
+    let mut rank = 0;
+    while rank < RANKS {
+        words[rank] = rank_word(mark, locks, hard, soft, rank);
+        rank += 1;
+    }
+    words
+}
+
+// ---- The choice at a class.
+
+// A dependency of a rank to a class. rank RANKS: none.
+struct Choice {
+    pub rank: usize,
+    pub to: u32,
+}
+
+// The word of the set that the rank's second letter asks for.
+fn side(s: Arrivals, rank: usize) -> u64
+    requires { ⌜ rank < 12 ⌝ }
+    ensures { λ r. ⌜ r ≡ Side s rank ⌝ }
+{
+    if rank / 3 % 2 == 0 {
+        return s.r;
+    }
+    s.n
+}
+
+// The ranks that may follow: after R only E.
+fn ranks(letter: u32) -> usize
+    ensures { λ r. ⌜ r ≡ ranksAfter (letterAt letter) ⌝ }
+{
+    if letter == 0 {
+        return RANKS_OF_E;
+    }
+    RANKS
+}
+
+// The first dependency, by rank and then by class, that goes into the set.
+fn pick(words: &[u64; RANKS], letter: u32, to: Arrivals) -> Choice
+    ensures { λ r. ⌜ Picked (now (words .entry)) (ranksAfter (letterAt letter)) to r ⌝ }
+{
+    let end = ranks(letter);
+    let mut rank = 0;
+    while rank < end {
+        let word = words[rank];
+        let hit = both(word, side(to, rank));
+        if hit != 0 {
+            return Choice {
+                rank,
+                to: lowest(hit),
+            };
+        }
+        rank += 1;
+    }
+    Choice { rank: RANKS, to: 0 }
+}
+
+// ---- The cycle.
+
+// A cycle of n dependencies: of each the class where it starts, and its rank. n 0: none.
+pub struct Found {
+    pub n: usize,
+    pub classes: [u8; MAX_CLASSES],
+    pub ranks: [u8; MAX_CLASSES],
+}
+
+fn put(f: Found, i: usize, class: u32, rank: usize) -> Found
+    requires { ⌜ (i < 64) × (class < 64) × (rank ≤ 12) ⌝ }
+    ensures { λ r. ⌜ Written f i class rank r ⌝ }
+{
+    let mut g = f;
+    g.classes[i] = class as u8;
+    g.ranks[i] = rank as u8;
+    g
+}
+
+// The second letter of a rank: 0 for R, 1 for N.
+fn letter_of(rank: usize) -> u32
+    requires { ⌜ rank ≤ 12 ⌝ }
+    ensures { λ r. ⌜ Letter rank r ⌝ }
+{
+    let place = rank / 3;
+    (place % 2) as u32
+}
+
+// From the start on, at each class the first dependency that leads to the end in time.
+fn chain(desk: &[u8], sheet: &[u8], k: usize, b: Begin, levels: &[u64; LEVELS]) -> Found
+    requires { ⌜ Ready (now desk) (now sheet) k × (b .n ≤ k) × (b .start < 2 * k) ⌝ }
+    ensures { λ r. ⌜ Chained (now (desk .entry)) (now (sheet .entry)) k (b .n) (b .start / 2) (b .start % 2) (now (levels .entry)) r ⌝ }
+{
+    let hard = safe_words(desk, k, HARD_DIGITS);
+    let soft = safe_words(desk, k, SOFT_DIGITS);
+    let n = b.n;
+    let mut f = Found {
+        n,
+        classes: [0u8; MAX_CLASSES],
+        ranks: [0u8; MAX_CLASSES],
+    };
+    let mut class = b.start / 2;
+    let mut letter = b.start % 2;
+    let mut i = 0;
+    while i < n {
+        let words = rank_words(desk, sheet, k, class as usize, hard, soft);
+        let c = pick(&words, letter, level(levels, n - 1 - i));
+        f = put(f, i, class, c.rank);
+        class = c.to;
+        letter = letter_of(c.rank);
+        i += 1;
+    }
+    f
+}
+
+// The cycle that is shown. At most 2 * k starts, k levels each, and k classes each level.
+pub fn shortest_cycle(desk: &[u8], sheet: &[u8], rows: &[u64; ROWS], k: usize) -> Found
+    requires { ⌜ Ready (now desk) (now sheet) k ⌝ }
+    ensures { λ r. ⌜ Shortest (now (desk .entry)) (now (sheet .entry)) (now (rows .entry)) k r ⌝ }
+{
+    let mut levels = [0u64; LEVELS];
+    let b = first_start(rows, k as u32, &mut levels);
+    if b.n == 0 {
+        return Found {
+            n: 0,
+            classes: [0u8; MAX_CLASSES],
+            ranks: [0u8; MAX_CLASSES],
+        };
+    }
+    fill(rows, k as u32, b.start / 2, b.start % 2, b.n, &mut levels);
+    chain(desk, sheet, k, b, &levels)
+}
