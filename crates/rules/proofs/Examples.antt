@@ -1,7 +1,8 @@
 -- The tables of examples hold of the rules, by computation. Assumes nothing.
-use mathlib.Core.Path.{_≡_, refl}
+use mathlib.Core.Path.{_≡_, refl, sym, ap, _∙_, fun-ext}
 use mathlib.Core.Bool.{true, false}
-use mathlib.Core.List.{[], _∷_, map}
+use mathlib.Core.List.{List, [], _∷_, map}
+use Prim.Native.Nat.{ℕ}
 use lib.ListN.{length}
 use Rattle.rules.specs.Record.{isMalformed}
 use Rattle.rules.specs.Decision.{cyclic, reaches}
@@ -11,15 +12,27 @@ use Rattle.rules.specs.Graph.{dependency}
 use Rattle.rules.specs.KindNames.{EN}
 use Rattle.rules.specs.CycleDecision.{isCycle, found, leastCycle}
 use Rattle.rules.specs.Run.{start, answers, run, graphAt}
+use Rattle.rules.proofs.Quick.{quickly, quickly-same}
 use Rattle.rules.specs.Examples.{exclusive, read, recursive, tryExclusive, lockOf, DrawnCase, drawnCase, drawnCases, MarkCase, markCase, markCases, Example, cycleCases, CycleCase, cycleCase, table, tries, example, p2, p6, allClean, endsWith, faultAt, takes, frees, does, says}
 
-pub table-holds : map (λ (e : Example). answers 8 start (e .log)) table ≡ map (λ (e : Example). e .given) table
+-- What is computed is `quickly`, which is `answers`.
+computed : (K : ℕ) (es : List Example) → map (λ (e : Example). quickly K start (e .log)) es ≡ map (λ (e : Example). e .given) es
+    → map (λ (e : Example). answers K start (e .log)) es ≡ map (λ (e : Example). e .given) es
+computed K es h = ap (λ (f : Example → List ℕ). map f es) (fun-ext (λ e. sym (quickly-same K start (e .log)))) ∙ h
+
+quick-table : map (λ (e : Example). quickly 8 start (e .log)) table ≡ map (λ (e : Example). e .given) table
 unfolding table example p2 p6 allClean endsWith faultAt takes frees does says isMalformed refusal dependency cyclic
-table-holds = refl
+quick-table = refl
+
+pub table-holds : map (λ (e : Example). answers 8 start (e .log)) table ≡ map (λ (e : Example). e .given) table
+table-holds = computed 8 table quick-table
+
+quick-tries : map (λ (e : Example). quickly 4 start (e .log)) tries ≡ map (λ (e : Example). e .given) tries
+unfolding tries example allClean endsWith faultAt takes frees does says isMalformed refusal dependency cyclic
+quick-tries = refl
 
 pub tries-hold : map (λ (e : Example). answers 4 start (e .log)) tries ≡ map (λ (e : Example). e .given) tries
-unfolding tries example allClean endsWith faultAt takes frees does says isMalformed refusal dependency cyclic
-tries-hold = refl
+tries-hold = computed 4 tries quick-tries
 
 -- Each log of the table of cycles ends in a fault, and that is the cycle shown.
 pub cycles-close : map (λ (e : CycleCase). answers (e .classes) start (e .log)) cycleCases ≡ map (λ (e : CycleCase). faultAt (length (e .log))) cycleCases

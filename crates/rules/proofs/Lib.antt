@@ -12,4 +12,5 @@ pub mod Rounds
 pub mod CycleExists
 pub mod Ranks
 pub mod LeastCycles
+pub mod Quick
 pub mod Examples

@@ -93,7 +93,7 @@ fn meets(s: Arrivals, on_r: u64, on_n: u64) -> bool
     false
 }
 
-// What is done: the arrivals whose strong paths all end, by R and by N.
+// done: the arrivals whose strong paths all end, done[0] by R and done[1] by N.
 fn finish_r(done: &mut [u64; 2], class: u32)
     requires { ⌜ Words (now done) × (class < 64) ⌝ }
     ensures { λ _. ⌜ Finished (now (done .entry)) class R (now (done .exit)) ⌝ }
