@@ -10,7 +10,7 @@ use successors::SOFT_DIGITS;
 use successors::SafeWords;
 use successors::UNSAFE_E;
 use successors::UNSAFE_S;
-use successors::lock_words;
+use successors::column_of;
 use successors::picked;
 use successors::safe_words;
 use words::both;
@@ -20,6 +20,7 @@ ghost use mathlib.Core.Path.{_≡_};
 ghost use Prim.Native.Nat.{_+_, _*_, _/_, _%_, _<_, _≤_};
 ghost use lib.ListN.{length};
 ghost use Rattle.search.specs.Rows.{firstAt, firstIndex};
+ghost use Rattle.successors.specs.Column.{Columns};
 ghost use Rattle.successors.specs.Successors.{Ready, SafeColumns};
 ghost use Rattle.shortest.specs.Levels.{LeadsBy, Widened, Behind, AtHome, IsIn, IsEmpty, stored, letterAt, Filled, levelAt};
 ghost use Rattle.shortest.specs.Starts.{Better, Begun};
@@ -276,6 +277,19 @@ fn rank_word(mark: u8, locks: KindWords, hard: SafeWords, soft: SafeWords, rank:
     picked(mark, d + SOFT_DIGITS, safe_word(soft, place))
 }
 
+// The lock dependencies of a class, whose row of the sheet starts at a place, a kind at a time: once a log, where `successors` is quicker in every step.
+fn row_words(sheet: &[u8], at: usize, k: usize) -> KindWords
+    requires { ⌜ (at + k ≤ length (now sheet)) × (k ≤ 64) ⌝ }
+    ensures { λ r. ⌜ Columns (now (sheet .entry)) at k r ⌝ }
+{
+    KindWords {
+        er: column_of(sheet, at, k, 0),
+        en: column_of(sheet, at, k, 1),
+        sr: column_of(sheet, at, k, 2),
+        sn: column_of(sheet, at, k, 3),
+    }
+}
+
 // The successors of a class by rank. hard, soft: the safe marks of the levels.
 fn rank_words(
     desk: &[u8],
@@ -289,7 +303,7 @@ fn rank_words(
     ensures { λ r. ⌜ RankWords (now (desk .entry)) (now (sheet .entry)) k class r ⌝ }
 {
     let mark = desk[MARKS_AT + class];
-    let locks = lock_words(sheet, class * k, k);
+    let locks = row_words(sheet, class * k, k);
     let mut words = [0u64; RANKS];
     let mut rank = 0;
     while rank < RANKS {

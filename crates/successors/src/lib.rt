@@ -73,7 +73,7 @@ fn joined(high: KindWords, low: KindWords) -> KindWords
 }
 
 // The words of the lock dependencies in the row of k bytes at a place of the sheet.
-pub fn lock_words(sheet: &[u8], at: usize, k: usize) -> KindWords
+fn lock_words(sheet: &[u8], at: usize, k: usize) -> KindWords
     requires { ⌜ (k ≤ 64) × (at + k ≤ length (now sheet)) ⌝ }
     ensures { λ r. ⌜ Columns (now (sheet .entry)) at k r ⌝ }
 {
@@ -107,18 +107,26 @@ fn digit(byte: u8, d: u32) -> u64
     (shifted % 2) as u64
 }
 
-// The classes below k that have the mark of the digit d.
-fn marked(desk: &[u8], k: usize, d: u32) -> u64
-    requires { ⌜ (deskSize ≤ length (now desk)) × (k ≤ 64) × (d < 8) ⌝ }
-    ensures { λ r. ⌜ r ≡ column (now (desk .entry)) marksAt d k ⌝ }
+// The digits d of k bytes from a place on.
+pub fn column_of(bytes: &[u8], at: usize, k: usize, d: u32) -> u64
+    requires { ⌜ (at + k ≤ length (now bytes)) × (k ≤ 64) × (d < 8) ⌝ }
+    ensures { λ r. ⌜ r ≡ column (now (bytes .entry)) at d k ⌝ }
 {
     let mut word: u64 = 0;
     let mut c = k;
     while c > 0 {
         c -= 1;
-        word = word * 2 + digit(desk[MARKS_AT + c], d);
+        word = word * 2 + digit(bytes[at + c], d);
     }
     word
+}
+
+// The classes below k that have the mark of the digit d.
+fn marked(desk: &[u8], k: usize, d: u32) -> u64
+    requires { ⌜ (deskSize ≤ length (now desk)) × (k ≤ 64) × (d < 8) ⌝ }
+    ensures { λ r. ⌜ r ≡ column (now (desk .entry)) marksAt d k ⌝ }
+{
+    column_of(desk, MARKS_AT, k, d)
 }
 
 // The safe marks of the level whose first digit is d.

@@ -19,11 +19,11 @@ add-mark c = omega (arith, c .before .before .pre .1, c .before .before .pre .0 
 shared-slice-read-mark : tie.Need-shared-slice-read-mark Inv-loop μ-loop
 shared-slice-read-mark c = omega (arith, c .before .before .before .pre .1, c .before .before .before .pre .0 .few, c .before .before .before .pre .0 .long)
 
-mul-lock-words : tie.Need-mul-lock-words Inv-loop μ-loop
-mul-lock-words c = let h = row-inside (c .before .before .before .pre .1) (c .before .before .before .pre .0 .room) in omega (arith, c .before .before .before .good .1 .0 .0)
+mul-row-words : tie.Need-mul-row-words Inv-loop μ-loop
+mul-row-words c = let h = row-inside (c .before .before .before .pre .1) (c .before .before .before .pre .0 .room) in omega (arith, c .before .before .before .good .1 .0 .0)
 
-lock-words-requires : tie.Need-lock-words-requires Inv-loop μ-loop
-lock-words-requires c κs = (c .before .before .before .pre .0 .few, row-inside (c .before .before .before .pre .1) (c .before .before .before .pre .0 .room))
+row-words-requires : tie.Need-row-words-requires Inv-loop μ-loop
+row-words-requires c κs = (row-inside (c .before .before .before .pre .1) (c .before .before .before .pre .0 .room), c .before .before .before .pre .0 .few)
 
 loop-holds : tie.Need-loop-holds Inv-loop μ-loop
 loop-holds c = (omega arith, worded-none refl)
@@ -47,7 +47,7 @@ loop-again : tie.Need-loop-again Inv-loop μ-loop
 loop-again c = (omega arith, worded-more (c .before .before .loop .inv .1) (c .before .loop-test .taken) (c .rank-word .ensures))
 
 returns : tie.Need-returns Inv-loop μ-loop
-returns c = let e : c .before .loop .rank ≡ 12 = omega (arith, c .before .loop .inv .0) in rank-words-law (c .before .before .lock-words .ensures) (c .before .before .before .before .before .before .pre .2) (c .before .before .before .before .before .before .pre .3) (c .before .before .before .before .before .before .pre .0 .few) (c .before .before .before .before .before .before .pre .1) (rw e at (c .before .loop .inv .1))
+returns c = let e : c .before .loop .rank ≡ 12 = omega (arith, c .before .loop .inv .0) in rank-words-law (c .before .before .row-words .ensures) (c .before .before .before .before .before .before .pre .2) (c .before .before .before .before .before .before .pre .3) (c .before .before .before .before .before .before .pre .0 .few) (c .before .before .before .before .before .before .pre .1) (rw e at (c .before .loop .inv .1))
 
 pub rank-words-spec : {M : Type 1} → statement M
-rank-words-spec = tie.close (tie.spec Inv-loop μ-loop add-mark shared-slice-read-mark mul-lock-words lock-words-requires loop-holds rank-word-requires mul-words array-write-words add-rank loop-less loop-again returns)
+rank-words-spec = tie.close (tie.spec Inv-loop μ-loop add-mark shared-slice-read-mark mul-row-words row-words-requires loop-holds rank-word-requires mul-words array-write-words add-rank loop-less loop-again returns)
