@@ -2,6 +2,7 @@
 use mathlib.Core.Path.{_≡_, refl, sym, ap, _∙_, fun-ext}
 use mathlib.Core.Bool.{true, false}
 use mathlib.Core.List.{List, [], _∷_, map}
+use mathlib.Core.Option.{some}
 use Prim.Native.Nat.{ℕ}
 use lib.ListN.{length}
 use Rattle.rules.specs.Record.{isMalformed}
@@ -10,7 +11,7 @@ use Rattle.rules.specs.Verdict.{refusal}
 use Rattle.rules.specs.HeldLocks.{releaseNewest}
 use Rattle.rules.specs.Graph.{dependency}
 use Rattle.rules.specs.KindNames.{EN}
-use Rattle.rules.specs.CycleDecision.{isCycle, found, leastCycle}
+use Rattle.rules.specs.CycleDecision.{isCycle, leastCycle}
 use Rattle.rules.specs.Run.{start, answers, run, graphAt}
 use Rattle.rules.proofs.Quick.{quickly, quickly-same}
 use Rattle.rules.specs.Examples.{exclusive, read, recursive, tryExclusive, lockOf, DrawnCase, drawnCase, drawnCases, MarkCase, markCase, markCases, Example, cycleCases, CycleCase, cycleCase, table, tries, example, p2, p6, allClean, endsWith, faultAt, takes, frees, does, says}
@@ -39,7 +40,7 @@ pub cycles-close : map (λ (e : CycleCase). answers (e .classes) start (e .log))
 unfolding cycleCases cycleCase p2 endsWith faultAt takes frees does says isMalformed refusal dependency cyclic
 cycles-close = refl
 
-pub cycles-shown : map (λ (e : CycleCase). leastCycle (e .classes) (run (e .classes) start (e .log) .graph)) cycleCases ≡ map (λ (e : CycleCase). found (e .shown)) cycleCases
+pub cycles-shown : map (λ (e : CycleCase). leastCycle (e .classes) (run (e .classes) start (e .log) .graph)) cycleCases ≡ map (λ (e : CycleCase). some (e .shown)) cycleCases
 unfolding cycleCases cycleCase p2 takes frees does says isMalformed refusal dependency cyclic leastCycle isCycle
 cycles-shown = refl
 

@@ -3,6 +3,7 @@ use mathlib.Core.Path.{_≡_, refl, sym, ap, _∙_, subst}
 use mathlib.Core.Bool.{Bool, true, false, cond, not, _&&_, false≢true}
 use mathlib.Core.List.{List, [], _∷_}
 use mathlib.Core.Logic.{_↔_}
+use mathlib.Core.Option.{Option, none, some}
 use Prim.Native.Nat.{ℕ, zero, suc, _+_, _*_, _<_, _≤_}
 use native.Mathlib.Omega.{arith}
 use native.Mathlib.Decide.{ℕ-discrete, decLt}
@@ -14,7 +15,7 @@ use Rattle.rules.specs.StrongPath.{strongJoint, ClosedStrongPath}
 use Rattle.rules.specs.Cycle.{Entry, entryAt, following, Cycle}
 use Rattle.rules.specs.LeastCycle.{triples, NotAfter, ends, before, same, LeastCycle}
 use Rattle.rules.specs.Ranks.{rankCount, entryNumber, numbered}
-use Rattle.rules.specs.CycleDecision.{allBelow, cycleAt, isCycle, Found, none, found, orElse, putFirst, firstFrom, firstList, leastCycle}
+use Rattle.rules.specs.CycleDecision.{allBelow, cycleAt, isCycle, orElse, putFirst, firstFrom, firstList, leastCycle}
 use Rattle.rules.proofs.Booleans.{and-cases, and-both}
 use Rattle.rules.proofs.Cycles.{cycle-sound}
 use Rattle.rules.proofs.CycleExists.{cycle-exists}
@@ -98,24 +99,24 @@ module _ (K : ℕ) (g : Graph) (es : List Entry) where
 
 -- ---- The first list that passes a test.
 
-record Before (try : ℕ → Found) (i n : ℕ) (es : List Entry) : Type 0 where
+record Before (try : ℕ → Option (List Entry)) (i n : ℕ) (es : List Entry) : Type 0 where
   at : ℕ
   from : i ≤ at
   less : at < i + n
-  gives : try at ≡ found es
+  gives : try at ≡ some es
   none-before : (j : ℕ) → i ≤ j → j < at → try j ≡ none
 
-abbrev First : (ℕ → Found) → ℕ → ℕ → Found → Type 0
+abbrev First : (ℕ → Option (List Entry)) → ℕ → ℕ → Option (List Entry) → Type 0
 First try i n none = (j : ℕ) → i ≤ j → j < i + n → try j ≡ none
-First try i n (found es) = Before try i n es
+First try i n (some es) = Before try i n es
 
-first-from : (n i : ℕ) (try : ℕ → Found) → First try i n (firstFrom n i try)
+first-from : (n i : ℕ) (try : ℕ → Option (List Entry)) → First try i n (firstFrom n i try)
 first-from zero i try = λ j l m. absurd (omega arith)
 first-from (suc n) i try = by (try i) refl (first-from n (suc i) try)
   where
-    later : (f : Found) → try i ≡ none → First try (suc i) n f → First try i (suc n) f
+    later : (f : Option (List Entry)) → try i ≡ none → First try (suc i) n f → First try i (suc n) f
     later none q h = λ j l m. elim (ℕ-discrete j i) [ yes e ↦ rw e q | no e ↦ h j (omega arith) (omega arith) ]
-    later (found es) q h =
+    later (some es) q h =
         record {
           at = h .at;
           from = omega (arith, h .from);
@@ -124,9 +125,9 @@ first-from (suc n) i try = by (try i) refl (first-from n (suc i) try)
           none-before = λ j l m. elim (ℕ-discrete j i) [ yes e ↦ rw e q | no e ↦ h .none-before j (omega arith) m ];
         }
 
-    by : (f : Found) → try i ≡ f → First try (suc i) n (firstFrom n (suc i) try) → First try i (suc n) (orElse f (firstFrom n (suc i) try))
+    by : (f : Option (List Entry)) → try i ≡ f → First try (suc i) n (firstFrom n (suc i) try) → First try i (suc n) (orElse f (firstFrom n (suc i) try))
     by none q h = later (firstFrom n (suc i) try) q h
-    by (found es) q h = record { at = i; from = omega arith; less = omega arith; gives = q; none-before = λ j l m. absurd (omega arith) }
+    by (some es) q h = record { at = i; from = omega arith; less = omega arith; gives = q; none-before = λ j l m. absurd (omega arith) }
 
 -- The list is of n entries of classes below K, and passes.
 record Passes (K n : ℕ) (test : List Entry → Bool) (es : List Entry) : Type 0 where
@@ -138,19 +139,19 @@ record FirstOf (K n : ℕ) (test : List Entry → Bool) (es : List Entry) : Type
   itself : Passes K n test es
   first : (fs : List Entry) → Passes K n test fs → NotAfter (triples es) (triples fs)
 
-abbrev Right : ℕ → ℕ → (List Entry → Bool) → Found → Type 0
+abbrev Right : ℕ → ℕ → (List Entry → Bool) → Option (List Entry) → Type 0
 Right K n test none = (fs : List Entry) → Passes K n test fs → ⊥
-Right K n test (found es) = FirstOf K n test es
+Right K n test (some es) = FirstOf K n test es
 
-found-list : {es fs : List Entry} → found es ≡ found fs → es ≡ fs
-found-list q = ap (λ (f : Found). elim f [ none ↦ [] | found es ↦ es ]) q
+same-list : {es fs : List Entry} → some es ≡ some fs → es ≡ fs
+same-list q = ap (λ (f : Option (List Entry)). elim f [ none ↦ [] | some es ↦ es ]) q
 
-found-some : {es : List Entry} → found es ≡ none → ⊥
-found-some q = let z : _≡_ {A = ℕ} 1 0 = ap (λ (f : Found). elim f [ none ↦ 0 | found es ↦ 1 ]) q in omega arith
+some-not-none : {es : List Entry} → some es ≡ none → ⊥
+some-not-none q = let z : _≡_ {A = ℕ} 1 0 = ap (λ (f : Option (List Entry)). elim f [ none ↦ 0 | some es ↦ 1 ]) q in omega arith
 
 -- Lists of one entry more: `sub i` is the first of those that go on from the entry of number i.
-module _ (K n : ℕ) (test : List Entry → Bool) (sub : ℕ → Found) (right : (i : ℕ) → Right K n (λ es. test (numbered i ∷ es)) (sub i)) where
-  abbrev try : ℕ → Found
+module _ (K n : ℕ) (test : List Entry → Bool) (sub : ℕ → Option (List Entry)) (right : (i : ℕ) → Right K n (λ es. test (numbered i ∷ es)) (sub i)) where
+  abbrev try : ℕ → Option (List Entry)
   try i = putFirst (numbered i) (sub i)
 
   number-less : (f : Entry) → f .class < K → entryNumber f < rankCount * K
@@ -163,13 +164,13 @@ module _ (K n : ℕ) (test : List Entry → Bool) (sub : ℕ → Found) (right :
   tail-passes f fs p i q =
       record { long = omega (arith, p .long); in-range = λ j l. p .in-range (suc j) (omega arith); passes = subst (λ (e : Entry). test (e ∷ fs) ≡ true) (sym q) (p .passes) }
 
-  -- Where nothing is found no list passes.
+  -- Where nothing is some no list passes.
   none-passes : (i : ℕ) → try i ≡ none → (fs : List Entry) → Passes K n (λ es. test (numbered i ∷ es)) fs → ⊥
   none-passes i q fs p = by (sub i) (right i) q
     where
-      by : (f : Found) → Right K n (λ es. test (numbered i ∷ es)) f → putFirst (numbered i) f ≡ none → ⊥
+      by : (f : Option (List Entry)) → Right K n (λ es. test (numbered i ∷ es)) f → putFirst (numbered i) f ≡ none → ⊥
       by none r z = r fs p
-      by (found es) r z = found-some z
+      by (some es) r z = some-not-none z
 
   with-first : (i : ℕ) (es : List Entry) → i < rankCount * K → FirstOf K n (λ es. test (numbered i ∷ es)) es → ((j : ℕ) → j < i → try j ≡ none)
       → FirstOf K (suc n) test (numbered i ∷ es)
@@ -189,7 +190,7 @@ module _ (K n : ℕ) (test : List Entry → Bool) (sub : ℕ → Found) (right :
         ]
       ]
 
-  one-more : (f : Found) → First try 0 (rankCount * K) f → Right K (suc n) test f
+  one-more : (f : Option (List Entry)) → First try 0 (rankCount * K) f → Right K (suc n) test f
   one-more none h = λ fs. no-list fs
     where
       no-list : (fs : List Entry) → Passes K (suc n) test fs → ⊥
@@ -197,12 +198,12 @@ module _ (K n : ℕ) (test : List Entry → Bool) (sub : ℕ → Found) (right :
       no-list (f ∷ fs) p =
           none-passes (entryNumber f) (h (entryNumber f) (omega arith) (omega (arith, number-less f (head-in-range f fs p)))) fs
           (tail-passes f fs p (entryNumber f) (number-entry f))
-  one-more (found es) h = by (sub (h .at)) (right (h .at)) (h .gives)
+  one-more (some es) h = by (sub (h .at)) (right (h .at)) (h .gives)
     where
-      by : (f : Found) → Right K n (λ es. test (numbered (h .at) ∷ es)) f → putFirst (numbered (h .at)) f ≡ found es → FirstOf K (suc n) test es
-      by none r q = absurd (found-some (sym q))
-      by (found fs) r q =
-          subst (λ (o : List Entry). FirstOf K (suc n) test o) (found-list q)
+      by : (f : Option (List Entry)) → Right K n (λ es. test (numbered (h .at) ∷ es)) f → putFirst (numbered (h .at)) f ≡ some es → FirstOf K (suc n) test es
+      by none r q = absurd (some-not-none (sym q))
+      by (some fs) r q =
+          subst (λ (o : List Entry). FirstOf K (suc n) test o) (same-list q)
           (with-first (h .at) fs (omega (arith, h .less)) r (λ j l. h .none-before j (omega arith) l))
 
 first-list : (K n : ℕ) (test : List Entry → Bool) → Right K n test (firstList K n test)
@@ -212,7 +213,7 @@ first-list K zero test = by (test []) refl
     no-list q [] p = false≢true (sym q ∙ p .passes)
     no-list q (f ∷ fs) p = absurd (omega (arith, p .long))
 
-    by : (b : Bool) → test [] ≡ b → Right K zero test (cond b (found []) none)
+    by : (b : Bool) → test [] ≡ b → Right K zero test (cond b (some []) none)
     by true q = record { itself = record { long = refl; in-range = λ i l. absurd (omega arith); passes = q }; first = λ fs p. ends }
     by false q = no-list q
 first-list K (suc n) test =
@@ -222,23 +223,23 @@ first-list K (suc n) test =
 -- ---- The least cycle.
 
 module _ (K : ℕ) (g : Graph) where
-  abbrev cycles : ℕ → Found
+  abbrev cycles : ℕ → Option (List Entry)
   cycles n = firstList K n (isCycle K g)
 
   as-passes : (es : List Entry) → Cycle K g es → (n : ℕ) → length es ≡ n → Passes K n (isCycle K g) es
   as-passes es c n q = record { long = q; in-range = c .in-range; passes = is-cycle K g es c }
 
   none-of : (n : ℕ) → cycles n ≡ none → (es : List Entry) → Cycle K g es → length es ≡ n → ⊥
-  none-of n q es c l = subst (λ (f : Found). Right K n (isCycle K g) f) q (first-list K n (isCycle K g)) es (as-passes es c n l)
+  none-of n q es c l = subst (λ (f : Option (List Entry)). Right K n (isCycle K g) f) q (first-list K n (isCycle K g)) es (as-passes es c n l)
 
-  abbrev Least : Found → Type 0
+  abbrev Least : Option (List Entry) → Type 0
   Least none = (es : List Entry) → Cycle K g es → ⊥
-  Least (found es) = LeastCycle K g es
+  Least (some es) = LeastCycle K g es
 
-  least : (f : Found) → First cycles 1 K f → Least f
+  least : (f : Option (List Entry)) → First cycles 1 K f → Least f
   least none h = λ es c. none-of (length es) (h (length es) (c .not-empty) (omega (arith, c .at-most))) es c refl
-  least (found es) h =
-      let r = subst (λ (f : Found). Right K (h .at) (isCycle K g) f) (h .gives) (first-list K (h .at) (isCycle K g)) in
+  least (some es) h =
+      let r = subst (λ (f : Option (List Entry)). Right K (h .at) (isCycle K g) f) (h .gives) (first-list K (h .at) (isCycle K g)) in
       record {
         cycle = cycle-of K g es (r .itself .passes);
         fewest = λ fs c. elim (decLt (length fs) (length es)) [
@@ -253,15 +254,15 @@ module _ (K : ℕ) (g : Graph) where
   is-least = least (leastCycle K g) (first-from K 1 cycles)
 
 -- What is worked out is the least cycle.
-pub found-least : {K : ℕ} {g : Graph} {es : List Entry} → leastCycle K g ≡ found es → LeastCycle K g es
-found-least {K} {g} q = subst (λ (f : Found). Least K g f) q (is-least K g)
+pub found-least : {K : ℕ} {g : Graph} {es : List Entry} → leastCycle K g ≡ some es → LeastCycle K g es
+found-least {K} {g} q = subst (λ (f : Option (List Entry)). Least K g f) q (is-least K g)
 
 pub least-exists : {K : ℕ} {g : Graph} → ClosedStrongPath K g → (es : List Entry) × LeastCycle K g es
 least-exists {K} {g} p = by (leastCycle K g) refl
   where
-    by : (f : Found) → leastCycle K g ≡ f → (es : List Entry) × LeastCycle K g es
-    by none q = let c = cycle-exists p in absurd (subst (λ (f : Found). Least K g f) q (is-least K g) (c .0) (c .1))
-    by (found es) q = (es, found-least q)
+    by : (f : Option (List Entry)) → leastCycle K g ≡ f → (es : List Entry) × LeastCycle K g es
+    by none q = let c = cycle-exists p in absurd (subst (λ (f : Option (List Entry)). Least K g f) q (is-least K g) (c .0) (c .1))
+    by (some es) q = (es, found-least q)
 
 pub least-exactly : {K : ℕ} {g : Graph} → ClosedStrongPath K g ↔ ((es : List Entry) × LeastCycle K g es)
 least-exactly = (least-exists, λ l. cycle-sound (l .1 .cycle))

@@ -1,6 +1,7 @@
 -- The least cycle, worked out by trying all lists of entries in their order. proofs/LeastCycles.antt shows that it is the least.
 use mathlib.Core.Bool.{Bool, true, cond, not, _&&_}
 use mathlib.Core.List.{List, [], _∷_}
+use mathlib.Core.Option.{Option, none, some}
 use Prim.Native.Nat.{ℕ, zero, suc, _*_}
 use lib.Dec.{ltb, eqb}
 use lib.ListN.{length}
@@ -25,27 +26,23 @@ cycleAt K g es i =
 unfoldable pub isCycle : ℕ → Graph → List Entry → Bool
 isCycle K g es = ltb 0 (length es) && (ltb (length es) (suc K) && allBelow (length es) (cycleAt K g es))
 
-pub data Found : Type 0 where
-  none : Found
-  found : List Entry → Found
-
-abbrev pub orElse : Found → Found → Found
+abbrev pub orElse : Option (List Entry) → Option (List Entry) → Option (List Entry)
 orElse none f = f
-orElse (found es) f = found es
+orElse (some es) f = some es
 
-abbrev pub putFirst : Entry → Found → Found
+abbrev pub putFirst : Entry → Option (List Entry) → Option (List Entry)
 putFirst e none = none
-putFirst e (found es) = found (e ∷ es)
+putFirst e (some es) = some (e ∷ es)
 
--- The first that is found by one of the n numbers from i on.
-abbrev pub firstFrom : ℕ → ℕ → (ℕ → Found) → Found
+-- The first that one of the n numbers from i on gives.
+abbrev pub firstFrom : ℕ → ℕ → (ℕ → Option (List Entry)) → Option (List Entry)
 firstFrom zero i try = none
 firstFrom (suc n) i try = orElse (try i) (firstFrom n (suc i) try)
 
 -- The first list of n entries of classes below K that passes the test.
-abbrev pub firstList : ℕ → ℕ → (List Entry → Bool) → Found
-firstList K zero test = cond (test []) (found []) none
+abbrev pub firstList : ℕ → ℕ → (List Entry → Bool) → Option (List Entry)
+firstList K zero test = cond (test []) (some []) none
 firstList K (suc n) test = firstFrom (rankCount * K) 0 (λ i. putFirst (numbered i) (firstList K n (λ es. test (numbered i ∷ es))))
 
-unfoldable pub leastCycle : ℕ → Graph → Found
+unfoldable pub leastCycle : ℕ → Graph → Option (List Entry)
 leastCycle K g = firstFrom K 1 (λ n. firstList K n (isCycle K g))

@@ -33,6 +33,7 @@ use Rattle.shortest.specs.declared.Found.{Found}
 use Rattle.shortest.proofs.Routes.{first-E, place-E, step, stays, home-round, least-law}
 use Rattle.shortest.proofs.Levels.{home-first}
 use Rattle.shortest.proofs.Starts.{above-round, begun-start, begun-some}
+use Rattle.shortest.proofs.Words.{place-of-E}
 use Rattle.shortest.proofs.Picks.{ranks-few}
 
 -- A rank is low enough exactly if its first letter may follow.
@@ -42,12 +43,7 @@ rank-after R k o h = omega (arith, source-less o, place-E (k .first) (k .second)
 
 after-rank : (b : Second) (j : ℕ) → j < ranksAfter b → strongJoint b (kindAt j .first) ≡ true
 after-rank N j l = after-N (kindAt j .first)
-after-rank R j l = by (j / 3) (omega arith)
-  where
-    by : (p : ℕ) → p < 2 → strongJoint R (kindOfPlace p .first) ≡ true
-    by zero l = refl
-    by (suc zero) l = refl
-    by (suc (suc p)) l = absurd (omega arith)
+after-rank R j l = rw (place-of-E (j / 3) (omega arith)) refl
 
 abbrev pub rankEntry : ℕ → ℕ → Entry
 rankEntry x j = record { class = x; kind = kindAt j; source = sourceAt j }
@@ -92,13 +88,6 @@ module _ (b : Second) {rows : List ℕ} {K : ℕ} {g : Graph} {c m x : ℕ} {h :
                 ]
               ];
         }
-
-pub letter-law : (q : ℕ) → q < 4 → letterAt (q % 2) ≡ kindOfPlace q .second
-letter-law zero l = refl
-letter-law (suc zero) l = refl
-letter-law (suc (suc zero)) l = refl
-letter-law (suc (suc (suc zero))) l = refl
-letter-law (suc (suc (suc (suc q)))) l = absurd (omega arith)
 
 -- ---- The entries so far, and then the rest.
 

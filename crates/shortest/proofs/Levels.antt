@@ -24,11 +24,8 @@ use Rattle.search.specs.Arrivals.{none, In}
 use Rattle.search.specs.declared.Arrivals.{Arrivals}
 use Rattle.search.proofs.Sets.{empty, no-arrival, row-r, row-n}
 use Rattle.shortest.specs.Routes.{widest, Step, Home}
-use Rattle.shortest.specs.Levels.{letterAt, Leads, LeadsBy, Widened, Behind, AtHome, IsIn, IsEmpty, Above, stored, levelAt, Level, NoneUpTo, Filled}
+use Rattle.shortest.specs.Levels.{letterAt, LeadsInto, LeadsBy, Widened, Behind, AtHome, IsIn, IsEmpty, Above, stored, levelAt, Level, NoneUpTo, Filled}
 use Rattle.shortest.proofs.Routes.{after-E, stays}
-
-not-false : _≡_ {A = Bool} true false → ⊥
-not-false e = false≢true (sym e)
 
 -- ---- One class.
 
@@ -37,13 +34,13 @@ module _ (rows : List ℕ) (x first : ℕ) (e : first ≡ firstIndex (firstAt fi
   leads-r {to = to} o n l =
       let p = some-bit 64 to (omega arith) l in
       let q = rw (row-r rows x first e) at o in
-      record { yes′ = λ _. (R, p .0, q .left (p .0) (p .2), q .right (p .0) (p .2)); no′ = λ z. absurd (not-false z) }
+      record { yes′ = λ _. (R, p .0, q .left (p .0) (p .2), q .right (p .0) (p .2)); no′ = λ z. absurd (false≢true (sym z)) }
 
   pub leads-n : {s : Arrivals} {to : ℕ} → Both (getD rows (4 * x + first + 1) 0) (s .n) to → (to ≡ 0 → ⊥) → to < 2 ^ 64 → LeadsBy rows x (firstAt first) s true
   leads-n {to = to} o n l =
       let p = some-bit 64 to (omega arith) l in
       let q = rw (row-n rows x first e) at o in
-      record { yes′ = λ _. (N, p .0, q .left (p .0) (p .2), q .right (p .0) (p .2)); no′ = λ z. absurd (not-false z) }
+      record { yes′ = λ _. (N, p .0, q .left (p .0) (p .2), q .right (p .0) (p .2)); no′ = λ z. absurd (false≢true (sym z)) }
 
   pub leads-none : {s : Arrivals} {r n : ℕ} → Both (getD rows (4 * x + first) 0) (s .r) r → Both (getD rows (4 * x + first + 1) 0) (s .n) n → r ≡ 0 → n ≡ 0
       → LeadsBy rows x (firstAt first) s false
@@ -53,25 +50,25 @@ module _ (rows : List ℕ) (x first : ℕ) (e : first ≡ firstIndex (firstAt fi
       record { yes′ = λ z. absurd (false≢true z); no′ = λ _ b. elim b [ R ↦ λ y m k. empty y zr (u .all y m k) | N ↦ λ y m k. empty y zn (v .all y m k) ] }
 
 module _ {rows : List ℕ} {x : ℕ} {s : Arrivals} where
-  by-E : LeadsBy rows x E s true → (b : Second) → Leads rows s x b
+  by-E : LeadsBy rows x E s true → (b : Second) → LeadsInto rows s x b
   by-E l b = let p = l .yes′ refl in record { kind = record { first = E; second = p .0 }; to = p .1; strong = after-E b; drawn = p .2; into = p .3 }
 
-  by-S : LeadsBy rows x S s true → Leads rows s x N
+  by-S : LeadsBy rows x S s true → LeadsInto rows s x N
   by-S l = let p = l .yes′ refl in record { kind = record { first = S; second = p .0 }; to = p .1; strong = refl; drawn = p .2; into = p .3 }
 
-  not-by : (f : First) → LeadsBy rows x f s false → (b : Second) (l : Leads rows s x b) → l .kind .first ≡ f → ⊥
+  not-by : (f : First) → LeadsBy rows x f s false → (b : Second) (l : LeadsInto rows s x b) → l .kind .first ≡ f → ⊥
   not-by f n b l e =
       n .no′ refl (l .kind .second) (l .to)
       (subst (λ (o : First). Successor rows x (record { first = o; second = l .kind .second }) (l .to)) e (l .drawn)) (l .into)
 
-  not-R : LeadsBy rows x E s false → Leads rows s x R → ⊥
+  not-R : LeadsBy rows x E s false → LeadsInto rows s x R → ⊥
   not-R n l = by (l .kind .first) refl
     where
       by : (a : First) → l .kind .first ≡ a → ⊥
       by E e = not-by E n R l e
       by S e = false≢true (subst (λ (o : First). strongJoint R o ≡ true) e (l .strong))
 
-  not-N : LeadsBy rows x E s false → LeadsBy rows x S s false → Leads rows s x N → ⊥
+  not-N : LeadsBy rows x E s false → LeadsBy rows x S s false → LeadsInto rows s x N → ⊥
   not-N n m l = by (l .kind .first) refl
     where
       by : (a : First) → l .kind .first ≡ a → ⊥
@@ -114,9 +111,9 @@ pub behind-more : {rows : List ℕ} {from x : ℕ} {s out r : Arrivals} → Behi
 behind-more {rows} {from} {x} {s} {out} {r} o w =
     record {
       sound = λ j b h. ⊎-elim (λ y. let p = o .sound j b y in let l = p .0 in (omega arith, p .1))
-          (λ y. let e = y .0 in (omega arith, subst (λ (i : ℕ). Leads rows s i b) (sym (y .0)) (y .1))) (w .only j b h);
+          (λ y. let e = y .0 in (omega arith, subst (λ (i : ℕ). LeadsInto rows s i b) (sym (y .0)) (y .1))) (w .only j b h);
       complete = λ j b u l h. elim (ℕ-discrete j x) [
-        | yes e ↦ subst (λ (i : ℕ). In r i b) (sym e) (w .there b (subst (λ (i : ℕ). Leads rows s i b) e h))
+        | yes e ↦ subst (λ (i : ℕ). In r i b) (sym e) (w .there b (subst (λ (i : ℕ). LeadsInto rows s i b) e h))
         | no n ↦ w .kept j b (o .complete j b u (omega arith) h)
       ];
     }
@@ -149,13 +146,13 @@ home-n {l = l} z wn =
     })
 
 pub in-r : {s : Arrivals} {c l : ℕ} → l ≡ 0 → s .r / 2 ^ c % 2 ≡ 1 → IsIn s c (letterAt l) true
-in-r {s} {c} {l} z h = rw (letter-r l z) (record { yes′ = λ _. sym (bit-shift (s .r) c) ∙ h; no′ = λ q. absurd (not-false q) })
+in-r {s} {c} {l} z h = rw (letter-r l z) (record { yes′ = λ _. sym (bit-shift (s .r) c) ∙ h; no′ = λ q. absurd (false≢true (sym q)) })
 
 pub not-in-r : {s : Arrivals} {c l : ℕ} → l ≡ 0 → (s .r / 2 ^ c % 2 ≡ 1 → ⊥) → IsIn s c (letterAt l) false
 not-in-r {s} {c} {l} z h = rw (letter-r l z) (record { yes′ = λ q. absurd (false≢true q); no′ = λ _ m. h (bit-shift (s .r) c ∙ m) })
 
 pub in-n : {s : Arrivals} {c l : ℕ} → (l ≡ 0 → ⊥) → s .n / 2 ^ c % 2 ≡ 1 → IsIn s c (letterAt l) true
-in-n {s} {c} {l} z h = rw (letter-n l z) (record { yes′ = λ _. sym (bit-shift (s .n) c) ∙ h; no′ = λ q. absurd (not-false q) })
+in-n {s} {c} {l} z h = rw (letter-n l z) (record { yes′ = λ _. sym (bit-shift (s .n) c) ∙ h; no′ = λ q. absurd (false≢true (sym q)) })
 
 pub not-in-n : {s : Arrivals} {c l : ℕ} → (l ≡ 0 → ⊥) → (s .n / 2 ^ c % 2 ≡ 1 → ⊥) → IsIn s c (letterAt l) false
 not-in-n {s} {c} {l} z h = rw (letter-n l z) (record { yes′ = λ q. absurd (false≢true q); no′ = λ _ m. h (bit-shift (s .n) c ∙ m) })

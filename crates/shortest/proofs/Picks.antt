@@ -8,31 +8,16 @@ use lib.ListN.{getD}
 use Rattle.words.specs.Bits.{bit, Both, Lowest}
 use Rattle.words.proofs.Words.{bit-zero}
 use Rattle.rules.specs.HeldLocks.{Second, R, N}
-use Rattle.rules.specs.Ranks.{kindOfPlace}
-use Rattle.search.specs.Arrivals.{wordBy}
 use Rattle.search.specs.declared.Arrivals.{Arrivals}
 use Rattle.shortest.specs.Levels.{letterAt}
 use Rattle.shortest.specs.Shortest.{Side, ranksAfter, Hit, Picked}
-
-even : (s : Arrivals) (q : ℕ) → q < 4 → q % 2 ≡ 0 → s .r ≡ wordBy s (kindOfPlace q .second)
-even s zero l e = refl
-even s (suc zero) l e = absurd (omega arith)
-even s (suc (suc zero)) l e = refl
-even s (suc (suc (suc zero))) l e = absurd (omega arith)
-even s (suc (suc (suc (suc q)))) l e = absurd (omega arith)
-
-odd : (s : Arrivals) (q : ℕ) → q < 4 → (q % 2 ≡ 0 → ⊥) → s .n ≡ wordBy s (kindOfPlace q .second)
-odd s zero l e = absurd (e refl)
-odd s (suc zero) l e = refl
-odd s (suc (suc zero)) l e = absurd (e refl)
-odd s (suc (suc (suc zero))) l e = refl
-odd s (suc (suc (suc (suc q)))) l e = absurd (omega arith)
+use Rattle.shortest.proofs.Words.{place-of-R, place-of-N}
 
 pub side-r : (s : Arrivals) (j : ℕ) → j < 12 → j / 3 % 2 ≡ 0 → s .r ≡ Side s j
-side-r s j l e = even s (j / 3) (omega arith) e
+side-r s j l e = rw (place-of-R (j / 3) (omega arith) e) refl
 
 pub side-n : (s : Arrivals) (j : ℕ) → j < 12 → (j / 3 % 2 ≡ 0 → ⊥) → s .n ≡ Side s j
-side-n s j l e = odd s (j / 3) (omega arith) e
+side-n s j l n = rw (place-of-N (j / 3) (omega arith) n) refl
 
 pub ranks-r : (l : ℕ) → l ≡ 0 → 6 ≡ ranksAfter (letterAt l)
 ranks-r zero e = refl

@@ -7,7 +7,7 @@ use native.Mathlib.Decide.{ℕ-discrete, decLt}
 use lib.ListN.{getD, set, length, length-set}
 use lib.Seq.{getD-set-same, getD-set-other}
 use Rattle.words.specs.Bits.{bit, flag}
-use Rattle.rules.specs.HeldLocks.{First, E, S}
+use Rattle.rules.specs.HeldLocks.{First, E, S, R, N}
 use Rattle.rules.specs.Marks.{Level, hardIrq, softIrq, safe, unsafe}
 use Rattle.rules.specs.Graph.{Graph, Source, lock, irq, dependencyBy}
 use Rattle.rules.specs.Ranks.{kindOfPlace, kindAt, sourceAt}
@@ -20,6 +20,7 @@ use Rattle.successors.specs.declared.SafeWords.{SafeWords}
 use Rattle.successors.proofs.Digits.{column-bit, column-out, columns-at}
 use Rattle.successors.proofs.Classes.{safe-at}
 use Rattle.successors.proofs.Encoded.{mark-digit, kind-digit, flag-and, flag-true}
+use Rattle.shortest.specs.Levels.{letterAt}
 use Rattle.shortest.specs.Shortest.{Encoded, lockAt, safeAt, unsafeAt, digitBy, RankWord, RankWords}
 
 -- ---- By the kind's place.
@@ -36,31 +37,43 @@ lock-2 w q e = rw e refl
 pub lock-3 : (w : KindWords) (q : ℕ) → q < 4 → (q ≡ 0 → ⊥) → (q ≡ 1 → ⊥) → (q ≡ 2 → ⊥) → w .sn ≡ lockAt w q
 lock-3 w q l a b c = let e : q ≡ 3 = omega arith in rw e refl
 
+-- The letters of a kind's place.
+pub letter-law : (q : ℕ) → q < 4 → letterAt (q % 2) ≡ kindOfPlace q .second
+letter-law zero l = refl
+letter-law (suc zero) l = refl
+letter-law (suc (suc zero)) l = refl
+letter-law (suc (suc (suc zero))) l = refl
+letter-law (suc (suc (suc (suc q)))) l = absurd (omega arith)
+
+pub place-of-E : (q : ℕ) → q < 2 → kindOfPlace q .first ≡ E
+place-of-E zero l = refl
+place-of-E (suc zero) l = refl
+place-of-E (suc (suc q)) l = absurd (omega arith)
+
+place-of-S : (q : ℕ) → q < 4 → (q < 2 → ⊥) → kindOfPlace q .first ≡ S
+place-of-S zero l n = absurd (n (omega arith))
+place-of-S (suc zero) l n = absurd (n (omega arith))
+place-of-S (suc (suc zero)) l n = refl
+place-of-S (suc (suc (suc zero))) l n = refl
+place-of-S (suc (suc (suc (suc q)))) l n = absurd (omega arith)
+
+pub place-of-R : (q : ℕ) → q < 4 → q % 2 ≡ 0 → kindOfPlace q .second ≡ R
+place-of-R q l e = sym (letter-law q l) ∙ ap letterAt e
+
+pub place-of-N : (q : ℕ) → q < 4 → (q % 2 ≡ 0 → ⊥) → kindOfPlace q .second ≡ N
+place-of-N q l n = let e : q % 2 ≡ 1 = omega arith in sym (letter-law q l) ∙ ap letterAt e
+
 pub safe-r : (w : SafeWords) (q : ℕ) → q < 4 → q % 2 ≡ 0 → w .r ≡ safeAt w q
-safe-r w zero l e = refl
-safe-r w (suc zero) l e = absurd (omega arith)
-safe-r w (suc (suc zero)) l e = refl
-safe-r w (suc (suc (suc zero))) l e = absurd (omega arith)
-safe-r w (suc (suc (suc (suc q)))) l e = absurd (omega arith)
+safe-r w q l e = rw (place-of-R q l e) refl
 
 pub safe-n : (w : SafeWords) (q : ℕ) → q < 4 → (q % 2 ≡ 0 → ⊥) → w .n ≡ safeAt w q
-safe-n w zero l e = absurd (e refl)
-safe-n w (suc zero) l e = refl
-safe-n w (suc (suc zero)) l e = absurd (e refl)
-safe-n w (suc (suc (suc zero))) l e = refl
-safe-n w (suc (suc (suc (suc q)))) l e = absurd (omega arith)
+safe-n w q l n = rw (place-of-N q l n) refl
 
 pub unsafe-e : (q : ℕ) → q < 2 → 2 ≡ unsafeAt q
-unsafe-e zero l = refl
-unsafe-e (suc zero) l = refl
-unsafe-e (suc (suc q)) l = absurd (omega arith)
+unsafe-e q l = rw (place-of-E q l) refl
 
 pub unsafe-s : (q : ℕ) → q < 4 → (q < 2 → ⊥) → 3 ≡ unsafeAt q
-unsafe-s zero l n = absurd (n (omega arith))
-unsafe-s (suc zero) l n = absurd (n (omega arith))
-unsafe-s (suc (suc zero)) l n = refl
-unsafe-s (suc (suc (suc zero))) l n = refl
-unsafe-s (suc (suc (suc (suc q)))) l n = absurd (omega arith)
+unsafe-s q l n = rw (place-of-S q l n) refl
 
 pub unsafe-small : (q : ℕ) → unsafeAt q < 4
 unsafe-small q = by (kindOfPlace q .first)

@@ -19,7 +19,7 @@ letterAt zero = R
 letterAt (suc n) = N
 
 -- A dependency goes on from class x, arrived at by b, into the set.
-pub record Leads (rows : List ℕ) (s : Arrivals) (x : ℕ) (b : Second) : Type 0 where
+pub record LeadsInto (rows : List ℕ) (s : Arrivals) (x : ℕ) (b : Second) : Type 0 where
   pub kind : Kind
   pub to : ℕ
   pub strong : strongJoint b (kind .first) ≡ true
@@ -32,12 +32,12 @@ pub record LeadsBy (rows : List ℕ) (x : ℕ) (f : First) (s : Arrivals) (r : B
 
 pub record Widened (rows : List ℕ) (x : ℕ) (s out r : Arrivals) : Type 0 where
   pub kept : (j : ℕ) (b : Second) → In out j b → In r j b
-  pub there : (b : Second) → Leads rows s x b → In r x b
-  pub only : (j : ℕ) (b : Second) → In r j b → In out j b ⊎ ((j ≡ x) × Leads rows s x b)
+  pub there : (b : Second) → LeadsInto rows s x b → In r x b
+  pub only : (j : ℕ) (b : Second) → In r j b → In out j b ⊎ ((j ≡ x) × LeadsInto rows s x b)
 
 pub record Behind (rows : List ℕ) (from K : ℕ) (s t : Arrivals) : Type 0 where
-  pub sound : (x : ℕ) (b : Second) → In t x b → (x < K) × Leads rows s x b
-  pub complete : (x : ℕ) (b : Second) → from ≤ x → x < K → Leads rows s x b → In t x b
+  pub sound : (x : ℕ) (b : Second) → In t x b → (x < K) × LeadsInto rows s x b
+  pub complete : (x : ℕ) (b : Second) → from ≤ x → x < K → LeadsInto rows s x b → In t x b
 
 pub record AtHome (c : ℕ) (h : Second) (t : Arrivals) : Type 0 where
   pub sound : (x : ℕ) (b : Second) → In t x b → (x ≡ c) × (strongJoint b (widest h) ≡ true)
@@ -65,7 +65,7 @@ pub record Level (rows : List ℕ) (K c : ℕ) (h : Second) (m : ℕ) (s : Arriv
   pub sound : (g : Graph) → Rows K g rows → (x : ℕ) (b : Second) → In s x b → Home K g c h m x b
   pub complete : (g : Graph) → Rows K g rows → (x : ℕ) (b : Second) (o : Home K g c h m x b) → Above c (o .entries) → In s x b
 
--- n and fewer entries lead from class c, as after h, home over no class below c only if there are none.
+-- From class c, as after h, no 1 to n entries lead home over classes from c on.
 pub record NoneUpTo (rows : List ℕ) (K c : ℕ) (h : Second) (n : ℕ) : Type 0 where
   pub none : (g : Graph) → Rows K g rows → (m : ℕ) → 1 ≤ m → m ≤ n → (o : Home K g c h m c h) → Above c (o .entries) → ⊥
 

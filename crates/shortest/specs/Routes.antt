@@ -12,7 +12,7 @@ use Rattle.rules.specs.Cycle.{Entry}
 use Rattle.rules.specs.Rounds.{Leg, Route, Round}
 use Rattle.rules.specs.Ranks.{rank}
 
--- What follows this first letter's joint follows all that may follow b: after R only E follows.
+-- An arrival after which this first letter may follow is one after which all may follow that may follow b: after R only E may.
 abbrev pub widest : Second → First
 widest R = E
 widest N = S

@@ -1,7 +1,7 @@
 use Prim.Native.Nat.{_/_}
 use borrow.Author.Needs.{needs}
 use native.Mathlib.Omega.{arith}
-use Rattle.shortest.proofs.Chains.{letter-law}
+use Rattle.shortest.proofs.Words.{letter-law}
 use Rattle.shortest.proofs.letter_of.Statement.{statement}
 use Rattle.shortest.proofs.letter_of.Tie as tie
 
