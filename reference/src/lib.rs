@@ -1,9 +1,10 @@
 //! An independent second program for the lock log judge.
 //!
 //! Written from the documents alone (01, "What will be built, and the rules", and
-//! of 02 "A try never waits", "Logs arrive in pieces" and "Show the shortest circle",
-//! with the feed's layout and fit test as they were handed over), to be compared byte
-//! for byte with the proved library. Sentences in quotation marks are the documents'.
+//! of 02 "A try never waits", "Logs arrive in pieces", "Show the shortest circle" and
+//! "Clash of one class by table", with the feed's layout and fit test as they were
+//! handed over), to be compared byte for byte with the proved library. Sentences in
+//! quotation marks are the documents'.
 //!
 //! How closed strong paths are decided: a path is a walk over *arrivals*, an
 //! arrival being a class together with the second letter (N or R) of the arrow
@@ -14,6 +15,9 @@
 //! away until none can be; a cycle exists exactly if something remains.
 //!
 //! How the circle shown is chosen: see [`least_circle`].
+//!
+//! The list of request d, [`CLASHES`], stands beside the search, which doesn't read it:
+//! "No answer and no byte changes." The tests hold the one against the other.
 #![forbid(unsafe_code)]
 
 use std::io::{ErrorKind, Read, Write};
@@ -590,6 +594,54 @@ impl Arrivals {
 pub fn closed_strong_path(desk: &[u8], sheet: &[u8]) -> bool {
     Arrivals::of(desk, sheet).peel() != 0
 }
+
+// ------------------------------------------------------ the clash of one class
+
+/// "whether one class's marks already make a one-arrow strong circle", worked out: an
+/// interrupt arrow of the class to itself, at either level, strong at its closing joint.
+pub fn clash(marks: u8) -> bool {
+    // "Mark bits: 1 hard-safe N, 2 hard-safe R, 4 hard-unsafe E, 8 hard-unsafe S;
+    // 16, 32, 64, 128 the same for soft."
+    for level in [1, 16] {
+        for (unsafe_mark, first) in [(4, 'E'), (8, 'S')] {
+            for (safe_mark, second) in [(1, 'N'), (2, 'R')] {
+                // "from each class with an unsafe mark to each class with a safe mark of
+                // the same level, its kind made of the two letters"
+                let arrow = marks & (unsafe_mark * level) != 0 && marks & (safe_mark * level) != 0;
+                // "no arrow ending in R is followed by one beginning with S", and what
+                // follows this arrow is itself.
+                let strong = !(second == 'R' && first == 'S');
+                if arrow && strong {
+                    return true;
+                }
+            }
+        }
+    }
+    false
+}
+
+/// "a fixed list of 256 answers, one for each mark byte, yes exactly when they do": 1
+/// for yes, 0 for no. A row for each four soft marks, a column for each four hard ones.
+#[rustfmt::skip]
+pub const CLASHES: [u8; 256] = [
+//  -  N  R NR  E  EN ER ENR S  SN SR SNR ES ESN ESR all
+    0, 0, 0, 0, 0, 1, 1, 1,  0, 1, 0, 1,  0, 1,  1,  1, // no soft mark
+    0, 0, 0, 0, 0, 1, 1, 1,  0, 1, 0, 1,  0, 1,  1,  1, // N
+    0, 0, 0, 0, 0, 1, 1, 1,  0, 1, 0, 1,  0, 1,  1,  1, // R
+    0, 0, 0, 0, 0, 1, 1, 1,  0, 1, 0, 1,  0, 1,  1,  1, // N, R
+    0, 0, 0, 0, 0, 1, 1, 1,  0, 1, 0, 1,  0, 1,  1,  1, // E
+    1, 1, 1, 1, 1, 1, 1, 1,  1, 1, 1, 1,  1, 1,  1,  1, // E, N
+    1, 1, 1, 1, 1, 1, 1, 1,  1, 1, 1, 1,  1, 1,  1,  1, // E, R
+    1, 1, 1, 1, 1, 1, 1, 1,  1, 1, 1, 1,  1, 1,  1,  1, // E, N, R
+    0, 0, 0, 0, 0, 1, 1, 1,  0, 1, 0, 1,  0, 1,  1,  1, // S
+    1, 1, 1, 1, 1, 1, 1, 1,  1, 1, 1, 1,  1, 1,  1,  1, // S, N
+    0, 0, 0, 0, 0, 1, 1, 1,  0, 1, 0, 1,  0, 1,  1,  1, // S, R
+    1, 1, 1, 1, 1, 1, 1, 1,  1, 1, 1, 1,  1, 1,  1,  1, // S, N, R
+    0, 0, 0, 0, 0, 1, 1, 1,  0, 1, 0, 1,  0, 1,  1,  1, // E, S
+    1, 1, 1, 1, 1, 1, 1, 1,  1, 1, 1, 1,  1, 1,  1,  1, // E, S, N
+    1, 1, 1, 1, 1, 1, 1, 1,  1, 1, 1, 1,  1, 1,  1,  1, // E, S, R
+    1, 1, 1, 1, 1, 1, 1, 1,  1, 1, 1, 1,  1, 1,  1,  1, // all
+];
 
 // ---------------------------------------------------------- the circle shown
 

@@ -1737,6 +1737,231 @@ fn no_circle_and_unfit() {
     }
 }
 
+// ------------------------------------------------------ the clash of one class
+
+/// Every one-arrow strong circle of a class, the least first, from the sum of its hold
+/// arrows' kinds to itself and its marks.
+fn one_arrow(class: usize, kinds: u8, marks: u8) -> Vec<Triple> {
+    let has = |bit: u8| marks & bit != 0;
+    let mut all = Vec::new();
+    // Kinds in the order 1, 2, 4, 8 with their marks at hard, each by hold, hard, soft.
+    for (kind, unsafe_, safe) in [(ER, 4, 2), (EN, 4, 1), (SR, 8, 2), (SN, 8, 1)] {
+        let hold = kinds & kind != 0;
+        let hard = has(unsafe_) && has(safe);
+        let soft = has(16 * unsafe_) && has(16 * safe);
+        for (source, there) in [(0, hold), (1, hard), (2, soft)] {
+            // An SR doesn't follow itself.
+            if there && kind != SR {
+                all.push((class as u8, kind, source));
+            }
+        }
+    }
+    assert!(all.is_sorted());
+    all
+}
+
+/// The lowest and the highest class, for K = 1, 2 and 64.
+const ENDS: [(usize, usize); 5] = [(1, 0), (2, 0), (2, 1), (64, 0), (64, 63)];
+
+/// Core 0's hard off on a bench without holds: it draws and marks nothing. The answer is
+/// 1 with this arrow on the slip, or 0, and no other byte changes.
+fn assert_after_hard_off(b: &Bench, circle: Option<Triple>) {
+    assert!(b.desk[STATES..MARKS].iter().chain(&b.desk[HOLDS..]).all(|&byte| byte == 0));
+    let mut after = b.clone();
+    assert_eq!(after.step(&event(0, HARD_OFF)), u8::from(circle.is_some()));
+    let mut expected = b.clone();
+    expected.desk[1] = u8::from(circle.is_some());
+    expected.desk[STATES] = 2;
+    if let Some((class, kind, source)) = circle {
+        expected.slip[..4].copy_from_slice(&[1, class, kind, source]);
+    }
+    assert_eq!(after, expected);
+}
+
+#[test]
+fn the_list_of_clashes() {
+    for m in 0..=255 {
+        assert_eq!(CLASHES[m as usize], u8::from(clash(m)), "{m}");
+    }
+    assert_eq!(CLASHES.iter().filter(|&&yes| yes == 1).count(), 192);
+    // Those that the fit test passes.
+    let fit = |m: &u8| {
+        let mut b = Bench::new(1);
+        b.desk[MARKS] = *m;
+        b.unfit().is_none()
+    };
+    let fit: Vec<u8> = (0..=255).filter(fit).collect();
+    assert_eq!(fit, fit_marks());
+    assert_eq!(fit.len(), 144);
+    assert_eq!(fit.iter().filter(|&&m| CLASHES[m as usize] == 1).count(), 103);
+}
+
+#[test]
+fn clashes_by_letters() {
+    let yes = |marks: &[u8]| CLASHES[marks.iter().sum::<u8>() as usize] == 1;
+    for level in [1, 16] {
+        let [n, r, e, s] = [1, 2, 4, 8].map(|bit| bit * level);
+        assert!(yes(&[e, n]) && yes(&[e, r]) && yes(&[e, n, r]));
+        assert!(yes(&[s, n]) && yes(&[s, n, r]));
+        assert!(!yes(&[s, r]));
+        assert!(yes(&[e, s, n]) && yes(&[e, s, r]) && yes(&[e, s, n, r]));
+        // Unsafe alone, or safe alone.
+        assert!(!yes(&[]) && !yes(&[e]) && !yes(&[s]) && !yes(&[e, s]));
+        assert!(!yes(&[n]) && !yes(&[r]) && !yes(&[n, r]));
+    }
+    // Unsafe at one level and safe at the other.
+    for unsafe_ in [0, 4, 8, 12] {
+        for safe in [0, 1, 2, 3] {
+            assert!(!yes(&[unsafe_, 16 * safe]));
+            assert!(!yes(&[16 * unsafe_, safe]));
+        }
+    }
+    // S with R at both levels is no more than at one.
+    assert!(!yes(&[8, 2, 128, 32]));
+    // More marks never take a clash away.
+    for m in 0..=255u8 {
+        assert!((0..8).all(|i| CLASHES[(m | 1 << i) as usize] >= CLASHES[m as usize]), "{m}");
+    }
+}
+
+#[test]
+fn marks_of_one_class_alone() {
+    for m in fit_marks() {
+        for (k, class) in ENDS {
+            let circle = one_arrow(class, 0, m).into_iter().next();
+            assert_eq!(circle.is_some(), CLASHES[m as usize] == 1, "{m}");
+            let b = made(k, &[], &[(class, m)]);
+            assert_after_hard_off(&b, circle);
+            assert_eq!(least_circle(&b.desk, &b.sheet), circle.map(|arrow| vec![arrow]));
+        }
+    }
+    // By hand: ER before EN before SN, and in each hard before soft.
+    for (m, kind, source) in [
+        (4 + 2, ER, 1), (4 + 64 + 32, ER, 2), (4 + 64 + 2 + 32, ER, 1), (4 + 64 + 1 + 32, ER, 2), //
+        (4 + 1, EN, 1), (4 + 64 + 16, EN, 2), (4 + 64 + 1 + 16, EN, 1), (4 + 8 + 1, EN, 1), //
+        (8 + 1, SN, 1), (8 + 128 + 16, SN, 2), (8 + 128 + 2 + 16, SN, 2), (8 + 1 + 2, SN, 1), //
+        (4 + 8 + 64 + 1 + 16, EN, 1), (4 + 8 + 128 + 16 + 1, EN, 1), (4 + 8 + 128 + 16, SN, 2),
+    ] {
+        assert_shows(&made(64, &[], &[(63, m)]), &[(63, kind, source)]);
+    }
+}
+
+#[test]
+fn hold_circles_are_no_clash() {
+    // P6, P7, P8 and the marks they leave: unsafe alone.
+    for (first, second, answer, shown) in [(R, R, 0, 0), (R, NR, 1, SN), (E, R, 1, ER)] {
+        let mut b = Bench::new(8).clean(&[take(0, 0, first)]);
+        assert_eq!(b.step(&take(0, 0, second)), answer);
+        assert_eq!(CLASHES[b.desk[MARKS] as usize], 0);
+        if answer == 1 {
+            assert_eq!(b.slip[..4], [1, 0, shown, 0]);
+        }
+    }
+    // Each mark byte whose answer is no, with each hold arrow of the class to itself.
+    for m in fit_marks().into_iter().filter(|&m| CLASHES[m as usize] == 0) {
+        for (k, class) in ENDS {
+            for kind in [ER, EN, SN] {
+                assert_after_hard_off(&made(k, &[(class, kind, class)], &[(class, m)]), Some((class as u8, kind, 0)));
+            }
+            assert_after_hard_off(&made(k, &[(class, SR, class)], &[(class, m)]), None);
+        }
+    }
+    // P11 is a fault by two arrows, and no class clashes.
+    let mut b = Bench::new(8).clean(&[
+        event(0, ENTER_HARD), take(0, 4, E), release(0, 4), event(0, EXIT_HARD), //
+        event(0, HARD_OFF), take(0, 4, E), take(0, 5, E), release(0, 5), release(0, 4), //
+        event(0, HARD_ON),
+    ]);
+    assert_eq!(b.step(&take(0, 5, E)), 1);
+    assert_eq!(b.slip[..7], [2, 4, EN, 0, 5, EN, 1]);
+    assert!(b.desk[MARKS..HOLDS].iter().all(|&m| CLASHES[m as usize] == 0));
+}
+
+#[test]
+fn a_clash_and_a_hold_circle_at_two_classes() {
+    let clashing = || fit_marks().into_iter().filter(|&m| CLASHES[m as usize] == 1);
+    for m in clashing() {
+        for kind in [ER, EN, SN] {
+            for (k, low, high) in [(2, 0, 1), (64, 0, 63), (64, 30, 31)] {
+                // The lower class, whichever kind and source stand there.
+                let b = made(k, &[(low, kind, low)], &[(high, m)]);
+                assert_after_hard_off(&b, Some((low as u8, kind, 0)));
+                let b = made(k, &[(high, kind, high)], &[(low, m)]);
+                assert_after_hard_off(&b, Some(one_arrow(low, 0, m)[0]));
+                // SR to itself at the lower class is no circle.
+                let b = made(k, &[(low, SR, low)], &[(high, m)]);
+                assert_after_hard_off(&b, Some(one_arrow(high, 0, m)[0]));
+                // One arrow at the higher class before two from the lower.
+                let b = made(k, &[(low, kind, high), (high, EN, low)], &[(high, m)]);
+                assert_after_hard_off(&b, Some(one_arrow(high, 0, m)[0]));
+            }
+        }
+    }
+    // Two clashes: the lower class, though its kind and source be greater.
+    assert_shows(&made(64, &[], &[(5, 8 + 128 + 16), (6, 4 + 2)]), &[(5, SN, 2)]);
+    assert_shows(&made(64, &[(0, SN, 0)], &[(63, 4 + 2)]), &[(0, SN, 0)]);
+    assert_shows(&made(64, &[(63, ER, 63)], &[(0, 8 + 128 + 16)]), &[(0, SN, 2)]);
+}
+
+#[test]
+fn a_clash_and_hold_arrows_at_one_class() {
+    for m in fit_marks() {
+        for kinds in 0..16 {
+            for (k, class) in [(1, 0), (2, 1)] {
+                let all = one_arrow(class, kinds, m);
+                let b = made(k, &[(class, kinds, class)], &[(class, m)]);
+                let lists: Vec<Vec<Triple>> = all.iter().map(|&arrow| vec![arrow]).collect();
+                assert_eq!(all_circles(&b.desk, &b.sheet, 1), lists);
+                // A clash, or a hold arrow to itself but SR.
+                assert_eq!(!all.is_empty(), CLASHES[m as usize] == 1 || kinds & !SR != 0);
+                assert_after_hard_off(&b, all.first().copied());
+            }
+        }
+    }
+    // By hand: the least kind, and with one kind hold before hard before soft.
+    for (kinds, m, kind, source) in [
+        (EN, 4 + 2, ER, 1), (EN, 4 + 64 + 32, ER, 2), (ER, 4 + 2, ER, 0), (EN, 4 + 1, EN, 0), //
+        (SN, 4 + 1, EN, 1), (SN, 4 + 64 + 16, EN, 2), (SN, 8 + 1, SN, 0), (SN, 8 + 2, SN, 0), //
+        (SR, 8 + 1, SN, 1), (SR, 8 + 128 + 16 + 2, SN, 2), (SR | SN, 8 + 128 + 1 + 16, SN, 0), (15, 255, ER, 0), //
+        (14, 255, ER, 1), (EN | SN, 4 + 8 + 64 + 1 + 32, ER, 2),
+    ] {
+        for (k, class) in [(8, 0), (8, 7), (64, 63)] {
+            assert_shows(&made(k, &[(class, kinds, class)], &[(class, m)]), &[(class as u8, kind, source)]);
+        }
+    }
+}
+
+#[test]
+fn clashes_of_logs() {
+    // Each state by the shortest way from 0.
+    let ways: [&[u8]; 9] = [
+        &[], &[SOFT_OFF], &[HARD_OFF], &[SOFT_OFF, HARD_OFF], &[ENTER_SOFT], &[ENTER_SOFT, HARD_OFF], //
+        &[ENTER_HARD], &[SOFT_OFF, ENTER_HARD], &[ENTER_SOFT, ENTER_HARD],
+    ];
+    // Two cores take the class in all states and modes: no frame holds it twice, so all
+    // arrows are interrupt arrows and a fault is a clash.
+    let mut faults = 0;
+    for (one, two) in (0..9).flat_map(|one| (0..9).map(move |two| (one, two))) {
+        for (m1, m2) in MODES.into_iter().flat_map(|m1| MODES.map(|m2| (m1, m2))) {
+            let mut b = Bench::new(1);
+            for (core, state, mode) in [(0, one, m1), (1, two, m2)] {
+                let mut records: Vec<Rec> = ways[state].iter().map(|&kind| event(core, kind)).collect();
+                records.push(take(core, 0, mode));
+                for r in records {
+                    let answer = b.step(&r);
+                    assert_eq!(answer, CLASHES[b.desk[MARKS] as usize]);
+                    assert!(answer == 0 || (core == 1 && r[3] == TAKE));
+                    faults += usize::from(answer);
+                }
+                assert_eq!(b.desk[STATES + core as usize] as usize, state);
+            }
+        }
+    }
+    // E from 2 modes with N or R from 3 that wait, S from 4 with N from 2: 14. Hard-unsafe
+    // in 3 states and hard-safe in 3, soft-unsafe in 1 and soft-safe in 2; either core first.
+    assert_eq!(faults, 14 * (3 * 3 + 2) * 2);
+}
+
 // ---------------------------------------------------------------- random logs
 
 /// A naive judge of its own: holds as lists, arrows as a list, everything drawn

@@ -1,7 +1,8 @@
--- The answers of a list of records, with the marks so far kept in lists: the same, and quicker to compute. For the tables of examples. Assumes nothing.
+-- The answers of a list of records, with the marks kept in lists: the same, and quicker to compute. For the tables of examples. Assumes nothing.
 use mathlib.Core.Path.{_≡_, refl, ap, _∙_, fun-ext}
 use mathlib.Core.Bool.{Bool, true, false, cond}
 use mathlib.Core.List.{List, [], _∷_}
+use mathlib.Core.Option.{Option, none, some}
 use Prim.Native.Nat.{ℕ, _<_}
 use lib.Dec.{ltb}
 use lib.ListN.{getD}
@@ -9,9 +10,9 @@ use borrow.Author.Tests.{ltb-true}
 use Rattle.rules.specs.Record.{Bytes}
 use Rattle.rules.specs.HeldLocks.{E, S, R, N}
 use Rattle.rules.specs.Marks.{Level, hardIrq, softIrq, Usage, safe, unsafe, Marks}
-use Rattle.rules.specs.Decision.{tabulate}
-use Rattle.rules.specs.Verdict.{number}
-use Rattle.rules.specs.Run.{State, step, answers}
+use Rattle.rules.specs.Decision.{tabulate, cyclic}
+use Rattle.rules.specs.Verdict.{Refusal, number, refusal}
+use Rattle.rules.specs.Run.{State, situation, accept, Result, decided, settled, step, answers}
 use Rattle.rules.proofs.Closure.{getD-tabulate}
 
 abbrev pub placeOf : Level → Usage → ℕ
@@ -60,12 +61,21 @@ keep-same K s =
     ap (λ (m : Marks). record { is-closed = s .is-closed; cores = s .cores; graph = record { locks = s .graph .locks; marks = m } })
     (fun-ext (λ c. fun-ext (λ l. fun-ext (λ u. kept-same K (s .graph .marks) c l u))))
 
+-- An accepted record, decided over what is kept.
+abbrev pub quickSettled : ℕ → State → Bytes → Option Refusal → Result
+quickSettled K s r (some why) = settled K s r (some why)
+quickSettled K s r none = let t = keep K (accept s r) in decided (cyclic K (t .graph)) t
+
+quick-settled : (K : ℕ) (s : State) (r : Bytes) (w : Option Refusal) → quickSettled K s r w ≡ settled K s r w
+quick-settled K s r (some why) = refl
+quick-settled K s r none = ap (λ (t : State). decided (cyclic K (t .graph)) t) (keep-same K (accept s r))
+
 abbrev pub quickly : ℕ → State → List Bytes → List ℕ
 quickly K s [] = []
-quickly K s (r ∷ rs) = let o = step K s r in number (o .answer) ∷ quickly K (keep K (o .state)) rs
+quickly K s (r ∷ rs) = let o = quickSettled K s r (refusal (situation K s r)) in number (o .answer) ∷ quickly K (o .state) rs
 
 pub quickly-same : (K : ℕ) (s : State) (rs : List Bytes) → quickly K s rs ≡ answers K s rs
 quickly-same K s [] = refl
 quickly-same K s (r ∷ rs) =
-    let o = step K s r in
-    ap (λ (ns : List ℕ). number (o .answer) ∷ ns) (quickly-same K (keep K (o .state)) rs ∙ ap (λ (t : State). answers K t rs) (keep-same K (o .state)))
+    ap (λ (o : Result). number (o .answer) ∷ quickly K (o .state) rs) (quick-settled K s r (refusal (situation K s r)))
+    ∙ ap (λ (ns : List ℕ). number (step K s r .answer) ∷ ns) (quickly-same K (step K s r .state) rs)

@@ -201,10 +201,10 @@ chained {K = K} {size = size} {start = start} {by = by} {i = i} {f = f} {class =
 pub positive : {n : ℕ} → (n ≡ 0 → ⊥) → 0 < n
 positive {n} z = elim (ℕ-discrete n 0) [ yes e ↦ absurd (z e) | no e ↦ omega arith ]
 
-pub none-found : {desk sheet rows : List ℕ} {K : ℕ} {b : Begin} {f : Found} → Begun rows K (2 * K) b → b .n ≡ 0 → f .n ≡ 0 → Shortest desk sheet rows K f
-none-found o z e = record { few = omega arith; some = λ g w p. let l = begun-some w o p in absurd (omega arith); least = λ l. absurd (omega arith) }
+pub none-found : {desk sheet rows : List ℕ} {K limit : ℕ} {b : Begin} {f : Found} → Begun rows K limit (2 * K) b → b .n ≡ 0 → f .n ≡ 0 → Shortest desk sheet rows K limit f
+none-found o z e = record { few = omega arith; some = λ g w es c i. let l = begun-some w o es c i in absurd (omega arith); least = λ l. absurd (omega arith) }
 
-module _ {desk sheet rows : List ℕ} {K n : ℕ} {b : Begin} {levels : List ℕ} {f : Found} (o : Begun rows K (2 * K) b) (some : b .n ≡ 0 → ⊥)
+module _ {desk sheet rows : List ℕ} {K limit n : ℕ} {b : Begin} {levels : List ℕ} {f : Found} (o : Begun rows K limit (2 * K) b) (some : b .n ≡ 0 → ⊥)
     (t : Filled rows K (b .start / 2) (letterAt (b .start % 2)) (b .n) n levels) (h : Chained desk sheet K (b .n) (b .start / 2) (b .start % 2) levels f) where
   -- The levels were filled to the end.
   filled : (g : Graph) → Rows K g rows → n ≡ b .n
@@ -228,10 +228,10 @@ module _ {desk sheet rows : List ℕ} {K n : ℕ} {b : Begin} {levels : List ℕ
         home = o .home (positive some) g w;
       }
 
-  pub some-found : Shortest desk sheet rows K f
+  pub some-found : Shortest desk sheet rows K limit f
   some-found =
       record {
         few = omega (arith, h .n, o .within (positive some));
-        some = λ g w c. omega (arith, h .n, positive some);
+        some = λ g w es c l. omega (arith, h .n, positive some);
         least = λ l g v w. least-law (begun-start w o (positive some)) (h .greedy g rows (prepared g v w)) (length-tabulate (f .n) (foundEntry f) ∙ h .n);
       }

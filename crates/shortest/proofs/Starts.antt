@@ -7,12 +7,10 @@ use native.Mathlib.Decide.{ℕ-discrete, decLt}
 use lib.ListN.{length}
 use Rattle.rules.specs.HeldLocks.{Second, R, N}
 use Rattle.rules.specs.Graph.{Graph}
-use Rattle.rules.specs.StrongPath.{ClosedStrongPath}
-use Rattle.rules.specs.Cycle.{Entry, entryAt}
+use Rattle.rules.specs.Cycle.{Entry, entryAt, Cycle}
 use Rattle.rules.specs.Rounds.{Route, stay, pass, Round}
 use Rattle.rules.proofs.Rounds.{turned}
 use Rattle.rules.proofs.Pigeons.{some-below}
-use Rattle.rules.proofs.CycleExists.{cycle-exists}
 use Rattle.search.specs.Rows.{secondIndex, Rows}
 use Rattle.shortest.specs.Routes.{Start}
 use Rattle.shortest.specs.Levels.{letterAt, Above, NoneUpTo, Filled}
@@ -32,9 +30,9 @@ pub same-start : (x s : ℕ) (d : Second) → startOf x d ≡ s → (x ≡ s / 2
 same-start x s R e = (omega arith, (let z : s % 2 ≡ 0 = omega arith in rw z refl))
 same-start x s N e = (omega arith, (let z : s % 2 ≡ 1 = omega arith in rw z refl))
 
-pub begun-none : {rows : List ℕ} {K : ℕ} → Begun rows K 0 (record { n = 0; start = 0; limit = K })
-begun-none = record {
-  few = omega arith;
+pub begun-none : {rows : List ℕ} {K limit : ℕ} → limit ≤ K → Begun rows K limit 0 (record { n = 0; start = 0; limit = limit })
+begun-none few = record {
+  few = few;
   searched = λ x d l. absurd (omega arith);
   none = λ _. refl;
   exact = λ l. absurd (omega arith);
@@ -44,8 +42,8 @@ begun-none = record {
   home = λ l. absurd (omega arith);
 }
 
-module _ {rows : List ℕ} {K s n : ℕ} {b r : Begin} {levels : List ℕ} (o : Begun rows K s b) (f : Filled rows K (s / 2) (letterAt (s % 2)) (b .limit) n levels) (t : Better b n s r) where
-  not-found : n ≡ 0 → Begun rows K (s + 1) r
+module _ {rows : List ℕ} {K limit s n : ℕ} {b r : Begin} {levels : List ℕ} (o : Begun rows K limit s b) (f : Filled rows K (s / 2) (letterAt (s % 2)) (b .limit) n levels) (t : Better b n s r) where
+  not-found : n ≡ 0 → Begun rows K limit (s + 1) r
   not-found z =
       rw (t .none z) (record {
         few = o .few;
@@ -61,7 +59,7 @@ module _ {rows : List ℕ} {K s n : ℕ} {b r : Begin} {levels : List ℕ} (o : 
         home = o .home;
       })
 
-  found : (n ≡ 0 → ⊥) → Begun rows K (s + 1) r
+  found : (n ≡ 0 → ⊥) → Begun rows K limit (s + 1) r
   found z =
       let e = t .some z in
       let en = e .0 in
@@ -83,7 +81,7 @@ module _ {rows : List ℕ} {K s n : ℕ} {b r : Begin} {levels : List ℕ} (o : 
         home = λ _ g w. rw (es, en) (f .home (omega arith) g w);
       }
 
-  pub begun-more : Begun rows K (s + 1) r
+  pub begun-more : Begun rows K limit (s + 1) r
   begun-more = elim (ℕ-discrete n 0) [ yes z ↦ not-found z | no z ↦ found z ]
 
 -- ---- What the loop's end says.
@@ -128,7 +126,7 @@ letter-after : (l : ℕ) → letterAt l ≡ N → l ≡ 0 → ⊥
 letter-after zero e z = let q : _≡_ {A = ℕ} 0 1 = ap secondIndex e in omega arith
 letter-after (suc l) e z = omega arith
 
-module _ {rows : List ℕ} {K : ℕ} {g : Graph} {b : Begin} (w : Rows K g rows) (o : Begun rows K (2 * K) b) where
+module _ {rows : List ℕ} {K limit : ℕ} {g : Graph} {b : Begin} (w : Rows K g rows) (o : Begun rows K limit (2 * K) b) where
   -- A round that was looked for from its lowest class.
   not-searched : {n x : ℕ} (s : ℕ) (t : Turned K g x n) → ((d : Second) → NoneUpTo rows K (t .class) d s) → s < n
   not-searched {n} s t none = elim (decLt s n) [
@@ -163,12 +161,10 @@ module _ {rows : List ℕ} {K : ℕ} {g : Graph} {b : Begin} (w : Rows K g rows)
             (record { above = λ i k. let u = turned r i k in low l (entryAt (h .entries) i .class) (u .0) (u .1) (u .2 ∙ h .long) });
       }
 
-  -- With a closed strong path there is a start.
-  pub begun-some : ClosedStrongPath K g → 0 < b .n
-  begun-some p = elim (ℕ-discrete (b .n) 0) [
-    | yes z ↦ let c = cycle-exists p in
-        let s = searched-less (entryAt (c .0) 0 .class) (c .0) (cycle-round (c .0) (c .1)) in
-        let m = c .1 .at-most in
+  -- With a cycle within the limit there is a start.
+  pub begun-some : (es : List Entry) → Cycle K g es → length es ≤ limit → 0 < b .n
+  begun-some es c l = elim (ℕ-discrete (b .n) 0) [
+    | yes z ↦ let s = searched-less (entryAt es 0 .class) es (cycle-round es c) in
         let e = o .none z in
         absurd (omega arith)
     | no z ↦ omega arith

@@ -3,14 +3,13 @@ use mathlib.Core.Path.{_≡_}
 use mathlib.Core.Bool.{Bool, true}
 use mathlib.Core.List.{List}
 use Prim.Native.Nat.{ℕ, _+_, _/_, _<_, _≤_, min}
-use lib.ListN.{getD}
+use lib.ListN.{length, getD}
 use Rattle.words.specs.Bits.{bit}
 use Rattle.rules.specs.HeldLocks.{Second, R, N, Core}
 use Rattle.rules.specs.Marks.{hardIrq, softIrq, unsafe}
 use Rattle.rules.specs.Graph.{Graph, Source, lock, irq, dependencyBy}
-use Rattle.rules.specs.StrongPath.{ClosedStrongPath}
 use Rattle.rules.specs.Decision.{tabulate}
-use Rattle.rules.specs.Cycle.{Entry}
+use Rattle.rules.specs.Cycle.{Entry, Cycle}
 use Rattle.rules.specs.LeastCycle.{LeastCycle}
 use Rattle.rules.specs.Ranks.{kindOfPlace, rankCount, kindAt, sourceAt}
 use Rattle.layout.specs.Encoding.{DeskBytes, SheetBytes}
@@ -119,8 +118,8 @@ pub record Chained (desk sheet : List ℕ) (K size start by : ℕ) (levels : Lis
   pub greedy : (g : Graph) (rows : List ℕ) → Prepared K g desk sheet rows size start by levels
       → Greedy K g start (letterAt by) start (letterAt by) (foundEntries f)
 
--- With a closed strong path f is the least cycle of the graph that bytes and words are.
-pub record Shortest (desk sheet rows : List ℕ) (K : ℕ) (f : Found) : Type 0 where
+-- With a cycle of at most `limit` dependencies f is the least cycle of the graph that bytes and words are.
+pub record Shortest (desk sheet rows : List ℕ) (K limit : ℕ) (f : Found) : Type 0 where
   pub few : f .n ≤ K
-  pub some : (g : Graph) → Rows K g rows → ClosedStrongPath K g → 0 < f .n
+  pub some : (g : Graph) → Rows K g rows → (es : List Entry) → Cycle K g es → length es ≤ limit → 0 < f .n
   pub least : 0 < f .n → (g : Graph) → Encoded K g desk sheet → Rows K g rows → LeastCycle K g (foundEntries f)

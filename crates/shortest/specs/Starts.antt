@@ -17,11 +17,11 @@ pub record Better (b : Begin) (n start : ℕ) (r : Begin) : Type 0 where
   pub none : n ≡ 0 → r ≡ b
   pub some : (n ≡ 0 → ⊥) → (r .n ≡ n) × (r .start ≡ start) × (r .limit + 1 ≡ n)
 
--- The best of the starts before s.
-pub record Begun (rows : List ℕ) (K s : ℕ) (b : Begin) : Type 0 where
+-- The best of the starts before s, among cycles of at most `limit` dependencies.
+pub record Begun (rows : List ℕ) (K limit s : ℕ) (b : Begin) : Type 0 where
   pub few : b .limit ≤ K
   pub searched : (x : ℕ) (d : Second) → startOf x d < s → NoneUpTo rows K x d (b .limit)
-  pub none : b .n ≡ 0 → b .limit ≡ K
+  pub none : b .n ≡ 0 → b .limit ≡ limit
   pub exact : 0 < b .n → b .n ≡ b .limit + 1
   pub within : 0 < b .n → b .n ≤ K
   pub before : 0 < b .n → b .start < s

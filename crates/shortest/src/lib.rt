@@ -199,14 +199,14 @@ fn better(b: Begin, n: usize, start: u32) -> Begin
     }
 }
 
-fn first_start(rows: &[u64; ROWS], k: u32, levels: &mut [u64; LEVELS]) -> Begin
-    requires { ⌜ (k ≤ 64) × (length (now levels) ≡ 128) ⌝ }
-    ensures { λ r. ⌜ Begun (now (rows .entry)) k (2 * k) r × (length (now (levels .exit)) ≡ 128) ⌝ }
+fn first_start(rows: &[u64; ROWS], k: u32, limit: usize, levels: &mut [u64; LEVELS]) -> Begin
+    requires { ⌜ (k ≤ 64) × (limit ≤ k) × (length (now levels) ≡ 128) ⌝ }
+    ensures { λ r. ⌜ Begun (now (rows .entry)) k limit (2 * k) r × (length (now (levels .exit)) ≡ 128) ⌝ }
 {
     let mut best = Begin {
         n: 0,
         start: 0,
-        limit: k as usize,
+        limit,
     };
     let mut start: u32 = 0;
     while start < 2 * k {
@@ -417,13 +417,19 @@ fn chain(desk: &[u8], sheet: &[u8], k: usize, b: Begin, levels: &[u64; LEVELS]) 
     f
 }
 
-// The cycle that is shown. At most 2 * k starts, k levels each, and k classes each level.
-pub fn shortest_cycle(desk: &[u8], sheet: &[u8], rows: &[u64; ROWS], k: usize) -> Found
-    requires { ⌜ Ready (now desk) (now sheet) k ⌝ }
-    ensures { λ r. ⌜ Shortest (now (desk .entry)) (now (sheet .entry)) (now (rows .entry)) k r ⌝ }
+// The cycle that is shown, if one has at most limit dependencies. At most 2 * k starts, limit levels each, and k classes each level.
+pub fn shortest_cycle(
+    desk: &[u8],
+    sheet: &[u8],
+    rows: &[u64; ROWS],
+    k: usize,
+    limit: usize,
+) -> Found
+    requires { ⌜ Ready (now desk) (now sheet) k × (limit ≤ k) ⌝ }
+    ensures { λ r. ⌜ Shortest (now (desk .entry)) (now (sheet .entry)) (now (rows .entry)) k limit r ⌝ }
 {
     let mut levels = [0u64; LEVELS];
-    let b = first_start(rows, k as u32, &mut levels);
+    let b = first_start(rows, k as u32, limit, &mut levels);
     if b.n == 0 {
         return Found {
             n: 0,

@@ -1,6 +1,6 @@
 -- What follows an accepted record, from what the called functions leave. Assumes nothing.
 use mathlib.Core.Path.{_≡_, refl, sym, _∙_, subst}
-use mathlib.Core.Bool.{Bool, true, false, _||_, _&&_}
+use mathlib.Core.Bool.{false, _||_, _&&_}
 use mathlib.Core.List.{List}
 use mathlib.Core.Logic.{inr}
 use Prim.Native.Nat.{ℕ, _<_, _≤_}
@@ -13,7 +13,8 @@ use Rattle.rules.specs.HeldLocks.{Core, current, someHeld}
 use Rattle.rules.specs.Marks.{Marks, setIn, letterFits}
 use Rattle.rules.specs.Graph.{Dependencies, Graph}
 use Rattle.rules.proofs.Closure.{length-tabulate}
-use Rattle.rules.proofs.Decided.{cyclic-sound}
+use Rattle.rules.proofs.Decided.{cyclic-complete}
+use Rattle.rules.proofs.CycleExists.{cycle-exactly}
 use Rattle.validity.specs.Valid.{ValidCore}
 use Rattle.layout.specs.Layout.{deskSize, closedAt, frameNumber, classesOf, stateOf, KeepsPast}
 use Rattle.layout.specs.Encoding.{DeskBytes, SheetBytes}
@@ -22,10 +23,11 @@ use Rattle.update.specs.Update.{FrameBytes, MarkBytes, Marked}
 use Rattle.update.proofs.Cores.{frame-bytes, marks-changed, closed-changed}
 use Rattle.action.proofs.Bytes.{small-locks}
 use Rattle.search.specs.Rows.{Rows}
-use Rattle.search.specs.Walk.{Decided}
+use Rattle.clash.specs.Clash.{Bounded}
 use Rattle.successors.specs.Successors.{Successors}
 use Rattle.shortest.specs.Shortest.{foundEntry, foundEntries, Shortest}
 use Rattle.shortest.specs.declared.Found.{Found}
+use Rattle.shortest.proofs.Chains.{positive}
 use Rattle.report.specs.Shown.{Shown}
 use Rattle.validator.specs.Conclude.{withMarks, is-clean, is-fault, Concluded}
 
@@ -65,28 +67,28 @@ module _ (desk sheet slip : List ℕ) (core : ℕ) (few : classesOf desk ≤ max
     graph-rows : Rows K graph rows
     graph-rows = Su .graph K false cores after locks refl marked-bytes MB
 
-  pub conclude-clean : {b : Bool} → Decided K rows b → b ≡ false → Concluded desk sheet slip core 0 marked slip
-  conclude-clean d q =
+  pub conclude-clean : {n : ℕ} → Bounded marked rows K n → n ≡ 0 → Concluded desk sheet slip core 0 marked slip
+  conclude-clean d z =
       record {
         concluded = λ cores marks locks SB valid MB.
-            is-clean (sym (d .is (graph cores marks locks SB valid MB) (graph-rows cores marks locks SB valid MB)) ∙ q) (marked-bytes cores marks locks SB valid MB)
+            is-clean (d .none z (graph cores marks locks SB valid MB) (graph-rows cores marks locks SB valid MB)) (marked-bytes cores marks locks SB valid MB)
             keeps-marked;
       }
 
-  pub conclude-fault : (slip′ : List ℕ) {b : Bool} {found : Found} → Decided K rows b → b ≡ true → Shortest marked sheet rows K found → Shown found slip slip′
-      → Concluded desk sheet slip core 1 (set marked closedAt 1) slip′
-  conclude-fault slip′ {found = found} d q f S =
+  pub conclude-fault : (slip′ : List ℕ) {n : ℕ} {found : Found} → Bounded marked rows K n → (n ≡ 0 → ⊥) → Shortest marked sheet rows K n found
+      → Shown found slip slip′ → Concluded desk sheet slip core 1 (set marked closedAt 1) slip′
+  conclude-fault slip′ {found = found} d z f S =
       record {
         concluded = λ cores marks locks SB valid MB.
             let g = graph cores marks locks SB valid MB in
             let r = graph-rows cores marks locks SB valid MB in
             let b = marked-bytes cores marks locks SB valid MB in
-            let c = sym (d .is g r) ∙ q in
-            is-fault c (closed-changed b)
+            let c = d .some (positive z) false cores g b r in
+            is-fault (cyclic-complete K g (cycle-exactly .1 (c .0, c .1))) (closed-changed b)
             (record { long = length-set marked closedAt 1 ∙ keeps-marked .long; past = λ j l. getD-set-other marked closedAt j 1 0 (λ e. omega arith) ∙ keeps-marked .past j l })
             (record {
               entries = foundEntries found;
-              least = f .least (f .some g r (cyclic-sound K g c)) g (record { is-closed = false; cores = cores; in-desk = b; in-sheet = MB }) r;
+              least = f .least (f .some g r (c .0) (c .1) (c .2)) g (record { is-closed = false; cores = cores; in-desk = b; in-sheet = MB }) r;
               bytes = S .bytes;
               keeps = rw (length-tabulate (found .n) (foundEntry found)) (S .keeps);
             });

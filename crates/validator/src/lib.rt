@@ -6,6 +6,7 @@ use answers::FAULT;
 use answers::MALFORMED;
 use answers::OK;
 use answers::UNFIT;
+use clash::cycle_bound;
 use fit::fits;
 use layout::CLASSES_AT;
 use layout::CLOSED_AT;
@@ -15,7 +16,6 @@ use layout::STATES_AT;
 use record::CORE_AT;
 use record::is_malformed;
 use report::show;
-use search::is_cyclic;
 use shortest::shortest_cycle;
 use successors::successors;
 use update::mark;
@@ -37,10 +37,11 @@ fn conclude(desk: &mut [u8], sheet: &[u8], slip: &mut [u8], core: usize) -> u8
     let context = desk[STATES_AT + core] as usize;
     mark(desk, frame, k, context);
     let rows = successors(desk, sheet, k);
-    if !is_cyclic(&rows, k as u32) {
+    let bound = cycle_bound(desk, &rows, k);
+    if bound == 0 {
         return OK;
     }
-    show(slip, shortest_cycle(desk, sheet, &rows, k));
+    show(slip, shortest_cycle(desk, sheet, &rows, k, bound));
     desk[CLOSED_AT] = 1;
     FAULT
 }

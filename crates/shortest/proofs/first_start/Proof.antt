@@ -9,13 +9,13 @@ use Rattle.shortest.proofs.first_start.Statement.{statement}
 use Rattle.shortest.proofs.first_start.Tie as tie
 
 abbrev Inv-loop : tie.InvT-loop
-Inv-loop rows k levels₀ best₀ start₀ levels best start = (start ≤ 2 * k) × (k ≤ 64) × (length levels ≡ 128) × Begun rows k start best
+Inv-loop rows k limit levels₀ best₀ start₀ levels best start = (start ≤ 2 * k) × (k ≤ 64) × (length levels ≡ 128) × Begun rows k limit start best
 
 abbrev μ-loop : tie.MeasureT-loop
-μ-loop rows k levels₀ best₀ start₀ levels best start = 2 * k - start
+μ-loop rows k limit levels₀ best₀ start₀ levels best start = 2 * k - start
 
 loop-holds : tie.Need-loop-holds Inv-loop μ-loop
-loop-holds c = (omega arith, c .pre .0, c .pre .1, begun-none)
+loop-holds c = (omega arith, c .pre .0, c .pre .2, begun-none (c .pre .1))
 
 mul-loop : tie.Need-mul-loop Inv-loop μ-loop
 mul-loop c = omega (arith, c .loop .inv .1)

@@ -22,13 +22,13 @@ fill-requires c κs =
     let p = c .before .before .before .before .before .before .before .before .before .pre in
     let o = c .before .before .before .before .before .first-start .ensures in
     let l = positive (c .before .before .before .if1 .left) in
-    (p .few, omega (arith, o .0 .before l), omega (arith, o .0 .within l, p .few), o .1)
+    (p .0 .few, omega (arith, o .0 .before l), omega (arith, o .0 .within l, p .0 .few), o .1)
 
 chain-requires : tie.Need-chain-requires
 chain-requires c κs =
     let o = c .before .before .before .before .before .before .before .first-start .ensures in
     let l = positive (c .before .before .before .before .before .if1 .left) in
-    (c .before .before .before .before .before .before .before .before .before .before .before .pre, o .0 .within l, o .0 .before l)
+    (c .before .before .before .before .before .before .before .before .before .before .before .pre .0, o .0 .within l, o .0 .before l)
 
 returns-2 : tie.Need-returns-2
 returns-2 c = some-found (c .before .before .before .before .before .before .before .before .first-start .ensures .0) (c .before .before .before .before .before .before .if1 .left) (c .before .before .fill .ensures) (c .chain .ensures)

@@ -1,6 +1,5 @@
 use Prim.Native.Nat.{_+_}
 use borrow.Author.Needs.{needs}
-use borrow.Author.Tests.{not-true, not-false}
 use native.Mathlib.Omega.{arith}
 use Rattle.layout.specs.Layout.{statesAt}
 use Rattle.action.proofs.Bytes.{state-less, held-in}
@@ -35,28 +34,25 @@ mark-requires c κs =
 successors-requires : tie.Need-successors-requires
 successors-requires c κs = search needs
 
-cast-is-cyclic : tie.Need-cast-is-cyclic
-cast-is-cyclic c = search needs
-
-is-cyclic-requires : tie.Need-is-cyclic-requires
-is-cyclic-requires c κs = search needs
+cycle-bound-requires : tie.Need-cycle-bound-requires
+cycle-bound-requires c κs = search needs
 
 same-length : tie.Need-same-length
 same-length c = search needs
 
 returns : tie.Need-returns
 returns c =
-    let p = c .before .before .before .before .before .before .before .before .before .before .before .before .before .before .before .before .pre in
-    conclude-clean _ _ _ _ (p .0 .few) (p .1) _ _ (rw (c .before .before .before .before .before .before .before .before .before .before .frame-of .ensures) at (c .before .before .before .before .before .before .before .mark .ensures .0)) (c .before .before .before .successors .ensures) (c .before .is-cyclic .ensures) (not-true _ (c .if1 .taken))
+    let p = c .before .before .before .before .before .before .before .before .before .before .before .before .before .before .before .before .before .pre in
+    conclude-clean _ _ _ _ (p .0 .few) (p .1) _ _ (rw (c .before .before .before .before .before .before .before .before .before .before .before .frame-of .ensures) at (c .before .before .before .before .before .before .before .before .mark .ensures .0)) (c .before .before .before .before .successors .ensures) (c .before .cycle-bound .ensures) (c .if1 .taken)
 
 shortest-cycle-requires : tie.Need-shortest-cycle-requires
 shortest-cycle-requires c κs = search needs
 
 show-requires : tie.Need-show-requires
-show-requires c κs = (omega (arith, c .shortest-cycle .ensures .few, c .before .before .before .before .before .before .before .before .before .before .before .before .before .before .before .before .before .before .before .before .pre .0 .few), omega (arith, c .shortest-cycle .ensures .few, c .before .before .before .before .before .before .before .before .before .before .before .before .before .before .before .before .before .before .before .before .pre .3))
+show-requires c κs = (omega (arith, c .shortest-cycle .ensures .few, c .before .before .before .before .before .before .before .before .before .before .before .before .before .before .before .before .before .before .before .before .before .pre .0 .few), omega (arith, c .shortest-cycle .ensures .few, c .before .before .before .before .before .before .before .before .before .before .before .before .before .before .before .before .before .before .before .before .before .pre .3))
 
 slice-write-desk : tie.Need-slice-write-desk
-slice-write-desk c = omega (arith, c .before .before .before .before .before .before .before .before .before .before .before .before .before .before .mark .ensures .0 .keeps .long, c .before .before .before .before .before .before .before .before .before .before .before .before .before .before .before .before .before .before .before .before .before .before .before .pre .0 .encodes .long)
+slice-write-desk c = omega (arith, c .before .before .before .before .before .before .before .before .before .before .before .before .before .before .before .mark .ensures .0 .keeps .long, c .before .before .before .before .before .before .before .before .before .before .before .before .before .before .before .before .before .before .before .before .before .before .before .before .pre .0 .encodes .long)
 
 same-length-2 : tie.Need-same-length-2
 same-length-2 c = search needs
@@ -66,8 +62,8 @@ same-length-3 c = search needs
 
 returns-2 : tie.Need-returns-2
 returns-2 c =
-    let p = c .before .before .before .before .before .before .before .before .before .before .before .before .before .before .before .before .before .before .before .before .before .before .before .pre in
-    conclude-fault _ _ _ _ (p .0 .few) (p .1) _ _ (rw (c .before .before .before .before .before .before .before .before .before .before .before .before .before .before .before .before .before .frame-of .ensures) at (c .before .before .before .before .before .before .before .before .before .before .before .before .before .before .mark .ensures .0)) (c .before .before .before .before .before .before .before .before .before .before .successors .ensures) _ (c .before .before .before .before .before .before .before .before .is-cyclic .ensures) (not-false _ (c .before .before .before .before .before .before .before .if1 .left)) (c .before .before .before .shortest-cycle .ensures) (c .before .before .show .ensures)
+    let p = c .before .before .before .before .before .before .before .before .before .before .before .before .before .before .before .before .before .before .before .before .before .before .before .before .pre in
+    conclude-fault _ _ _ _ (p .0 .few) (p .1) _ _ (rw (c .before .before .before .before .before .before .before .before .before .before .before .before .before .before .before .before .before .before .frame-of .ensures) at (c .before .before .before .before .before .before .before .before .before .before .before .before .before .before .before .mark .ensures .0)) (c .before .before .before .before .before .before .before .before .before .before .before .successors .ensures) _ (c .before .before .before .before .before .before .before .before .cycle-bound .ensures) (c .before .before .before .before .before .before .before .if1 .left) (c .before .before .before .shortest-cycle .ensures) (c .before .before .show .ensures)
 
 pub conclude-spec : {M : Type 1} → statement M
-conclude-spec = tie.close (tie.spec slice-read-k cast-k frame-of-requires add-context slice-read-context cast-context mark-requires successors-requires cast-is-cyclic is-cyclic-requires same-length returns shortest-cycle-requires show-requires slice-write-desk same-length-2 same-length-3 returns-2)
+conclude-spec = tie.close (tie.spec slice-read-k cast-k frame-of-requires add-context slice-read-context cast-context mark-requires successors-requires cycle-bound-requires same-length returns shortest-cycle-requires show-requires slice-write-desk same-length-2 same-length-3 returns-2)
