@@ -149,6 +149,27 @@
     X(shown_tie_wrong, shown_ties, wrong) \
     X(shown_late_kinds_wrong, shown_ties, wrong) \
     X(shown_clears_slip, shown_by_hand, wrong) \
+    X(clash_flipped_5, clashes, wrong) \
+    X(clash_flipped_6, clashes, wrong) \
+    X(clash_flipped_9, clashes, wrong) \
+    X(clash_flipped_10, clashes, wrong) \
+    X(clash_flipped_20, clashes, wrong) \
+    X(clash_flipped_84, clashes, wrong) \
+    X(clash_flipped_100, clashes, wrong) \
+    X(clash_flipped_152, clashes, wrong) \
+    X(clash_flipped_168, clashes, wrong) \
+    X(clash_flipped_255, clashes, wrong) \
+    X(clash_levels_mixed, clashes, wrong) \
+    X(clash_classes_mixed, clashes_of_two, wrong) \
+    X(clash_joint_ignored, clashes, wrong) \
+    X(clash_of_class_0_only, clashes, wrong) \
+    X(clash_of_last_class_missed, clashes, wrong) \
+    X(clash_of_highest_class, clashes_of_two, wrong) \
+    X(clash_soft_before_hard, clashes, wrong) \
+    X(clash_level_before_kind, clashes, wrong) \
+    X(clash_before_lock, clashes_and_locks, wrong) \
+    X(clash_before_lower_lock, shown_by_hand, wrong) \
+    X(lock_of_one_class_missed, clashes_and_locks, wrong) \
     X(ask_class_cut, ask_refused, wrong) \
     X(ask_leaves_word, ask_refused, wrong) \
     X(ask_writes_behind_count, ask_refused, wrong) \
@@ -466,6 +487,7 @@ static int clause_missed(const uint8_t *desk, const uint8_t *sheet)
 struct call {
     uint8_t old_desk[DESK_SIZE]; /* before the record */
     uint8_t old_sheet[PLUNGEROWL_SHEET_SIZE(PLUNGEROWL_MAX_CLASSES)];
+    uint8_t old_slip[PLUNGEROWL_SLIP_SIZE(PLUNGEROWL_MAX_CLASSES)];
     uint8_t *desk, *sheet; /* after it */
     unsigned k, core, kind, class_, mode;
     unsigned old_frame; /* the current frame before the record */
@@ -1037,6 +1059,97 @@ static void spoil_shown(const struct call *c, uint8_t *slip, size_t slip_len)
     }
 }
 
+/* --------------------------------------------------- one class by its marks */
+
+/* Whether the marks of a class are a cycle by themselves, as a wrong version's
+ * table has it. Only an entry for a fit byte can be seen. */
+static int is_clash(const struct call *c, unsigned class_)
+{
+    static const uint8_t flipped[] = { 5, 6, 9, 10, 20, 84, 100, 152, 168,
+                                       255 };
+    unsigned marks = c->desk[MARKS_AT + class_];
+    int answer;
+
+    if (plant() == clash_levels_mixed)
+        marks |= marks >> 4;
+    if (plant() == clash_classes_mixed && class_ > 0)
+        marks |= c->desk[MARKS_AT + class_ - 1];
+    answer = (marks & 4 && marks & 3) || (marks & 64 && marks & 48)
+             || (marks & 9) == 9 || (marks & 144) == 144;
+    if (plant() == clash_joint_ignored)
+        answer |= (marks & 10) == 10 || (marks & 160) == 160;
+    if (plant() >= clash_flipped_5 && plant() <= clash_flipped_255
+        && marks == flipped[plant() - clash_flipped_5])
+        return !answer;
+    return answer;
+}
+
+/* The class that clashes, or k. */
+static unsigned clashing_class(const struct call *c)
+{
+    unsigned class_, found = c->k, end = c->k;
+
+    if (plant() == clash_of_class_0_only)
+        end = 1;
+    if (plant() == clash_of_last_class_missed)
+        end--;
+    for (class_ = 0; class_ < end; class_++)
+        if (is_clash(c, class_)
+            && (found == c->k || plant() == clash_of_highest_class))
+            found = class_;
+    return found;
+}
+
+/* The least dependency of the class to itself by its marks: by kind, then by
+ * source. */
+static void show_clash(const struct call *c, unsigned class_, uint8_t *slip)
+{
+    static const uint8_t kinds[] = { PLUNGEROWL_ER, PLUNGEROWL_EN,
+                                     PLUNGEROWL_SR, PLUNGEROWL_SN };
+    unsigned i;
+
+    slip[0] = 1;
+    slip[1] = (uint8_t)class_;
+    for (i = 0; i < 8; i++) {
+        unsigned source = 1 + i % 2;
+
+        slip[2] = kinds[i / 2];
+        if (plant() == clash_level_before_kind) {
+            slip[2] = kinds[i % 4];
+            source = 1 + i / 4;
+        }
+        if (plant() == clash_soft_before_hard)
+            source = 3 - source;
+        slip[3] = (uint8_t)source;
+        if (is_drawn(c->desk, c->sheet, class_, class_, slip[2], source)
+            && (slip[2] != PLUNGEROWL_SR || plant() == clash_joint_ignored))
+            return;
+    }
+}
+
+/* A wrong version asks its table first, and takes its word for cycles of one
+ * dependency by marks. Gives the answer. */
+static uint8_t spoil_clash(const struct call *c, uint8_t *slip, uint8_t answer)
+{
+    unsigned class_ = clashing_class(c);
+    int one = answer == PLUNGEROWL_FAULT && slip[0] == 1;
+    int by_lock = one && slip[3] == PLUNGEROWL_SOURCE_HOLD;
+
+    if (plant() == lock_of_one_class_missed ? by_lock
+        : one && !by_lock && class_ == c->k) {
+        memcpy(slip, c->old_slip, PLUNGEROWL_SLIP_SIZE(c->k));
+        c->desk[PLUNGEROWL_CLOSED_AT] = 0;
+        return PLUNGEROWL_OK;
+    }
+    if (class_ == c->k
+        || (by_lock && !(plant() == clash_before_lock && slip[1] == class_)
+            && !(plant() == clash_before_lower_lock && slip[1] < class_)))
+        return answer;
+    show_clash(c, class_, slip);
+    c->desk[PLUNGEROWL_CLOSED_AT] = 1;
+    return PLUNGEROWL_FAULT;
+}
+
 /* ---------------------------------------------------------------- the calls */
 
 uint8_t plungerowl_open(uint64_t classes, uint8_t *desk, size_t desk_len,
@@ -1185,10 +1298,15 @@ uint8_t plungerowl_step(uint8_t *desk, size_t desk_len,
         return answer;
     if (kept)
         keep_old(&call, desk, sheet, record);
+    memcpy(call.old_slip, slip, slip_len < sizeof call.old_slip
+                                ? slip_len : sizeof call.old_slip);
     answer = real_step(desk, desk_len, sheet, sheet_len, slip, slip_len,
                        record, record_len);
     if (answer <= PLUNGEROWL_FAULT)
         spoil_accepted(&call);
+    if (answer <= PLUNGEROWL_FAULT && plant() >= clash_flipped_5
+        && plant() <= lock_of_one_class_missed)
+        answer = spoil_clash(&call, slip, answer);
     if (answer == PLUNGEROWL_FAULT && plant() >= shown_class_before_kind
         && plant() <= shown_clears_slip)
         spoil_shown(&call, slip, slip_len);

@@ -1932,31 +1932,6 @@ static void test_unfit_marks(void)
     free_buffers(&b);
 }
 
-/* One class, every usage mark: a fault where a dependency of the class on
- * itself is strong with itself, which of the four kinds only SR is not. */
-static void test_mark_cycles(void)
-{
-    struct buffers b;
-    unsigned class_, mark, level;
-
-    open_buffers(&b, 8, 0);
-    for (class_ = 0; class_ < 8; class_ += 7) {
-        for (mark = 0; mark < 256; mark++) {
-            int cycle = 0;
-
-            for (level = 1; level <= 16; level *= 16)
-                cycle |= (mark / level & 4 && mark / level & 3)
-                         || (mark / level & 8 && mark / level & 1);
-            put_desk(&b, MARKS_AT + class_, mark);
-            expect_step(&b, 2, HARD_ON, 0, 0,
-                        !mark_fits(mark) ? 11 : cycle ? 1 : 0, "marks");
-            put_desk(&b, CLOSED_AT, 0);
-        }
-        put_desk(&b, MARKS_AT + class_, 0);
-    }
-    free_buffers(&b);
-}
-
 /* A desk and a sheet as full as they can be. */
 static void test_fullest(void)
 {
@@ -3456,7 +3431,15 @@ static const struct shown shown[] = {
       { 2, 2, 8, 2, 3, 2, 0 } },
     { "2 SR 2 hard closes weakly, and 3 is on the way", 2,
       { { 2, 3, 8 }, { 3, 2, 2 } }, { 0, 0, 8 + 2 },
-      { 2, 2, 8, 0, 3, 2, 0 } }
+      { 2, 2, 8, 0, 3, 2, 0 } },
+    { "3 SN 3 soft before 0, 1", NO_LOG,
+      { { 0, 1, 1 }, { 1, 0, 1 } }, { 0, 0, 0, 136 + 16 }, { 1, 3, 8, 2 } },
+    { "3 EN 3 hard before 0 ER 4 hard", NO_LOG,
+      { { 4, 0, 2 } }, { 4, 0, 0, 4 + 1, 2 }, { 1, 3, 2, 1 } },
+    { "1 SN 1 hold before 2 ER 2 hard", NO_LOG,
+      { { 1, 1, 8 } }, { 0, 0, 4 + 2 }, { 1, 1, 8, 0 } },
+    { "1 SN 1 soft before 2 ER 2 hold", NO_LOG,
+      { { 2, 2, 1 } }, { 0, 136 + 16 }, { 1, 1, 8, 2 } }
 };
 
 #define SHOWN (sizeof shown / sizeof shown[0])
@@ -4047,6 +4030,159 @@ static void test_shown_random_logs(void)
     check(faults > 150, "random logs: only %u faults", faults);
 }
 
+/* ------------------------------------------------- one class by its marks */
+
+/* Whether the usage marks of one class are a cycle of one dependency: at one
+ * level unsafe E with either safe letter, or unsafe S with safe N. S with safe
+ * R alone is weak where it closes. */
+static int is_clash(unsigned mark)
+{
+    unsigned level;
+
+    for (level = 1; level <= 16; level *= 16) {
+        int safe_n = (mark & 1 * level) != 0, safe_r = (mark & 2 * level) != 0;
+        int unsafe_e = (mark & 4 * level) != 0;
+        int unsafe_s = (mark & 8 * level) != 0;
+
+        if ((unsafe_e && (safe_n || safe_r)) || (unsafe_s && safe_n))
+            return 1;
+    }
+    return 0;
+}
+
+/* The slip that is due if no other class has a cycle of one dependency. kinds:
+ * the class's sheet byte for itself. */
+static void one_class_slip(uint8_t slip[4], unsigned class_, unsigned kinds,
+                           unsigned mark)
+{
+    /* ER, EN and SN: the byte, and its two marks at the hard level. */
+    static const unsigned strong[3][2] = { { 1, 4 + 2 }, { 2, 4 + 1 },
+                                           { 8, 8 + 1 } };
+    unsigned i, source;
+
+    memset(slip, 0, 4);
+    for (i = 0; i < 3; i++) {
+        for (source = 0; source < SOURCES; source++) {
+            unsigned both = strong[i][1] * (source == 2 ? 16 : 1);
+
+            if (source == 0 ? !(kinds & strong[i][0]) : (mark & both) != both)
+                continue;
+            slip[0] = 1;
+            slip[1] = (uint8_t)class_;
+            slip[2] = (uint8_t)strong[i][0];
+            slip[3] = (uint8_t)source;
+            return;
+        }
+    }
+}
+
+/* A record that marks and draws nothing: a fault with the slip, or nothing, or
+ * 11. The desk is open again after it, and the slip filled. */
+static void expect_one_slip(struct buffers *b, int fits, const uint8_t slip[4],
+                            const char *what)
+{
+    static const uint8_t record[] = { 0x4C, 0x4B, 2, HARD_ON, 0, 0 };
+    unsigned due = !fits ? 11 : slip[0], is;
+
+    if (due == 1) {
+        b->want_desk.bytes[CLOSED_AT] = 1;
+        memcpy(b->want_slip.bytes, slip, 4);
+    }
+    is = call_step(b, b->desk.size, b->sheet.size, b->slip.size, record,
+                   sizeof record, what);
+    check(is == due, "%s: step answers %u, not %u", what, is, due);
+    check_buffers(b, what);
+    put_desk(b, CLOSED_AT, 0);
+    memset(b->slip.bytes, FILL, 4);
+    memset(b->want_slip.bytes, FILL, 4);
+}
+
+/* Every mark byte on the lowest and on the highest class. */
+static void test_clashes(void)
+{
+    static const unsigned sizes[] = { 1, 2, 8, 64 };
+    unsigned mark, i, j, yes = 0, fit = 0, fit_yes = 0;
+    struct buffers b;
+    uint8_t slip[4];
+
+    for (mark = 0; mark < 256; mark++) {
+        yes += (unsigned)is_clash(mark);
+        fit += (unsigned)mark_fits(mark);
+        fit_yes += (unsigned)(is_clash(mark) && mark_fits(mark));
+    }
+    check(yes == 192 && fit == 144 && fit_yes == 103,
+          "of the mark bytes %u clash, %u are fit, %u both", yes, fit, fit_yes);
+    for (i = 0; i < sizeof sizes / sizeof sizes[0]; i++) {
+        open_buffers(&b, sizes[i], 2);
+        for (j = 0; j < 2; j++) {
+            unsigned class_ = j * (sizes[i] - 1);
+
+            for (mark = 0; mark < 256; mark++) {
+                one_class_slip(slip, class_, 0, mark);
+                check(slip[0] == is_clash(mark), "the rule of mark %u", mark);
+                put_desk(&b, MARKS_AT + class_, mark);
+                expect_one_slip(&b, mark_fits(mark), slip, "marks");
+            }
+            put_desk(&b, MARKS_AT + class_, 0);
+        }
+        free_buffers(&b);
+    }
+}
+
+/* Every fit mark byte with every sheet byte of the class for itself. */
+static void test_clashes_and_locks(void)
+{
+    unsigned class_, kinds, mark;
+    struct buffers b;
+    uint8_t slip[4];
+
+    open_buffers(&b, 2, 0);
+    for (class_ = 0; class_ < 2; class_++) {
+        for (kinds = 0; kinds < 16; kinds++) {
+            put_sheet(&b, class_, class_, kinds);
+            for (mark = 0; mark < 256; mark++) {
+                if (!mark_fits(mark))
+                    continue;
+                put_desk(&b, MARKS_AT + class_, mark);
+                one_class_slip(slip, class_, kinds, mark);
+                expect_one_slip(&b, 1, slip, "marks and lock dependencies");
+            }
+        }
+        put_sheet(&b, class_, class_, 0);
+        put_desk(&b, MARKS_AT + class_, 0);
+    }
+    free_buffers(&b);
+}
+
+/* Every two fit mark bytes on two classes: the lower that clashes is shown.
+ * Where neither does, they are no cycle together either. */
+static void test_clashes_of_two(void)
+{
+    unsigned low, high, neither = 0;
+    struct buffers b;
+    uint8_t slip[4];
+
+    open_buffers(&b, 2, 0);
+    for (low = 0; low < 256; low++) {
+        for (high = 0; high < 256; high++) {
+            if (!mark_fits(low) || !mark_fits(high))
+                continue;
+            put_desk(&b, MARKS_AT, low);
+            put_desk(&b, MARKS_AT + 1, high);
+            one_class_slip(slip, 0, 0, low);
+            if (slip[0] == 0)
+                one_class_slip(slip, 1, 0, high);
+            if (slip[0] == 0) {
+                neither++;
+                check(least_cycle(&b)[0] == 0, "marks %u and %u", low, high);
+            }
+            expect_one_slip(&b, 1, slip, "marks of two classes");
+        }
+    }
+    check(neither == 41 * 41, "%u of two marks do not clash", neither);
+    free_buffers(&b);
+}
+
 /* ------------------------------------------------------------------- main */
 
 /* A call gave each of these answers, and no other. */
@@ -4082,7 +4218,7 @@ static const struct test tests[] = {
     TEST(try_other_frame), TEST(try_release), TEST(try_full),
     TEST(unfit_lengths), TEST(short_buffers), TEST(unfit_heads),
     TEST(unfit_held), TEST(unfit_origins), TEST(unfit_frames),
-    TEST(unfit_marks), TEST(mark_cycles), TEST(fullest), TEST(unfit_sheet),
+    TEST(unfit_marks), TEST(fullest), TEST(unfit_sheet),
     TEST(ask_refused), TEST(ask_arrivals), TEST(ask_back), TEST(ask_marks),
     TEST(feed_start), TEST(feed_again), TEST(feed_example), TEST(feed_header),
     TEST(feed_record), TEST(feed_cuts), TEST(feed_between), TEST(feed_long),
@@ -4094,7 +4230,8 @@ static const struct test tests[] = {
     TEST(shown_by_hand), TEST(shown_kinds), TEST(shown_sources),
     TEST(shown_ring), TEST(shown_ties), TEST(shown_by_any_record),
     TEST(shown_in_logs), TEST(shown_all_tried), TEST(shown_layers),
-    TEST(shown_random_logs)
+    TEST(shown_random_logs),
+    TEST(clashes), TEST(clashes_and_locks), TEST(clashes_of_two)
 };
 
 /* Run the test of the name, or all for NULL; how many were run. */

@@ -1,10 +1,12 @@
 -- The tables of examples hold of the rules, by computation. Assumes nothing.
-use mathlib.Core.Path.{_≡_, refl, sym, ap, _∙_, fun-ext}
-use mathlib.Core.Bool.{true, false}
+use mathlib.Core.Path.{_≡_, refl, sym, ap₂, _∙_}
+use mathlib.Core.Bool.{Bool, true, false, _&&_, false≢true}
 use mathlib.Core.List.{List, [], _∷_, map}
 use mathlib.Core.Option.{some}
 use Prim.Native.Nat.{ℕ}
+use lib.Dec.{T, eqb}
 use lib.ListN.{length}
+use borrow.Author.Tests.{eqb-true}
 use Rattle.rules.specs.Record.{isMalformed}
 use Rattle.rules.specs.Decision.{cyclic, reaches}
 use Rattle.rules.specs.Verdict.{refusal}
@@ -13,24 +15,52 @@ use Rattle.rules.specs.Graph.{dependency}
 use Rattle.rules.specs.KindNames.{EN}
 use Rattle.rules.specs.CycleDecision.{isCycle, leastCycle}
 use Rattle.rules.specs.Run.{start, answers, run, graphAt}
+use Rattle.rules.proofs.Booleans.{and-cases}
 use Rattle.rules.proofs.Quick.{quickly, quickly-same}
 use Rattle.rules.specs.Examples.{exclusive, read, recursive, tryExclusive, lockOf, DrawnCase, drawnCase, drawnCases, MarkCase, markCase, markCases, Example, cycleCases, CycleCase, cycleCase, table, tries, example, p2, p6, allClean, endsWith, faultAt, takes, frees, does, says}
 
--- What is computed is `quickly`, which is `answers`.
-computed : (K : ℕ) (es : List Example) → map (λ (e : Example). quickly K start (e .log)) es ≡ map (λ (e : Example). e .given) es
-    → map (λ (e : Example). answers K start (e .log)) es ≡ map (λ (e : Example). e .given) es
-computed K es h = ap (λ (f : Example → List ℕ). map f es) (fun-ext (λ e. sym (quickly-same K start (e .log)))) ∙ h
+abbrev sameNumbers : List ℕ → List ℕ → Bool
+sameNumbers [] [] = true
+sameNumbers [] (y ∷ ys) = false
+sameNumbers (x ∷ xs) [] = false
+sameNumbers (x ∷ xs) (y ∷ ys) = eqb x y && sameNumbers xs ys
 
-quick-table : map (λ (e : Example). quickly 8 start (e .log)) table ≡ map (λ (e : Example). e .given) table
+same-numbers : (xs ys : List ℕ) → sameNumbers xs ys ≡ true → xs ≡ ys
+same-numbers [] [] h = refl
+same-numbers [] (y ∷ ys) h = absurd (false≢true h)
+same-numbers (x ∷ xs) [] h = absurd (false≢true h)
+same-numbers (x ∷ xs) (y ∷ ys) h =
+    let p = and-cases (eqb x y) (sameNumbers xs ys) h in
+    ap₂ _∷_ (eqb-true x y (p .0)) (same-numbers xs ys (p .1))
+
+T-true : (b : Bool) → T b → b ≡ true
+T-true true t = refl
+T-true false t = absurd t
+
+-- What is computed is one test over `quickly`, which is `answers`: where it fails, that is told at once.
+abbrev allGiven : ℕ → List Example → Bool
+allGiven K [] = true
+allGiven K (e ∷ es) = sameNumbers (quickly K start (e .log)) (e .given) && allGiven K es
+
+computed : (K : ℕ) (es : List Example) → T (allGiven K es) → map (λ (e : Example). answers K start (e .log)) es ≡ map (λ (e : Example). e .given) es
+computed K es t = by es (T-true (allGiven K es) t)
+  where
+    by : (es : List Example) → allGiven K es ≡ true → map (λ (e : Example). answers K start (e .log)) es ≡ map (λ (e : Example). e .given) es
+    by [] h = refl
+    by (e ∷ es) h =
+        let p = and-cases (sameNumbers (quickly K start (e .log)) (e .given)) (allGiven K es) h in
+        ap₂ _∷_ (sym (quickly-same K start (e .log)) ∙ same-numbers _ _ (p .0)) (by es (p .1))
+
+quick-table : T (allGiven 8 table)
 unfolding table example p2 p6 allClean endsWith faultAt takes frees does says isMalformed refusal dependency cyclic
-quick-table = refl
+quick-table = tt
 
 pub table-holds : map (λ (e : Example). answers 8 start (e .log)) table ≡ map (λ (e : Example). e .given) table
 table-holds = computed 8 table quick-table
 
-quick-tries : map (λ (e : Example). quickly 4 start (e .log)) tries ≡ map (λ (e : Example). e .given) tries
+quick-tries : T (allGiven 4 tries)
 unfolding tries example allClean endsWith faultAt takes frees does says isMalformed refusal dependency cyclic
-quick-tries = refl
+quick-tries = tt
 
 pub tries-hold : map (λ (e : Example). answers 4 start (e .log)) tries ≡ map (λ (e : Example). e .given) tries
 tries-hold = computed 4 tries quick-tries
