@@ -1,16 +1,18 @@
 //! Links libplungerowl.a from the folder that PLUNGEROWL_LIB_DIR names, and makes the planted judges: the reference's
-//! source, and below it a module for each, with the items that an edit of plants.rs changes.
+//! source and lists.rs, and below them a module for each, with the items that an edit of plants.rs changes.
 mod plants;
 
 use std::collections::HashSet;
 use std::path::{Path, PathBuf};
 
 const REFERENCE: &str = "../reference/src/lib.rs";
+const LISTS: &str = "lists.rs";
 
 fn main() {
     println!("cargo:rerun-if-changed=build.rs");
     println!("cargo:rerun-if-changed=plants.rs");
     println!("cargo:rerun-if-changed={REFERENCE}");
+    println!("cargo:rerun-if-changed={LISTS}");
     println!("cargo:rerun-if-env-changed=PLUNGEROWL_LIB_DIR");
     link();
     plant(Path::new(&std::env::var("OUT_DIR").expect("cargo sets OUT_DIR")));
@@ -50,11 +52,24 @@ fn items(source: &str) -> Vec<String> {
     items
 }
 
-/// The words of an item's code: not of its comments and strings.
+/// The words of an item's code: not of its comments and strings, and no variables that stand before a field, an index or a
+/// type.
 fn words(item: &str) -> HashSet<&str> {
+    let is_word = |c: char| c == '_' || c.is_alphanumeric();
     let code = item.lines().map(|line| line.split("//").next().unwrap_or(""));
-    let code = code.flat_map(|line| line.split('"').step_by(2));
-    code.flat_map(|code| code.split(|c: char| c != '_' && !c.is_alphanumeric())).collect()
+    let mut words = HashSet::new();
+    for mut rest in code.flat_map(|line| line.split('"').step_by(2)) {
+        while let Some(start) = rest.find(is_word) {
+            let end = rest[start..].find(|c| !is_word(c)).map_or(rest.len(), |length| start + length);
+            let (word, next) = (&rest[start..end], &rest[end..]);
+            let variable = next.starts_with(['.', '[']) || next.starts_with(':') && !next.starts_with("::");
+            if !(variable && word.starts_with(char::is_lowercase)) {
+                words.insert(word);
+            }
+            rest = next;
+        }
+    }
+    words
 }
 
 /// The names that an item gives; methods stay with their type.
@@ -94,7 +109,7 @@ fn plant(out: &Path) {
     let feed = reference.rfind(RULE).expect("the feed's section is the last");
     let whole = items(reference);
     let (mut modules, mut table) = (String::new(), String::new());
-    for plants::Plant { name, wrong, sights, breaks, edits } in plants::PLANTS {
+    for plants::Plant { name, wrong, sights, breaks, of_clash, edits } in plants::PLANTS {
         assert!(!edits.is_empty(), "planted {name}: no edit");
         let source = edits.iter().fold(reference.to_string(), |source, (old, new)| edit(&source, name, old, new));
         let of_feed = source.starts_with(&reference[..feed]);
@@ -108,11 +123,12 @@ fn plant(out: &Path) {
         modules += &format!("#[path = {path:?}]\npub mod {module};\n");
         let calls = CALLS.map(|call| format!("{call}: judge::{module}::{call}")).join(", ");
         table += &format!(
-            "    Plant {{ name: {name:?}, wrong: {wrong:?}, sights: &{sights:?}, breaks: {breaks:?}, of_feed: {of_feed}, judge: Judge {{ {calls} }} }},\n"
+            "    Plant {{ name: {name:?}, wrong: {wrong:?}, sights: &{sights:?}, breaks: {breaks:?}, of_feed: {of_feed}, of_clash: {of_clash}, judge: Judge {{ {calls} }} }},\n"
         );
     }
     let path = out.join("judge.rs");
-    std::fs::write(&path, format!("{reference}\n{modules}")).expect("OUT_DIR can be written");
+    let lists = std::fs::read_to_string(LISTS).expect(LISTS);
+    std::fs::write(&path, format!("{reference}\n{lists}\n{modules}")).expect("OUT_DIR can be written");
     let text = format!(
         "#[allow(dead_code, unused_imports, unused_variables)]\n#[path = {path:?}]\nmod judge;\n\npub const PLANTS: &[Plant] = &[\n{table}];\n"
     );

@@ -10,12 +10,14 @@ pub struct Plant {
     /// (see src/run.rs), that it breaks while it stands in the place of every judge, so that no two of them differ; None
     /// if it is only tried in the library's place.
     pub breaks: Option<&'static str>,
+    /// Whether it is wrong about clashes (see src/clashes.rs), and the cases with clashes alone are to show it.
+    pub of_clash: bool,
     /// Text of reference/src/lib.rs, and what stands there instead.
     pub edits: &'static [(&'static str, &'static str)],
 }
 
 const fn plant(name: &'static str, wrong: &'static str, edits: &'static [(&'static str, &'static str)]) -> Plant {
-    Plant { name, wrong, sights: &[], breaks: None, edits }
+    Plant { name, wrong, sights: &[], breaks: None, of_clash: false, edits }
 }
 
 const fn shown(sights: &'static [&'static str], plant: Plant) -> Plant {
@@ -24,6 +26,10 @@ const fn shown(sights: &'static [&'static str], plant: Plant) -> Plant {
 
 const fn breaks(part: &'static str, plant: Plant) -> Plant {
     Plant { breaks: Some(part), ..plant }
+}
+
+const fn of_clash(sights: &'static [&'static str], plant: Plant) -> Plant {
+    Plant { sights, of_clash: true, ..plant }
 }
 
 const ONLY_WITH_PATH: &str = "a fault only with a closed strong path";
@@ -113,6 +119,44 @@ macro_rules! loosened {
 }
 
 /// \"After each accepted record, every hold"
+                ),
+            ),
+        ]
+    };
+}
+
+/// Where a step marks, and where it searches and shows.
+const MARK: &str = "\n    mark(desk, core);\n";
+const SEARCH: &str = "    let drawing = Arrivals::of(desk, sheet);
+    let left = drawing.peel();
+    if left == 0 {
+        return 0;
+    }
+    desk[1] = 1;
+    let circle = drawing.least_cycle(left, desk, sheet);
+    show(slip, &circle.expect(\"where something remains, a cycle exists\"));";
+const STEP: &str = "pub fn step(desk: &mut [u8], sheet: &mut [u8], slip: &mut [u8], record: &[u8]) -> u8 {";
+
+/// A judge that reads from a list whether one class's marks clash: this list, for these classes; what is shown where one's
+/// do, and what is searched where none's do (see lists.rs). With "clashing(m)", "(0..k)" and the last two left out it would
+/// be right.
+macro_rules! by_list {
+    ($list:literal, $classes:literal) => {
+        by_list!($list, $classes, "right", "without_own_interrupts")
+    };
+    ($list:literal, $classes:literal, $shown:literal, $rest:literal) => {
+        &[
+            (MARK, "\n    let marks = desk[MARKS..HOLDS].to_vec();\n    mark(desk, core);\n"),
+            (
+                SEARCH,
+                concat!(
+                    "    let listed = |m: u8| ", $list, ";
+    let yes = ", $classes, ".any(|class| listed(desk[MARKS + class]));
+    let Some(circle) = by_list(desk, sheet, yes, ", $rest, ", ", $shown, ") else {
+        return 0;
+    };
+    desk[1] = 1;
+    show(slip, &circle);"
                 ),
             ),
         ]
@@ -1042,6 +1086,195 @@ pub const PLANTS: &[Plant] = &[
         circle.rotate_left(low);
         circle
     });",
+            )],
+        ),
+    ),
+    // Clashes: the list. A wrong "no" shows as the search leaves to the list what a class's marks make.
+    of_clash(
+        &["clash shown as EN hard"],
+        plant("list-5", "the list has no for 5, unsafe E with safe N at hard", by_list!("clashing(m) != (m == 5)", "(0..k)")),
+    ),
+    of_clash(
+        &["clash shown as ER hard"],
+        plant("list-6", "the list has no for 6, unsafe E with safe R at hard", by_list!("clashing(m) != (m == 6)", "(0..k)")),
+    ),
+    of_clash(
+        &["clash shown as SN hard"],
+        plant("list-9", "the list has no for 9, unsafe S with safe N at hard", by_list!("clashing(m) != (m == 9)", "(0..k)")),
+    ),
+    of_clash(
+        &["unsafe S with safe R alone at hard, no cycle of one"],
+        plant("list-10", "the list has yes for 10, unsafe S with safe R at hard", by_list!("clashing(m) != (m == 10)", "(0..k)")),
+    ),
+    of_clash(
+        &["hard-unsafe E with soft-safe N, no cycle of one"],
+        plant("list-20", "the list has yes for 20, hard-unsafe E with soft-safe N", by_list!("clashing(m) != (m == 20)", "(0..k)")),
+    ),
+    of_clash(
+        &["clash shown as ER soft"],
+        plant("list-100", "the list has no for 100, unsafe E with safe R at soft", by_list!("clashing(m) != (m == 100)", "(0..k)")),
+    ),
+    of_clash(
+        &["unsafe S with safe R alone at soft, no cycle of one"],
+        plant("list-168", "the list has yes for 168, unsafe S with safe R at soft", by_list!("clashing(m) != (m == 168)", "(0..k)")),
+    ),
+    of_clash(
+        &["clash shown as ER hard"],
+        plant("list-255", "the list has no for 255, all marks", by_list!("clashing(m) != (m == 255)", "(0..k)")),
+    ),
+    of_clash(
+        &["clash shown as ER soft", "clash shown as EN soft", "clash shown as SN soft"],
+        plant("list-hard", "the list is of the hard level only", by_list!("clashing(m & 15)", "(0..k)")),
+    ),
+    of_clash(
+        &["unsafe S with safe R alone at hard, no cycle of one", "unsafe S with safe R alone at soft, no cycle of one"],
+        plant(
+            "list-joint",
+            "the list has yes for any unsafe with any safe mark of a level, strong at the closing joint or not",
+            by_list!("[m, m >> 4].iter().any(|m| m & 12 != 0 && m & 3 != 0)", "(0..k)"),
+        ),
+    ),
+    of_clash(
+        &["letters of two levels, no cycle of one"],
+        plant(
+            "list-levels",
+            "the list has yes for an unsafe mark of one level with a safe mark of the other",
+            by_list!("clashing(m & 15 | m >> 4)", "(0..k)"),
+        ),
+    ),
+    // Clashes: where the list is read, and when.
+    of_clash(
+        &["clash of a middle class alone", "clash of the highest class alone"],
+        plant("list-class-0", "the list is read for class 0 only", by_list!("clashing(m)", "(0..1)")),
+    ),
+    of_clash(
+        &["clash of the only class", "clash of the highest class alone"],
+        plant("list-last-class", "the list is not read for the last class", by_list!("clashing(m)", "(0..k - 1)")),
+    ),
+    of_clash(
+        &["clash that stood, nothing marked or drawn"],
+        plant(
+            "list-frame",
+            "the list is read for the classes held in the core's frame",
+            by_list!(
+                "clashing(m)",
+                "(0..DEEPEST)
+        .filter(|&i| i < usize::from(desk[DEPTHS + frame(core, state_after)]))
+        .map(|i| usize::from(desk[HOLDS + DEEPEST * frame(core, state_after) + i] % 64))"
+            ),
+        ),
+    ),
+    of_clash(
+        &["clash that stood, nothing marked or drawn"],
+        plant(
+            "list-if-new",
+            "the list is read where the record set a new mark",
+            by_list!("clashing(m)", "(0..if desk[MARKS..HOLDS] == marks[..] { 0 } else { k })"),
+        ),
+    ),
+    of_clash(
+        &["clash by an acquire", "clash by a release", "clash by a hard on", "clash by a soft on", "clash by an off or an exit"],
+        plant("list-before", "the list is read for the marks before the record", by_list!("clashing(m)", "(0..k).filter(|&class| listed(marks[class]))")),
+    ),
+    // Clashes: what is left for the search.
+    of_clash(
+        &["lock dependency of a class to itself, no clash"],
+        plant(
+            "list-alone",
+            "a class's lock dependency to itself is no cycle where the list has no",
+            by_list!("clashing(m)", "(0..k)", "right", "without_own"),
+        ),
+    ),
+    of_clash(
+        &["cycle over an interrupt, no clash"],
+        plant(
+            "list-for-interrupts",
+            "where the list has no the search is over lock dependencies only",
+            by_list!("clashing(m)", "(0..k)", "right", "without_interrupts"),
+        ),
+    ),
+    // Clashes: the cycle shown.
+    of_clash(
+        &["clash above a lock dependency of a class to itself"],
+        plant(
+            "clash-first",
+            "the lowest class that clashes is shown though a lower one has a lock dependency to itself",
+            by_list!("clashing(m)", "(0..k)", "lowest_clash", "without_own_interrupts"),
+        ),
+    ),
+    of_clash(
+        &["clashes of two classes"],
+        plant(
+            "clash-highest",
+            "of several classes that clash the highest is shown, if none below has a lock dependency to itself",
+            by_list!("clashing(m)", "(0..k)", "highest_clash", "without_own_interrupts"),
+        ),
+    ),
+    of_clash(
+        &["clash at a class, and a lock dependency that is less"],
+        plant(
+            "clash-before-lock",
+            "at one class its interrupt is shown though its lock dependency is less",
+            by_list!("clashing(m)", "(0..k)", "interrupt_first", "without_own_interrupts"),
+        ),
+    ),
+    of_clash(
+        &["clash at a class, and a lock dependency that is greater"],
+        plant(
+            "lock-before-clash",
+            "at one class its lock dependency is shown though its interrupt is less",
+            by_list!("clashing(m)", "(0..k)", "lock_first", "without_own_interrupts"),
+        ),
+    ),
+    of_clash(
+        &["hard clash before a soft one of its kind", "hard clash before a soft one of a greater kind"],
+        plant(
+            "soft-clash-first",
+            "where both levels of a class clash the soft one is shown",
+            by_list!("clashing(m)", "(0..k)", "soft_first", "without_own_interrupts"),
+        ),
+    ),
+    of_clash(
+        &["soft clash before a hard one of a greater kind"],
+        plant(
+            "hard-clash-first",
+            "where both levels of a class clash the hard one is shown, even of a greater kind",
+            by_list!("clashing(m)", "(0..k)", "hard_first", "without_own_interrupts"),
+        ),
+    ),
+    of_clash(
+        &["clash above a longer cycle"],
+        plant(
+            "two-before-clash",
+            "a cycle of two dependencies is shown that begins with a lower class than one does",
+            by_list!("clashing(m)", "(0..k)", "two_first", "without_own_interrupts"),
+        ),
+    ),
+    // Clashes: refusals.
+    of_clash(
+        &["refused record over a clash"],
+        plant(
+            "clash-refused",
+            "a refused record is answered with 1 where marks clash",
+            &[(
+                STEP,
+                "pub fn step(desk: &mut [u8], sheet: &mut [u8], slip: &mut [u8], record: &[u8]) -> u8 {
+    let answer = judge_record(desk, sheet, slip, record);
+    if (3..9).contains(&answer) && clashing_classes(desk).next().is_some() { 1 } else { answer }
+}
+
+fn judge_record(desk: &mut [u8], sheet: &mut [u8], slip: &mut [u8], record: &[u8]) -> u8 {",
+            )],
+        ),
+    ),
+    of_clash(
+        &["closed desk with a clash"],
+        plant(
+            "clash-closed",
+            "a closed desk is judged again where marks clash",
+            &[(
+                "    if desk[1] == 1 {",
+                "    if desk[1] == 1 && clashing_classes(desk).next().is_none() {",
             )],
         ),
     ),

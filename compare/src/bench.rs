@@ -117,6 +117,57 @@ fn fault_rows() -> bool {
     well
 }
 
+/// A clean drawing as above, or the same with its classes the other way round so that arrows go downwards; and a record
+/// whose mark makes a clash of the highest class.
+fn clash(k: usize, dense: bool, up: bool) -> (Shadow, Rec) {
+    let mut s = drawing(k, dense);
+    let top = MARKS + k - 1;
+    if up {
+        // Safe above; a take in a task makes it unsafe.
+        s.desk[top] |= 1;
+    } else {
+        // Unsafe above; a take in a hard handler makes it safe.
+        s.sheet.reverse();
+        s.desk[MARKS..MARKS + k].reverse();
+        s.desk[top] |= 68;
+        s.desk[STATES + 4] = 6;
+    }
+    (s, Rec::new(4, 0, k as u8 - 1, 0))
+}
+
+/// One step that faults by a clash, many in one time; whether the two left the same.
+fn clash_rows() -> bool {
+    const COPIES: usize = 32;
+    let mut well = true;
+    for (k, dense) in [8, 16, 64].into_iter().flat_map(|k| [(k, false), (k, true)]) {
+        for up in [true, false] {
+            let (drawing, record) = clash(k, dense, up);
+            let mut left = [Vec::new(), Vec::new()];
+            let time = |step: StepFn, left: &mut Vec<u8>| {
+                let mut copies = vec![drawing.clone(); COPIES];
+                let mut sum = 0;
+                let started = Instant::now();
+                for s in &mut copies {
+                    sum += step(black_box(&mut s.desk), black_box(&mut s.sheet), &mut s.slip, record.slice());
+                }
+                let t = started.elapsed().as_secs_f64();
+                *left = copies.iter().fold(vec![sum], |all, s| [&all[..], &s.desk, &s.sheet, &s.slip].concat());
+                t
+            };
+            let [a, b] = &mut left;
+            let times = best(|| time(library::step, a), || time(fast::step, b), 60);
+            let clean = !reference::closed_strong_path(&drawing.desk, &drawing.sheet);
+            if left[0] != left[1] || left[0][0] != COPIES as u8 || !clean {
+                println!("the two differ, or no fault, or one before");
+                well = false;
+            }
+            let (dense, up) = (if dense { "dense" } else { "sparse" }, if up { "upward" } else { "downward" });
+            row(&format!("clash of the highest class, K = {k}, {dense}, {up}"), times, COPIES);
+        }
+    }
+    well
+}
+
 /// Best seconds of each of two, taking turns.
 fn best(mut a: impl FnMut() -> f64, mut b: impl FnMut() -> f64, rounds: usize) -> (f64, f64) {
     let (mut x, mut y) = (f64::MAX, f64::MAX);
@@ -223,6 +274,7 @@ pub fn run() -> bool {
         }
     }
     well &= fault_rows();
+    well &= clash_rows();
     for k in [8usize, 64] {
         for dense in [false, true] {
             let s = drawing(k, dense);

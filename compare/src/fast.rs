@@ -1,9 +1,10 @@
 //! An ordinary Rust judge written for speed, for the benchmark, by the same documents.
 //! Fit test at each step, a frame's origins as one word, successor words built once per
-//! step, one depth-first walk over (class, arrival) with done and on-stack words. Only
-//! with a fault: breadth-first waves for the fewest dependencies, and the least cycle
-//! taken from the waves, one dependency after the other. It is compared with the
-//! reference in every run of the comparer. No unsafe code.
+//! step, a list of the marks by which one class alone is a cycle, one depth-first walk
+//! over (class, arrival) with done and on-stack words where no class is. Only with a
+//! fault: breadth-first waves for the fewest dependencies, and the least cycle taken from
+//! the waves, one dependency after the other. It is compared with the reference in every
+//! run of the comparer. No unsafe code.
 #![forbid(unsafe_code)]
 
 use reference::{DEEPEST, DEPTHS, DESK, HOLDS, MARKS, ORIGINS, STATES};
@@ -36,6 +37,19 @@ static BITS: [[u8; 3]; 9] = [
     [1, 1, 2],
     [1, 1, 2],
 ];
+
+/// Whether a class's marks alone make a cycle of one dependency: at a level unsafe E with either safe mark, or unsafe S
+/// with safe N.
+static CLASH: [bool; 256] = {
+    let mut list = [false; 256];
+    let mut m = 0;
+    while m < 256 {
+        let (hard, soft) = (m & 15, m >> 4);
+        list[m] = (hard & 4 != 0 && hard & 3 != 0) || hard & 9 == 9 || (soft & 4 != 0 && soft & 3 != 0) || soft & 9 == 9;
+        m += 1;
+    }
+    list
+};
 
 pub fn open(k: u64, desk: &mut [u8], sheet: &mut [u8]) -> u8 {
     if k.wrapping_sub(1) > 63 {
@@ -305,7 +319,7 @@ fn shortest(words: &Words, arrival: usize, among: u64, under: usize) -> Option<u
         seen[0] |= new_n;
         let new_r = wave[1] & among & !(seen[1] | seen[0]);
         seen[1] |= new_r;
-        if new_n | new_r == 0 {
+        if new_n | new_r == 0 || length + 1 == under {
             return None;
         }
         wave = further(words, [new_n, new_r]);
@@ -313,12 +327,12 @@ fn shortest(words: &Words, arrival: usize, among: u64, under: usize) -> Option<u
     None
 }
 
-/// Writes the least of the cycles with the fewest dependencies. There is a cycle.
+/// Writes the least of the cycles with the fewest dependencies. There is a cycle with at most so many.
 #[cold]
 #[inline(never)]
-fn show(desk: &[u8; DESK], sheet: &[u8], k: usize, words: &Words, slip: &mut [u8]) {
+fn show(desk: &[u8; DESK], sheet: &[u8], k: usize, words: &Words, most: usize, slip: &mut [u8]) {
     // The fewest, and the lowest class of such a cycle: one that is shorter than those through lower classes passes none.
-    let (mut n, mut first) = (k + 1, 0);
+    let (mut n, mut first) = (most + 1, 0);
     for class in 0..k {
         for arrival in [class, 64 + class] {
             if let Some(length) = shortest(words, arrival, u64::MAX << class, n) {
@@ -477,11 +491,12 @@ fn step_with<const PLAIN: bool>(desk: &mut [u8], sheet: &mut [u8], slip: &mut [u
         origins >>= 1;
     }
     let words = if PLAIN { words_plain(desk, sheet, k) } else { words(desk, sheet, k) };
-    if !walk(&words, k) {
+    let clash = desk[MARKS..MARKS + k].iter().any(|&m| CLASH[usize::from(m)]);
+    if !clash && !walk(&words, k) {
         return 0;
     }
     desk[1] = 1;
-    show(desk, sheet, k, &words, slip);
+    show(desk, sheet, k, &words, if clash { 1 } else { k }, slip);
     1
 }
 

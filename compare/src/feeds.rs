@@ -450,10 +450,41 @@ fn short_logs() -> Vec<(Vec<u8>, usize, usize)> {
     logs
 }
 
+/// Every cut of them into four pieces, empty ones too, and at each of the four places an end or none. Apart: those in two
+/// pieces. False if one is answered so.
+fn each_cut(in_two: bool, each: &mut dyn FnMut(&'static str, Vec<u8>, Case) -> bool) -> bool {
+    for (log, sheet, slip) in short_logs() {
+        for b in 0..=log.len() {
+            let cuts = (0..=b).flat_map(|a| (b..=log.len()).map(move |c| (a, c)));
+            for (a, c) in cuts.filter(|&(a, c)| in_two == (a == 0 && c == log.len())) {
+                let pieces = [&log[..a], &log[a..b], &log[b..c], &log[c..]];
+                for ends in each_ends(&[a, b, c, log.len()]) {
+                    let mut calls = vec![Call::FeedStart];
+                    for (i, piece) in pieces.iter().enumerate() {
+                        calls.push(Call::Feed(piece.to_vec()));
+                        if ends >> i & 1 == 1 {
+                            calls.push(Call::FeedEnd);
+                        }
+                    }
+                    let buffers = (vec![0xEE; DESK], vec![0xEE; sheet], vec![0xEE; slip]);
+                    if !each(EACH_CUT, vec![0xEE; FEED], case(buffers, calls)) {
+                        return false;
+                    }
+                }
+            }
+        }
+    }
+    true
+}
+
 /// The cases made by hand and those that go through all of a small space, until one is answered with false.
 pub fn fixed(each: &mut dyn FnMut(Case) -> bool) {
     let mut each = |name: &'static str, feed: Vec<u8>, case: Case| each(Case { name, feed, ..case });
     let rng = &mut Rng::new(20_260_102);
+    // These show most that can be wrong.
+    if !each_cut(true, &mut each) {
+        return;
+    }
     // Each size, fit in what there is, or full of anything.
     for size in 0..40 {
         for fresh in [false, true] {
@@ -530,27 +561,6 @@ pub fn fixed(each: &mut dyn FnMut(Case) -> bool) {
             }
         }
     }
-    // Every cut into four pieces, empty ones too, and at each of the four places an end or none.
-    for (log, sheet, slip) in short_logs() {
-        for b in 0..=log.len() {
-            for (a, c) in (0..=b).flat_map(|a| (b..=log.len()).map(move |c| (a, c))) {
-                let pieces = [&log[..a], &log[a..b], &log[b..c], &log[c..]];
-                for ends in each_ends(&[a, b, c, log.len()]) {
-                    let mut calls = vec![Call::FeedStart];
-                    for (i, piece) in pieces.iter().enumerate() {
-                        calls.push(Call::Feed(piece.to_vec()));
-                        if ends >> i & 1 == 1 {
-                            calls.push(Call::FeedEnd);
-                        }
-                    }
-                    let buffers = (vec![0xEE; DESK], vec![0xEE; sheet], vec![0xEE; slip]);
-                    if !each(EACH_CUT, vec![0xEE; FEED], case(buffers, calls)) {
-                        return;
-                    }
-                }
-            }
-        }
-    }
     // Pieces around 65,536 bytes, and a log of more in small ones.
     for (first, then) in [(65_535, 1), (65_536, 4000), (65_537, 7), (70_000, 1), (1, 65_536), (1000, 1000), (12, 13)] {
         let mut log = log_of(1, std::iter::repeat_n(&Rec::new(3, 3, 0, 0), 11_000));
@@ -563,6 +573,7 @@ pub fn fixed(each: &mut dyn FnMut(Case) -> bool) {
             return;
         }
     }
+    each_cut(false, &mut each);
 }
 
 /// Which of four places have an end: all sixteen ways, but for those that differ only after one that stops the feed.

@@ -1,5 +1,6 @@
 //! The inputs: fixed ones (made by hand, or all of a small space) and random ones.
 
+use crate::clashes;
 use crate::drawing::{FRAME, NEXT, X};
 use crate::fast;
 use crate::feeds;
@@ -46,7 +47,7 @@ fn origin_at(frame: usize, place: usize) -> (usize, u8) {
 }
 
 /// Puts a held lock on top of a frame.
-fn push(desk: &mut [u8], frame: usize, lock: u8, is_try: bool) {
+pub fn push(desk: &mut [u8], frame: usize, lock: u8, is_try: bool) {
     let depth = usize::from(desk[DEPTHS + frame]);
     desk[hold_at(frame, depth)] = lock;
     let (byte, bit) = origin_at(frame, depth);
@@ -67,13 +68,13 @@ fn empty(desk: &mut [u8], frame: usize) {
 }
 
 /// Whether locks may be held in a core's frame (task, soft, hard) in this state.
-fn may_hold(state: u8, frame: usize) -> bool {
+pub fn may_hold(state: u8, frame: usize) -> bool {
     [true, [4, 5, 8].contains(&state), state >= 6][frame]
 }
 
 /// A case yet without a name.
 pub fn case(buffers: (Vec<u8>, Vec<u8>, Vec<u8>), calls: Vec<Call>) -> Case {
-    Case { name: "", desk: buffers.0, sheet: buffers.1, slip: buffers.2, feed: Vec::new(), calls, pair: None, clause: None, shows: None }
+    Case { name: "", desk: buffers.0, sheet: buffers.1, slip: buffers.2, feed: Vec::new(), calls, pair: None, clause: None, meant: None }
 }
 
 // ------------------------------------------------------------------ proposals
@@ -855,12 +856,25 @@ const KINDS: [Kind; 11] = [
     Kind { name: "log that closes several", weight: 60, make: ties::closing_log },
 ];
 
-/// A random case, or None if it would be one with a feed and none such is wanted, or the other way round.
-pub fn random(rng: &mut Rng, feeds: Option<bool>) -> Option<Case> {
-    let kinds = || KINDS.iter().chain(&feeds::KINDS);
+/// A part of the random cases: those with feeds, the others, and of the others those with clashes.
+#[derive(Clone, Copy, PartialEq, Eq)]
+pub enum Part {
+    Feeds,
+    Others,
+    Clashes,
+}
+
+/// A random case, or None if it is not of the part that is wanted.
+pub fn random(rng: &mut Rng, only: Option<Part>) -> Option<Case> {
+    let kinds = || KINDS.iter().chain(&clashes::KINDS).chain(&feeds::KINDS);
     let kind = rng.weighted(&kinds().map(|k| k.weight).collect::<Vec<_>>());
     let Kind { name, make, .. } = kinds().nth(kind).unwrap();
-    let wanted = feeds.is_none_or(|feeds| feeds == (kind >= KINDS.len()));
+    let wanted = match only {
+        None => true,
+        Some(Part::Feeds) => kind >= KINDS.len() + clashes::KINDS.len(),
+        Some(Part::Others) => kind < KINDS.len() + clashes::KINDS.len(),
+        Some(Part::Clashes) => (KINDS.len()..KINDS.len() + clashes::KINDS.len()).contains(&kind),
+    };
     wanted.then(|| Case { name, ..make(rng) })
 }
 
@@ -992,28 +1006,40 @@ pub fn hand_logs() -> Vec<HandLog> {
         ("try released twice", 8, "0:t1E -1 -1", 5),
         ("try released in another frame", 8, "0:t1E S+ -1", 5),
         ("two cycles of one class", 1, "0:t0E t0R 0E", 1),
+        // Marks of one class.
+        ("E with safe R at hard", 8, "0:3E -3 H+ 3R", 1),
+        ("S with safe N at hard, by a hard on", 8, "1:H+ 3E 0:h- 3R h+", 1),
+        ("S with safe R at soft", 8, "0:3R -3 S+ 3R", 0),
+        ("S with safe N at soft", 8, "0:3R -3 S+ 3r", 1),
+        ("clash of class 63", 64, "0:63E -63 H+ 63E", 1),
     ];
     rows.into_iter().map(|(name, k, text, last)| HandLog { name, k, records: read(text), last }).collect()
 }
 
 /// The kinds of fixed cases, and how many there are of each.
-pub const FIXED: [(&str, u64); 18] = [
-    (HAND_LOGS, 79),
-    (HAND_DRAWINGS, 24),
+pub const FIXED: [(&str, u64); 24] = [
+    (HAND_LOGS, 84),
+    (HAND_DRAWINGS, 36),
     (EACH_RING, 64 * ties::RINGS_OF_EACH),
     (SOME_TIES, 1200),
     (EACH_PLACE, 5040),
     (EACH_OPENING, 3487),
     (EACH_CLAUSE, 2400),
-    (EACH_DESK_BYTE, 29_805),
+    (EACH_DESK_BYTE, 29_839),
     (EACH_STATE, 21_600),
     (ALL_OF_1, 4352),
     (ALL_OF_2, 65_536),
     (ALL_MARKS_OF_2, 20_736),
+    (clashes::STANDING, 3600),
+    (clashes::BY_RECORD, 7381),
+    (clashes::REFUSED, 288),
+    (clashes::BESIDE_LOCK, 6624),
+    (clashes::BESIDE_TWO, 8064),
+    (clashes::OF_TWO, 1440),
     (feeds::EACH_FEED_SIZE, 160),
     (feeds::EACH_STAND, 1620),
     (feeds::EACH_FEED_BYTE, 5076),
-    (feeds::HAND_LOGS, 3485),
+    (feeds::HAND_LOGS, 3636),
     (feeds::EACH_CUT, 39_460),
     (feeds::LONG_PIECES, 7),
 ];
@@ -1038,6 +1064,12 @@ pub fn fixed(each: &mut dyn FnMut(Case) -> bool) {
         going = each(case);
         going
     });
+    if going {
+        clashes::fixed(&mut |case| {
+            going = each(case);
+            going
+        });
+    }
     if going {
         feeds::fixed(each);
     }

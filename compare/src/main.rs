@@ -4,6 +4,7 @@
 
 mod bench;
 mod claim;
+mod clashes;
 mod cycles;
 mod drawing;
 mod fast;
@@ -18,6 +19,7 @@ mod selftest;
 mod sights;
 mod ties;
 
+use gen::Part;
 use judges::{Judges, Subject};
 use needs::Need;
 use planted::PLANTS;
@@ -43,7 +45,8 @@ compare: the library beside the reference, call by call and byte by byte
                            judge too: then only demand 3's pairs of lists can show it,
                            the promise of a log in pieces, all cycles where K is 4 or
                            less, the answers that the documents give for the hand logs,
-                           and the slips written down for the hand drawings
+                           the slips written down for the hand drawings, and what is to
+                           come of the rings and of the cases with clashes
   --without NAME           leave out what is counted under this name
 
 Exit status: 0 no difference and every minimum met; 1 a difference, a wrong answer or a
@@ -57,8 +60,8 @@ struct Limits {
     cases: u64,
     seed: u64,
     without: Option<Need>,
-    /// Of the random cases only those with feeds, or only the others.
-    feeds: Option<bool>,
+    /// Of the random cases this part only.
+    only: Option<Part>,
 }
 
 impl Limits {
@@ -76,7 +79,7 @@ impl Limits {
     /// A random case. Each has its own seed, so that a case is made again by its number.
     fn numbered(&self, number: u64) -> Option<Case> {
         let seed = self.seed.wrapping_mul(0x2545_F491_4F6C_DD1D) ^ number.wrapping_mul(0xD134_2543_DE82_EF95);
-        gen::random(&mut Rng::new(seed), self.feeds)
+        gen::random(&mut Rng::new(seed), self.only)
     }
 
     /// Goes through the random cases likewise.
@@ -252,7 +255,7 @@ fn long_records(subject: &mut Subject) -> bool {
 fn list() {
     println!("planted judges (* also with --both):");
     for p in PLANTS {
-        println!("{} {:24} {}", if p.breaks.is_some() { "*" } else { " " }, p.name, p.wrong);
+        println!("{} {:24} {}", if p.breaks.is_some() || p.of_clash { "*" } else { " " }, p.name, p.wrong);
     }
     println!("counted, with the least number (in 100,000 random cases, but for the first {}):", 1 + gen::FIXED.len());
     for (need, least) in needs::all() {
@@ -306,7 +309,7 @@ fn obey(mut args: impl Iterator<Item = String>) -> Result<bool, String> {
         cases: cases.unwrap_or(u64::MAX),
         seed,
         without,
-        feeds: None,
+        only: None,
     };
     let name = plant.map_or("the library".into(), |p| format!("planted {} ({})", p.name, p.wrong));
     println!("subject: {name}; seed {seed}");

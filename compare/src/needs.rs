@@ -51,7 +51,7 @@ const SOURCES: [&str; 3] = ["hold", "hard", "soft"];
 const SHOWN: [[u64; 3]; 4] = [[2100, 180, 84], [3300, 140, 74], [550, 32, 13], [3700, 120, 68]];
 
 /// The kinds of random cases; named here too, so that one is missed that is no longer made.
-const RANDOM: [(&str, u64); 16] = [
+const RANDOM: [(&str, u64); 18] = [
     ("log from opening", 1800),
     ("deep log", 600),
     ("long log", 50),
@@ -68,6 +68,8 @@ const RANDOM: [(&str, u64); 16] = [
     ("ties", 1300),
     ("log that closes several", 340),
     ("feed over ties", 230),
+    ("clash", 600),
+    ("log to a clash", 210),
 ];
 
 /// Every need with its least number: of a fixed kind all of its cases; of the rest so many in 100,000 random cases, about
@@ -255,6 +257,7 @@ impl Need {
                 feed_after: &seen.feed_after,
                 after_end: seen.after_end,
                 shown: OnceCell::new(),
+                clashes: OnceCell::new(),
             }),
             _ => false,
         }
@@ -328,6 +331,9 @@ fn keep(case: &mut Case, kept: &[bool]) {
         list.retain(|_| kept.next() == Some(&true));
     }
     retain(&mut case.calls, kept);
+    if kept.contains(&false) {
+        case.meant = None;
+    }
     if let Some((_, in_first)) = &mut case.pair {
         retain(in_first, kept);
     }

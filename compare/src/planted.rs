@@ -12,6 +12,8 @@ pub struct Plant {
     pub breaks: Option<&'static str>,
     /// Whether nothing but its feed is wrong.
     pub of_feed: bool,
+    /// Whether it is wrong about clashes, and the cases with clashes are to show it.
+    pub of_clash: bool,
     pub judge: Judge,
 }
 

@@ -72,8 +72,15 @@ pub struct Case {
     pub pair: Option<(u64, Vec<bool>)>,
     /// The clause that the case is meant to violate first, where it is meant to.
     pub clause: Option<&'static str>,
-    /// The number of dependencies that the last step is meant to show.
-    pub shows: Option<u8>,
+    /// What is to come of the calls, where the case is made so that it is known.
+    pub meant: Option<Meant>,
+}
+
+/// The answers, and how the slip begins then.
+#[derive(Clone)]
+pub struct Meant {
+    pub answers: Vec<u8>,
+    pub slip: Vec<u8>,
 }
 
 pub struct Diff {
@@ -239,6 +246,7 @@ impl Counts {
             feed_after: after.feed.see(),
             after_end,
             shown: OnceCell::new(),
+            clashes: OnceCell::new(),
         };
         self.last_sights = sights::of(&look);
         for (count, met) in self.sights.0.iter_mut().zip(self.last_sights.0) {
@@ -482,10 +490,11 @@ pub fn run(case: &Case, judges: &mut Judges, counts: &mut Counts) -> Result<(), 
     match &case.pair {
         None => {
             let ran = run_calls(case, &case.calls.iter().collect::<Vec<_>>(), judges, counts)?;
-            if let Some(n) = case.shows.filter(|_| !case.calls.is_empty()) {
-                let shown = (ran.answers.last().copied(), ran.reference.slip.see().first().copied());
-                if shown != (Some(1), Some(n)) {
-                    let text = format!("answer and n are {shown:?}, not 1 and {n}");
+            if let Some(meant) = &case.meant {
+                let slip = ran.reference.slip.see();
+                if ran.answers != meant.answers || !slip.starts_with(&meant.slip) {
+                    let slip = &slip[..meant.slip.len().min(slip.len())];
+                    let text = format!("answers {:?}, slip {slip:?}, not {:?} and {:?}", ran.answers, meant.answers, meant.slip);
                     return Err(Diff { judge: "reference", call: case.calls.len() - 1, text });
                 }
             }
@@ -624,7 +633,7 @@ pub fn shrink(case: &Case, judge: &'static str, judges: &mut Judges) -> Case {
     let started = std::time::Instant::now();
     let mut best = case.clone();
     best.clause = None;
-    best.shows = None;
+    best.meant = None;
     let mut fails = |c: &Case| {
         started.elapsed().as_secs() < 10
             && matches!(run(c, judges, &mut Counts::default()), Err(d) if d.judge == judge)

@@ -1,5 +1,6 @@
 //! Sights: calls of such a sort that a wrong version of some rule would show there. A run must have met each of them.
 
+use crate::clashes;
 use crate::cycles::{Choice, Drawing, Shown};
 use crate::drawing::FRAME;
 use crate::feeds::{self, ANSWER, KEEP, KEPT, OPENED};
@@ -28,6 +29,8 @@ pub struct Look<'a> {
     pub after_end: bool,
     /// The cycle shown, once it is asked for.
     pub shown: OnceCell<Option<Shown>>,
+    /// The classes whose marks clash before and after the call, once they are asked for.
+    pub clashes: OnceCell<[u64; 2]>,
 }
 
 fn is_try(desk: &[u8], frame: usize, place: usize) -> bool {
@@ -270,6 +273,60 @@ impl Look<'_> {
     }
 }
 
+/// Clashes: classes whose marks make a cycle of one dependency by themselves.
+impl Look<'_> {
+    fn clashes(&self) -> [u64; 2] {
+        *self.clashes.get_or_init(|| [self.before, self.after].map(clashes::on))
+    }
+    /// A step that faults with clashes on the desk: the classes.
+    fn clash(&self) -> Option<u64> {
+        let faults = self.answer == 1 && self.record().is_some();
+        Some(self.clashes()[1]).filter(|&clash| faults && clash != 0)
+    }
+    /// A step whose marks make the first clash.
+    fn clash_by(&self, kinds: &[u8]) -> bool {
+        self.clash().is_some() && self.clashes()[0] == 0 && self.record().is_some_and(|r| kinds.contains(&r.1))
+    }
+    /// A step over clashes that marks nothing and draws nothing.
+    fn clash_stood(&self) -> bool {
+        let marks = |desk: &[u8]| desk[MARKS..HOLDS].to_vec();
+        self.clash().is_some() && marks(self.before) == marks(self.after) && self.sheet == self.sheet_after
+    }
+    /// A step that faults with one clash, at a class such that this holds of it and K.
+    fn clash_at(&self, such: impl Fn(u32, u32) -> bool) -> bool {
+        self.clash().is_some_and(|c| c.is_power_of_two() && such(c.trailing_zeros(), u32::from(self.classes())))
+    }
+    /// A step that faults with a clash over lock dependencies that all go up, or all down.
+    fn clash_over(&self, up: bool) -> bool {
+        self.clash().is_some() && {
+            let k = usize::from(self.classes());
+            let drawn = || (0..k * k).filter(|&at| self.sheet_after[at] != 0);
+            drawn().next().is_some() && drawn().all(|at| if up { at / k < at % k } else { at / k > at % k })
+        }
+    }
+    /// A step that shows a dependency of a class to itself, with clashes on the desk: the class, the kind, the source, and
+    /// the classes that clash.
+    fn one_of_clash(&self, such: impl Fn(usize, u8, u8, u64) -> bool) -> bool {
+        let Some(clash) = self.clash() else { return false };
+        self.shows(|s| s.n() == 1 && such(usize::from(s.cycle[0][0]), s.cycle[0][1], s.cycle[0][2], clash))
+    }
+    /// The kinds of a class's lock dependency to itself.
+    fn own(&self, class: usize) -> u8 {
+        self.sheet_after[class * (usize::from(self.classes()) + 1)]
+    }
+    /// The same by an interrupt, where this holds of the kinds of lock dependencies of some of these classes to themselves.
+    fn clash_and_own(&self, such: fn(u8) -> bool, of: fn(usize, usize) -> Range<usize>) -> bool {
+        self.one_of_clash(|class, _, source, _| {
+            source > 0 && of(class, usize::from(self.classes())).any(|other| such(self.own(other)))
+        })
+    }
+    /// An accepted record that leaves no cycle of one dependency, and a class with such marks.
+    fn none_of_one(&self, such: fn(u8) -> bool) -> bool {
+        let none = self.answer == 0 && self.record().is_some() || self.of_length(2..=64);
+        none && self.after[MARKS..HOLDS].iter().any(|&m| such(m))
+    }
+}
+
 pub struct Sight {
     pub name: &'static str,
     /// The least number in 100,000 random cases.
@@ -396,6 +453,58 @@ pub const SIGHTS: &[Sight] = &[
     sight("shorter cycle above a longer one", 420, |l| l.shows(Shown::above_a_lower)),
     sight("cycles of the fewest from several classes", 890, |l| l.shows(Shown::another_first)),
     sight("cycle apart from the record", 1200, |l| l.apart()),
+    // Clashes: how they come, and where they are.
+    sight("clash that stood, nothing marked or drawn", 290, |l| l.clash_stood()),
+    sight("clash by an acquire", 400, |l| l.clash_by(&[0])),
+    sight("clash by a release", 51, |l| l.clash_by(&[1])),
+    sight("clash by a hard on", 100, |l| l.clash_by(&[2])),
+    sight("clash by a soft on", 32, |l| l.clash_by(&[4])),
+    sight("clash by an off or an exit", 55, |l| l.clash_by(&[3, 5, 7, 9])),
+    sight("clash of the only class", 100, |l| l.clash_at(|_, k| k == 1)),
+    sight("clash of the lowest class alone", 210, |l| l.clash_at(|class, k| class == 0 && k > 1)),
+    sight("clash of a middle class alone", 270, |l| l.clash_at(|class, k| class > 0 && class + 1 < k)),
+    sight("clash of the highest class alone", 300, |l| l.clash_at(|class, k| class > 0 && class + 1 == k)),
+    sight("clash of class 63 alone", 24, |l| l.clash_at(|class, _| class == 63)),
+    sight("clash over lock dependencies upward", 210, |l| l.clash_over(true)),
+    sight("clash over lock dependencies downward", 140, |l| l.clash_over(false)),
+    // Clashes: the marks.
+    sight("clash shown as ER hard", 250, |l| l.one_of_clash(|_, kind, source, _| (kind, source) == (1, 1))),
+    sight("clash shown as EN hard", 160, |l| l.one_of_clash(|_, kind, source, _| (kind, source) == (2, 1))),
+    sight("clash shown as SN hard", 160, |l| l.one_of_clash(|_, kind, source, _| (kind, source) == (8, 1))),
+    sight("clash shown as ER soft", 110, |l| l.one_of_clash(|_, kind, source, _| (kind, source) == (1, 2))),
+    sight("clash shown as EN soft", 81, |l| l.one_of_clash(|_, kind, source, _| (kind, source) == (2, 2))),
+    sight("clash shown as SN soft", 110, |l| l.one_of_clash(|_, kind, source, _| (kind, source) == (8, 2))),
+    sight("unsafe S with safe R alone at hard, no cycle of one", 16_000, |l| l.none_of_one(|m| m & 15 == 10)),
+    sight("unsafe S with safe R alone at soft, no cycle of one", 13_000, |l| l.none_of_one(|m| m >> 4 == 10)),
+    sight("hard-unsafe E with soft-safe N, no cycle of one", 100_000, |l| l.none_of_one(|m| m & 16 != 0 && m & 4 != 0 && m < 64)),
+    sight("letters of two levels, no cycle of one", 110_000, |l| l.none_of_one(|m| clashes::clashes(m & 15 | m >> 4))),
+    sight("hard clash before a soft one of its kind", 91, |l| {
+        l.one_of_clash(|class, kind, source, _| source == 1 && clashes::by_level(l.after[MARKS + class])[1] == Some((kind, 2)))
+    }),
+    sight("hard clash before a soft one of a greater kind", 32, |l| {
+        l.one_of_clash(|class, kind, source, _| source == 1 && clashes::by_level(l.after[MARKS + class])[1] > Some((kind, 2)))
+    }),
+    sight("soft clash before a hard one of a greater kind", 32, |l| {
+        l.one_of_clash(|class, _, source, _| source == 2 && clashes::by_level(l.after[MARKS + class])[0].is_some())
+    }),
+    // Clashes beside other cycles.
+    sight("clashes of two classes", 100, |l| l.one_of_clash(|class, _, _, clash| clash >> class & 1 == 1 && clash >> class > 1)),
+    sight("clash above a lock dependency of a class to itself", 57, |l| {
+        l.one_of_clash(|class, _, source, clash| source == 0 && class < clash.trailing_zeros() as usize)
+    }),
+    sight("clash above an SR lock dependency of a class to itself", 28, |l| l.clash_and_own(|own| own == 4, |class, _| 0..class)),
+    sight("clash below a lock dependency of a class to itself", 45, |l| l.clash_and_own(|own| own & 11 != 0, |class, k| class + 1..k)),
+    sight("clash at a class, and a lock dependency that is less", 55, |l| {
+        l.one_of_clash(|class, _, source, clash| source == 0 && clash >> class & 1 == 1)
+    }),
+    sight("clash at a class, and a lock dependency that is greater", 64, |l| l.clash_and_own(|own| own & 11 != 0, |class, _| class..class + 1)),
+    sight("clash at a class, and an SR lock dependency there", 56, |l| l.clash_and_own(|own| own == 4, |class, _| class..class + 1)),
+    sight("clash above a longer cycle", 100, |l| l.one_of_clash(|_, _, source, _| source > 0) && l.shows(Shown::above_a_lower)),
+    sight("lock dependency of a class to itself, no clash", 490, |l| l.of_length(1..=1) && l.clashes()[1] == 0),
+    sight("cycle over an interrupt, no clash", 320, |l| l.shows(|s| s.cycle.iter().any(|t| t[2] > 0)) && l.clashes()[1] == 0),
+    // Clashes: refusals.
+    sight("refused record over a clash", 390, |l| l.record().is_some() && (3..9).contains(&l.answer) && l.clashes()[0] != 0),
+    sight("closed desk with a clash", 7900, |l| l.record().is_some() && l.answer == 10 && l.clashes()[0] != 0),
     // Refusals.
     sight("try in a full frame", 2900, |l| l.refused(8, |_, _, mode| TRIES.contains(&mode))),
     sight("try of class K or more", 640, |l| l.refused(4, |_, _, mode| TRIES.contains(&mode))),
@@ -504,6 +613,7 @@ pub const SIGHTS: &[Sight] = &[
     at_feed("fault, and bytes behind it", 34, |l| l.stops(1) && l.behind() > Some(0)),
     at_feed("fault in a piece, several cycles of the fewest", 150, |l| l.shows(|s| s.several)),
     at_feed("fault in a piece, a shorter cycle above a longer one", 46, |l| l.shows(Shown::above_a_lower)),
+    at_feed("fault in a piece by a clash", 53, |l| l.shows(|s| s.n() == 1 && s.cycle[0][2] > 0)),
     at_feed("piece after a stop", 10_000, |l| l.piece_at(true).is_some_and(|p| !p.is_empty())),
     at_feed("empty piece after a stop", 1300, |l| l.piece_at(true).is_some_and(|p| p.is_empty())),
     at_feed("piece after a fault", 77, |l| l.answer == 1 && l.piece_at(true).is_some_and(|p| p.len() > 5)),

@@ -1,34 +1,35 @@
 //! Drawings with several cycles of the fewest dependencies, and cases made of them: on fit desks that no opening need lead
 //! to, and in logs from opening.
 
+use crate::clashes;
 use crate::feeds;
 use crate::gen::{any_buffers, case, Shadow};
 use crate::rng::Rng;
-use crate::run::{Call, Case, Rec};
+use crate::run::{Call, Case, Meant, Rec};
 use reference::{DEEPEST, DEPTHS, HOLDS, MARKS, STATES};
 
-const ER: u8 = 1;
-const EN: u8 = 2;
-const SR: u8 = 4;
-const SN: u8 = 8;
+pub const ER: u8 = 1;
+pub const EN: u8 = 2;
+pub const SR: u8 = 4;
+pub const SN: u8 = 8;
 
 /// A drawing under way: kinds by pair, marks by class.
 #[derive(Clone)]
 pub struct Sketch {
-    k: usize,
-    sheet: Vec<u8>,
-    marks: Vec<u8>,
+    pub k: usize,
+    pub sheet: Vec<u8>,
+    pub marks: Vec<u8>,
 }
 
 impl Sketch {
-    fn new(k: usize) -> Sketch {
+    pub fn new(k: usize) -> Sketch {
         Sketch { k, sheet: vec![0; k * k], marks: vec![0; k] }
     }
-    fn draw(&mut self, from: usize, to: usize, kinds: u8) {
+    pub fn draw(&mut self, from: usize, to: usize, kinds: u8) {
         self.sheet[from * self.k + to] |= kinds;
     }
     /// A soft-unsafe mark brings its hard-unsafe one.
-    fn mark(&mut self, class: usize, marks: u8) {
+    pub fn mark(&mut self, class: usize, marks: u8) {
         self.marks[class] |= marks | marks >> 4 & 12;
     }
     /// An open desk with this drawing, and its sheet. Each core is in a task with all off.
@@ -77,7 +78,7 @@ fn room(rng: &mut Rng, m: usize) -> usize {
 }
 
 /// Kinds for a pair: one, any, or those of a sort.
-fn kinds(rng: &mut Rng) -> u8 {
+pub fn kinds(rng: &mut Rng) -> u8 {
     match rng.under(5) {
         0 => rng.between(1, 15) as u8,
         1 => rng.pick(&[ER | EN, SR | SN, ER | SN, EN | SR, EN | SN]),
@@ -414,10 +415,14 @@ pub fn on_desk(rng: &mut Rng) -> Case {
     case(buffers, calls)
 }
 
-/// The same by a feed that has opened, in one or two pieces.
+/// The same, or a clash, by a feed that has opened, in one or two pieces.
 pub fn in_feed(rng: &mut Rng) -> Case {
-    let s = any(rng);
-    let (buffers, record) = with_record(rng, &s);
+    let (buffers, record) = if rng.mille(300) {
+        clashes::with_record(rng)
+    } else {
+        let s = any(rng);
+        with_record(rng, &s)
+    };
     let bytes = record.slice();
     let (kept, cut) = (rng.under(6), rng.under(7));
     let feed = feeds::feed_of(0, true, &bytes[..kept], rng.under(300) as u64);
@@ -532,7 +537,8 @@ pub fn each_ring(rng: &mut Rng, n: usize, turn: u64) -> Case {
     let mut buffers = buffers;
     buffers.0[DEPTHS..MARKS].fill(0);
     buffers.0[HOLDS..HOLDS + 24 * DEEPEST].fill(0);
-    Case { shows: Some(n as u8), ..case(buffers, vec![Call::Step(Rec::new(rng.under(8) as u8, 3, 0, 0))]) }
+    let meant = Some(Meant { answers: vec![1], slip: vec![n as u8] });
+    Case { meant, ..case(buffers, vec![Call::Step(Rec::new(rng.under(8) as u8, 3, 0, 0))]) }
 }
 
 /// A drawing by hand, and its slip worked out by hand from the documents.
@@ -601,6 +607,19 @@ pub fn hand_drawings() -> Vec<HandDrawing> {
         ("barred over one class, not over another", 4, "0 ER 1, 0 ER 2, 1 SN 3, 2 EN 3, 3 EN 0", "0 ER hold, 2 EN hold, 3 EN hold"),
         ("barred by the closing joint from afar", 4, "0 SN 1, 1 EN 2, 1 EN 3, 2 ER 0, 3 EN 0", "0 SN hold, 1 EN hold, 3 EN hold"),
         ("two levels", 3, "0 marks 68, 1 marks 16, 2 marks 1, 1 EN 0, 2 EN 0", "0 EN hard, 2 EN hold"),
+        // Marks of one class: 1 safe N, 2 safe R, 4 unsafe E, 8 unsafe S, and 16 times as much for soft.
+        ("clash of E with both", 3, "1 marks 7", "1 ER hard"),
+        ("clash of S with both", 3, "1 marks 11", "1 SN hard"),
+        ("clash at both levels, one kind", 3, "1 marks 85", "1 EN hard"),
+        ("clash at both levels, soft less", 3, "1 marks 101", "1 ER soft"),
+        ("clash of two classes", 3, "1 marks 9, 2 marks 6", "1 SN hard"),
+        ("clash above a lock cycle of one", 3, "0 SN 0, 2 marks 5", "0 SN hold"),
+        ("clash above SR alone", 3, "0 SR 0, 2 marks 5", "2 EN hard"),
+        ("clash below a lock cycle of one", 3, "2 ER 2, 0 marks 9", "0 SN hard"),
+        ("clash, and a less lock dependency", 2, "1 marks 5, 1 ER 1", "1 ER hold"),
+        ("clash, and a greater lock dependency", 2, "1 marks 6, 1 EN 1", "1 ER hard"),
+        ("clash, and SR", 2, "1 marks 9, 1 SR 1", "1 SN hard"),
+        ("clash above a cycle of two", 3, "0 EN 1, 1 EN 0, 2 marks 152", "2 SN soft"),
     ];
     let rows = rows.into_iter().map(|(name, k, text, shown)| (name, sketch(k, text), slip(shown)));
     rows.map(|(name, sketch, slip)| HandDrawing { name, sketch, slip }).collect()
