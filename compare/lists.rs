@@ -1,5 +1,7 @@
-/// Behind the reference's source, for the planted judges that read from a list whether one class's marks clash (see
-/// plants.rs). If those of some class do, such a judge searches no more and shows a cycle of one dependency; else it searches
+// For the planted judges that read from a list whether one class's marks clash (see plants.rs). build.rs puts it behind the
+// reference's source.
+
+/// If the list has yes for some class, such a judge searches no more and shows a cycle of one dependency; else it searches
 /// without the interrupts of a class to itself, which it leaves to the list. The cycle, which may be empty where the list is
 /// wrong; None without a fault.
 #[inline(never)]

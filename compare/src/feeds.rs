@@ -450,8 +450,8 @@ fn short_logs() -> Vec<(Vec<u8>, usize, usize)> {
     logs
 }
 
-/// Every cut of them into four pieces, empty ones too, and at each of the four places an end or none. Apart: those in two
-/// pieces. False if one is answered so.
+/// Every cut of them into four pieces, empty ones too, and at each of the four places an end or none: those that have two
+/// pieces at most, or the others. False once a case is answered so.
 fn each_cut(in_two: bool, each: &mut dyn FnMut(&'static str, Vec<u8>, Case) -> bool) -> bool {
     for (log, sheet, slip) in short_logs() {
         for b in 0..=log.len() {
@@ -481,7 +481,7 @@ fn each_cut(in_two: bool, each: &mut dyn FnMut(&'static str, Vec<u8>, Case) -> b
 pub fn fixed(each: &mut dyn FnMut(Case) -> bool) {
     let mut each = |name: &'static str, feed: Vec<u8>, case: Case| each(Case { name, feed, ..case });
     let rng = &mut Rng::new(20_260_102);
-    // These show most that can be wrong.
+    // Short logs in two pieces, which show most that can be wrong.
     if !each_cut(true, &mut each) {
         return;
     }
@@ -573,6 +573,7 @@ pub fn fixed(each: &mut dyn FnMut(Case) -> bool) {
             return;
         }
     }
+    // Short logs in more pieces.
     each_cut(false, &mut each);
 }
 
