@@ -1,12 +1,12 @@
 -- The table's answers, computed once for the entire list, and what they say of the graph that the bytes are. Assumes nothing.
 use mathlib.Core.Path.{_≡_, refl, sym, ap, _∙_, fun-ext}
-use mathlib.Core.Bool.{Bool, true, false, not, false≢true}
+use mathlib.Core.Bool.{Bool, true, false, Bool·beq, false≢true}
 use mathlib.Core.List.{List, [], _∷_}
 use Prim.Native.Nat.{ℕ, _/_, _%_, _<_, _≤_}
 use native.Mathlib.Omega.{arith}
 use lib.Dec.{T, eqb, eqb→eq}
 use lib.ListN.{length, getD}
-use Rattle.words.specs.Bits.{flag}
+use Rattle.words.proofs.Packs.{flag-back}
 use Rattle.rules.specs.HeldLocks.{Core}
 use Rattle.rules.specs.Marks.{Marks, markBit}
 use Rattle.rules.specs.Graph.{Graph}
@@ -24,11 +24,7 @@ use Rattle.clash.proofs.OneCycle.{clash-exactly}
 
 -- ---- The table.
 
-abbrev same : Bool → Bool → Bool
-same true b = b
-same false b = not b
-
-same-eq : (a b : Bool) → T (same a b) → a ≡ b
+same-eq : (a b : Bool) → T (Bool·beq a b) → a ≡ b
 same-eq true true t = refl
 same-eq true false t = absurd t
 same-eq false true t = absurd t
@@ -36,28 +32,24 @@ same-eq false false t = refl
 
 -- The list is as long as there are mark bytes, and each entry is the answer.
 abbrev pub isTable : List Bool → Bool
-isTable table = andAlso (eqb (length table) markBytes) (every false (λ byte x. same x (answerOf byte)) 0 table)
+isTable table = andAlso (eqb (length table) markBytes) (every false (λ byte x. Bool·beq x (answerOf byte)) 0 table)
 
 pub table-answers : (table : List Bool) → T (isTable table) → Answers table
 table-answers table t =
-    let rest = every false (λ byte x. same x (answerOf byte)) 0 table in
+    let rest = every false (λ byte x. Bool·beq x (answerOf byte)) 0 table in
     let long = eqb→eq (length table) markBytes (andAlso-left (eqb (length table) markBytes) rest t) in
     record {
       are = λ byte l.
           same-eq (getD table byte false) (answerOf byte)
-          (at false (λ byte x. same x (answerOf byte)) table (andAlso-right (eqb (length table) markBytes) rest t) byte (omega arith));
+          (at false (λ byte x. Bool·beq x (answerOf byte)) table (andAlso-right (eqb (length table) markBytes) rest t) byte (omega arith));
     }
 
 -- ---- The marks of a class.
 
-flag-is : (b : Bool) → eqb (flag b) 1 ≡ b
-flag-is true = refl
-flag-is false = refl
-
 marks-in : {K : ℕ} {is-closed : Bool} {cores : ℕ → Core} {marks : Marks} {desk : List ℕ} → DeskBytes K is-closed cores marks desk → (c : ℕ) → c < 64
     → marksIn (markOf desk c) ≡ marks c
 marks-in {marks = marks} s c h = fun-ext (λ l. fun-ext (λ u.
-    ap (λ (x : ℕ). eqb (x / markBit l u % 2) 1) (s .usage c h) ∙ ap (λ (x : ℕ). eqb x 1) (mark-digit marks c l u) ∙ flag-is (marks c l u)))
+    ap (λ (x : ℕ). eqb (x / markBit l u % 2) 1) (s .usage c h) ∙ ap (λ (x : ℕ). eqb x 1) (mark-digit marks c l u) ∙ flag-back (marks c l u)))
 
 -- ---- The loop over the classes.
 
