@@ -29,11 +29,40 @@ fn link() {
     println!("cargo:rustc-link-lib=static=plungerowl");
 }
 
+/// Where a text ends that begins here, however either is broken into lines: blanks are passed over, and a comma before a
+/// closing bracket.
+fn end_of(source: &[u8], old: &[u8], start: usize) -> Option<usize> {
+    let next = |text: &[u8], from: usize| {
+        let at = |from: usize| (from..text.len()).find(|&at| !text[at].is_ascii_whitespace());
+        match at(from) {
+            Some(comma) if text[comma] == b',' && at(comma + 1).is_some_and(|at| b")]}".contains(&text[at])) => at(comma + 1),
+            other => other,
+        }
+    };
+    let (mut here, mut there) = (start, 0);
+    while let Some(wanted) = next(old, there) {
+        let found = next(source, here)?;
+        if source[found] != old[wanted] {
+            return None;
+        }
+        (here, there) = (found + 1, wanted + 1);
+    }
+    Some(here)
+}
+
 /// The text must stand there exactly once, else the build fails.
 fn edit(source: &str, plant: &str, old: &str, new: &str) -> String {
-    let found = source.matches(old).count();
-    assert!(found == 1, "planted {plant}: stands {found} times in {REFERENCE}, not once: {old}");
-    source.replacen(old, new, 1)
+    let (old, bytes) = (old.trim(), source.as_bytes());
+    let begins = |&start: &usize| bytes[start] == old.as_bytes()[0];
+    let found: Vec<(usize, usize)> = (0..bytes.len())
+        .filter(begins)
+        .filter_map(|start| end_of(bytes, old.as_bytes(), start).map(|end| (start, end)))
+        .collect();
+    let [(start, end)] = found[..] else {
+        println!("cargo:warning=planted {plant}: stands {} times in {REFERENCE}, not once: {}", found.len(), old.replace('\n', " "));
+        return String::new();
+    };
+    format!("{}{}{}", &source[..start], new.trim(), &source[end..])
 }
 
 /// A line that begins so begins a section.
@@ -108,10 +137,11 @@ fn plant(out: &Path) {
     let reference = &reference[..program.expect("the program's section is the last")];
     let feed = reference.rfind(RULE).expect("the feed's section is the last");
     let whole = items(reference);
-    let (mut modules, mut table) = (String::new(), String::new());
-    for plants::Plant { name, wrong, sights, breaks, of_clash, edits } in plants::PLANTS {
+    let (mut modules, mut table, mut well) = (String::new(), String::new(), true);
+    for plants::Plant { name, wrong, sights, breaks, of_clash, of_numbers, edits } in plants::PLANTS {
         assert!(!edits.is_empty(), "planted {name}: no edit");
         let source = edits.iter().fold(reference.to_string(), |source, (old, new)| edit(&source, name, old, new));
+        well &= !source.is_empty();
         let of_feed = source.starts_with(&reference[..feed]);
         let edited = items(&source);
         let changed = changed(&edited, edited.iter().map(|item| !whole.contains(item)).collect());
@@ -123,9 +153,10 @@ fn plant(out: &Path) {
         modules += &format!("#[path = {path:?}]\npub mod {module};\n");
         let calls = CALLS.map(|call| format!("{call}: judge::{module}::{call}")).join(", ");
         table += &format!(
-            "    Plant {{ name: {name:?}, wrong: {wrong:?}, sights: &{sights:?}, breaks: {breaks:?}, of_feed: {of_feed}, of_clash: {of_clash}, judge: Judge {{ {calls} }} }},\n"
+            "    Plant {{ name: {name:?}, wrong: {wrong:?}, sights: &{sights:?}, breaks: {breaks:?}, of_feed: {of_feed}, of_clash: {of_clash}, of_numbers: {of_numbers}, judge: Judge {{ {calls} }} }},\n"
         );
     }
+    assert!(well, "a planted judge has no place to be planted at");
     let path = out.join("judge.rs");
     let lists = std::fs::read_to_string(LISTS).expect(LISTS);
     std::fs::write(&path, format!("{reference}\n{lists}\n{modules}")).expect("OUT_DIR can be written");

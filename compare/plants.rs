@@ -6,18 +6,20 @@ pub struct Plant {
     pub wrong: &'static str,
     /// Sights (see src/sights.rs): the call that shows it to be wrong must be one of them, where any are named.
     pub sights: &'static [&'static str],
-    /// The part of demand 3's claim (see src/claim.rs) or of the feed's promise (see src/feeds.rs), or the least cycle
-    /// (see src/run.rs), that it breaks while it stands in the place of every judge, so that no two of them differ; None
-    /// if it is only tried in the library's place.
+    /// The part of demand 3's claim (see src/claim.rs) or of the feed's promise (see src/feeds.rs), the least cycle, the
+    /// first-seen numbers, or what the records alone draw (see src/run.rs), that it breaks while it stands in the place of every judge, so that no two of
+    /// them differ; None if it is only tried in the library's place.
     pub breaks: Option<&'static str>,
     /// Whether it is wrong about clashes (see src/clashes.rs), and the cases with clashes alone are to show it.
     pub of_clash: bool,
+    /// Whether it is wrong about the count or first-seen numbers, and the cases about these come first.
+    pub of_numbers: bool,
     /// Text of reference/src/lib.rs, and what stands there instead.
     pub edits: &'static [(&'static str, &'static str)],
 }
 
 const fn plant(name: &'static str, wrong: &'static str, edits: &'static [(&'static str, &'static str)]) -> Plant {
-    Plant { name, wrong, sights: &[], breaks: None, of_clash: false, edits }
+    Plant { name, wrong, sights: &[], breaks: None, of_clash: false, of_numbers: false, edits }
 }
 
 const fn shown(sights: &'static [&'static str], plant: Plant) -> Plant {
@@ -32,6 +34,10 @@ const fn of_clash(sights: &'static [&'static str], plant: Plant) -> Plant {
     Plant { sights, of_clash: true, ..plant }
 }
 
+const fn of_numbers(sights: &'static [&'static str], plant: Plant) -> Plant {
+    Plant { sights, of_numbers: true, ..plant }
+}
+
 const ONLY_WITH_PATH: &str = "a fault only with a closed strong path";
 const ONLY_WITH_FAULT: &str = "a closed strong path only with a fault";
 
@@ -40,16 +46,18 @@ const AS_THE_WHOLE_LOG: &str = "as the whole log";
 const AS_SINGLE_STEPS: &str = "as single steps";
 
 const LEAST: &str = "the least cycle";
+const NUMBERS: &str = "the first-seen numbers";
+const BY_RECORDS: &str = "what the records alone draw";
 
 /// Where a step gets its cycle and shows it.
 const CYCLE: &str = "    let circle = drawing.least_cycle(left, desk, sheet);";
-const SHOW: &str = "    show(slip, &circle.expect(\"where something remains, a cycle exists\"));";
+const SHOW: &str = "    show(slip, &circle.expect(\"where something remains, a cycle exists\"), k, seen);";
 /// Where the least walk to an arrival is chosen, and where that of two.
 const CHOICE: &str = "walks.into_iter().min()";
 const LAST_CHOICE: &str = "            .filter_map(|start| self.least_walk(start, fewest, desk, sheet))
             .min()";
 const FEWEST: &str = "        // \"fewest arrows\", and the arrivals on cycles of so many.";
-const COUNT: &str = "    slip[0] = circle.len() as u8;";
+const LENGTH: &str = "    slip[0] = circle.len() as u8;";
 /// Between functions of the step's section, and of the drawing's.
 const BEFORE_MARK: &str = "/// \"After each accepted record, every hold";
 const BEFORE_PATH: &str = "/// Whether the drawing that a fit desk and sheet hold has a closed strong path.";
@@ -96,7 +104,7 @@ macro_rules! by_key {
 macro_rules! loosened {
     ($places:literal) => {
         &[
-            (SHOW, "    show(slip, &loosened(desk, sheet, circle.expect(\"where something remains, a cycle exists\")));"),
+            (SHOW, "    show(slip, &loosened(desk, sheet, circle.expect(\"where something remains, a cycle exists\")), k, seen);"),
             (
                 BEFORE_MARK,
                 concat!(
@@ -134,8 +142,8 @@ const SEARCH: &str = "    let drawing = Arrivals::of(desk, sheet);
     }
     desk[1] = 1;
     let circle = drawing.least_cycle(left, desk, sheet);
-    show(slip, &circle.expect(\"where something remains, a cycle exists\"));";
-const STEP: &str = "pub fn step(desk: &mut [u8], sheet: &mut [u8], slip: &mut [u8], record: &[u8]) -> u8 {";
+    show(slip, &circle.expect(\"where something remains, a cycle exists\"), k, seen);";
+const STEP: &str = "pub fn step(desk: &mut [u8], sheet: &mut [u8], seen: &mut [u8], slip: &mut [u8], record: &[u8]) -> u8 {";
 
 /// A judge that reads from a list whether one class's marks clash: this list, for these classes; what is shown where one's
 /// do, and what is searched where none's do (see lists.rs). With "clashing(m)", "(0..k)" and the last two left out it would
@@ -156,7 +164,7 @@ macro_rules! by_list {
         return 0;
     };
     desk[1] = 1;
-    show(slip, &circle);"
+    show(slip, &circle, k, seen);"
                 ),
             ),
         ]
@@ -167,11 +175,11 @@ macro_rules! by_list {
 const PIECE: &str = "    for &byte in piece {";
 const END: &str = "    if held.answer == 0 && (!held.opened || !held.loose.is_empty()) {";
 const PUSH: &str = "        held.loose.push(byte);";
-const AFTER_PIECE: &str = "            held.judge(desk, sheet, slip);
+const AFTER_PIECE: &str = "            held.judge(desk, sheet, seen, slip);
         }
     }
     held.write(feed);";
-const AFTER_END: &str = "        held.judge(desk, sheet, slip);
+const AFTER_END: &str = "        held.judge(desk, sheet, seen, slip);
     }
     held.write(feed);";
 const HEADER_JUDGED: &str = "self.opened = self.answer == 0;";
@@ -214,6 +222,152 @@ const IN_HANDLERS: [&str; 7] = [
     "record after a try in a hard handler",
 ];
 
+/// Where a step refuses with 9, where it counts, where it numbers a pair, and where the slip gets a number.
+const OWN: &str = "    let Some(own_number) = word_at(desk, COUNT).checked_add(1) else {
+        return 9;
+    };";
+const COUNTED: &str = "    set_word(desk, COUNT, own_number);";
+const FIRST: &str = "                if sheet[pair] == 0 {
+                    set_word(seen, WORD * pair, own_number);
+                }";
+const NUMBERED: &str = "set_word(seen, WORD * pair, own_number);";
+const SHOWN: &str = "        set_word(slip, at + 3, shown_number(class, to, source, k, seen));";
+const SHOWN_NUMBER: &str = "    if source == 0 {
+        word_at(seen, WORD * (usize::from(from) * k + usize::from(to)))";
+/// The fit test's count, and its pairs.
+const FIT_COUNT: &str = "    let count = word_at(desk, COUNT);";
+const FIT_PAIRS: &str = "    for pair in 0..k * k {
+        let (kinds, number) = (sheet[pair], word_at(seen, WORD * pair));";
+const FIT_ABOVE: &str = "        above |= number > count;";
+const ASKED: &str = "    *count = 0;
+    if unfit(desk, sheet, seen, None).is_some() {";
+
+const CARRIES: [&str; 3] = [
+    "count that carries to its second byte",
+    "count that carries to its third byte",
+    "count that carries to its fourth byte",
+];
+const NINES: [&str; 6] = [
+    "9 for an acquire that would draw a new pair",
+    "9 for an acquire that would draw no new pair",
+    "9 for an acquire over nothing",
+    "9 for a try",
+    "9 for a release",
+    "9 for an event",
+];
+const IN_FIRST_PAIR: [&str; 3] = [
+    "kinds without a number at the first pair",
+    "number without kinds at the first pair",
+    "number above the count at the first pair",
+];
+const BEHIND_FIRST_ROW: [&str; 3] = [
+    "kinds without a number behind the first row",
+    "number without kinds behind the first row",
+    "number above the count behind the first row",
+];
+const IN_LAST_PAIR: [&str; 6] = [
+    "kinds without a number at the last pair",
+    "number without kinds at the last pair",
+    "number above the count at the last pair",
+    // Of one pair.
+    "kinds without a number at the first pair",
+    "number without kinds at the first pair",
+    "number above the count at the first pair",
+];
+
+/// At the last count this is done with a record that would be accepted.
+macro_rules! at_last_count {
+    ($done:literal) => {
+        &[(
+            OWN,
+            concat!(
+                "    let own_number = match word_at(desk, COUNT).checked_add(1) {
+        Some(own_number) => own_number,
+        ",
+                $done,
+                "
+    };"
+            ),
+        )]
+    };
+}
+
+/// A step around the right one.
+macro_rules! around_step {
+    ($with:literal) => {
+        (
+            STEP,
+            concat!(
+                "pub fn step(desk: &mut [u8], sheet: &mut [u8], seen: &mut [u8], slip: &mut [u8], record: &[u8]) -> u8 {
+",
+                $with,
+                "
+}
+
+fn judge_record(desk: &mut [u8], sheet: &mut [u8], seen: &mut [u8], slip: &mut [u8], record: &[u8]) -> u8 {"
+            ),
+        )
+    };
+}
+
+/// With each lock dependency in the slip whose kind is of this record, though its pair has an earlier number.
+macro_rules! with_later_kinds {
+    ($number:literal) => {
+        &[
+            (COUNTED, "    let sheet_before = sheet.to_vec();\n    set_word(desk, COUNT, own_number);"),
+            (
+                SHOW,
+                concat!(
+                    "    let circle = circle.expect(\"where something remains, a cycle exists\");
+    show(slip, &circle, k, seen);
+    for (i, &(class, kind, source)) in circle.iter().enumerate() {
+        let to = circle[(i + 1) % circle.len()].0;
+        let before = sheet_before[usize::from(class) * k + usize::from(to)];
+        if source == 0 && before != 0 && before & kind == 0 {
+            set_word(slip, 4 + ENTRY * i, ",
+                    $number,
+                    ");
+        }
+    }"
+                ),
+            ),
+        ]
+    };
+}
+
+/// Among the cycles of the fewest dependencies the one with the least keys, of class, kind, source and what the slip has for a
+/// number.
+macro_rules! by_number {
+    ($key:literal) => {
+        &[
+            (CHOICE, "walks.into_iter().min_by_key(|(walk, arrow)| keys(&[&walk[..], &[*arrow]].concat(), there, desk))"),
+            (
+                LAST_CHOICE,
+                "            .filter_map(|start| self.least_walk(start, fewest, desk, sheet))
+            .min_by_key(|circle| keys(circle, first, desk))",
+            ),
+            (CYCLE, "    *SEEN.lock().unwrap() = seen.to_vec();\n    let circle = drawing.least_cycle(left, desk, sheet);"),
+            (
+                BEFORE_PATH,
+                concat!(
+                    "static SEEN: std::sync::Mutex<Vec<u8>> = std::sync::Mutex::new(Vec::new());
+
+fn keys(circle: &[Triple], end: usize, desk: &[u8]) -> Vec<(Triple, u32)> {
+    let seen = SEEN.lock().unwrap();
+    let next = circle.iter().skip(1).map(|arrow| arrow.0).chain([(end % 64) as u8]);
+    let number = |((from, _, source), to)| shown_number(from, to, source, usize::from(desk[0]), &seen);
+    circle.iter().zip(next).map(|(&arrow, next)| (arrow, number((arrow, next)))).map(|(arrow, number)| ",
+                    $key,
+                    ").collect()
+}
+
+/// Whether the drawing that a fit desk and sheet hold has a closed strong path."
+                ),
+            ),
+        ]
+    };
+}
+
 /// Origins past the desk's end are read as 0 and not written.
 const READS_SHORT: (&str, &str) = (
     "desk[ORIGINS + place / 8] >> (place % 8) & 1 == 1",
@@ -224,6 +378,18 @@ const WRITES_SHORT: (&str, &str) = (
     "    let bit = 1 << (place % 8);
     if ORIGINS + place / 8 >= desk.len() {
         return;
+    }",
+);
+
+/// The same of the count and of numbers.
+const WORDS_SHORT: (&str, &str) = (
+    "u32::from_le_bytes([bytes[at], bytes[at + 1], bytes[at + 2], bytes[at + 3]])",
+    "u32::from_le_bytes([0, 1, 2, 3].map(|i| bytes.get(at + i).copied().unwrap_or(0)))",
+);
+const SET_WORDS_SHORT: (&str, &str) = (
+    "bytes[at..at + WORD].copy_from_slice(&number.to_le_bytes());",
+    "for (byte, new) in bytes.iter_mut().skip(at).zip(number.to_le_bytes()) {
+        *byte = new;
     }",
 );
 
@@ -255,10 +421,13 @@ pub const PLANTS: &[Plant] = &[
             )],
         ),
     ),
-    plant(
-        "newest-only",
-        "an acquire draws from the newest held lock only",
-        &[("for at in older_holds {", "for at in older_holds.rev().take(1) {")],
+    breaks(
+        BY_RECORDS,
+        plant(
+            "newest-only",
+            "an acquire draws from the newest held lock only",
+            &[("for at in older_holds {", "for at in older_holds.rev().take(1) {")],
+        ),
     ),
     plant(
         "oldest-release",
@@ -476,7 +645,7 @@ pub const PLANTS: &[Plant] = &[
     plant(
         "try-unsafe-letter",
         "an exclusive try is marked unsafe S, as its mode of 3 is not 0",
-        &[("let unsafe_ = if mode == EXCLUSIVE {", "let unsafe_ = if mode == EXCLUSIVE && !is_try(desk, at) {")],
+        &[("let unsafe_ = if mode == EXCLUSIVE { 4 }", "let unsafe_ = if mode == EXCLUSIVE && !is_try(desk, at) { 4 }")],
     ),
     shown(
         &["try and wait of one class in a handler", "call on a fit desk with a try"],
@@ -711,7 +880,7 @@ pub const PLANTS: &[Plant] = &[
                 "    if left == 0 {",
                 "    let closes = |c: usize| (drawing.reach(c) | drawing.reach(c) >> 64) >> c & 1 == 1;\n    if left == 0 && !(0..k).any(closes) {",
             ),
-            (SHOW, "    show(slip, &circle.unwrap_or_default());"),
+            (SHOW, "    show(slip, &circle.unwrap_or_default(), k, seen);"),
         ],
     ),
     plant(
@@ -767,8 +936,8 @@ pub const PLANTS: &[Plant] = &[
         "order-10-11",
         "10 before 11",
         &[(
-            "    if unfit(desk, sheet, Some(slip)).is_some() {\n        return 11;",
-            "    if unfit(desk, sheet, Some(slip)).is_some() {\n        return if desk.get(1) == Some(&1) { 10 } else { 11 };",
+            "    if unfit(desk, sheet, seen, Some(slip)).is_some() {\n        return 11;",
+            "    if unfit(desk, sheet, seen, Some(slip)).is_some() {\n        return if desk.get(1) == Some(&1) { 10 } else { 11 };",
         )],
     ),
     breaks(
@@ -856,11 +1025,14 @@ pub const PLANTS: &[Plant] = &[
         ),
     ),
     shown(
-        &["call on a desk without the origins", "call on a desk with part of the origins"],
+        &[
+            "call on a desk without the origins", "call on a desk with part of the origins", "call on a desk without the count",
+            "call on a desk with part of the count",
+        ],
         plant(
             "desk-without-origins",
             "a desk of 578 bytes is fit",
-            &[("    if desk.len() < DESK {", "    if desk.len() < ORIGINS {"), READS_SHORT, WRITES_SHORT],
+            &[("    if desk.len() < DESK {", "    if desk.len() < ORIGINS {"), READS_SHORT, WRITES_SHORT, WORDS_SHORT, SET_WORDS_SHORT],
         ),
     ),
     shown(
@@ -868,28 +1040,28 @@ pub const PLANTS: &[Plant] = &[
         plant(
             "desk-a-byte-short",
             "a desk a byte short is fit",
-            &[("    if desk.len() < DESK {", "    if desk.len() < DESK - 1 {"), READS_SHORT, WRITES_SHORT],
+            &[("    if desk.len() < DESK {", "    if desk.len() < DESK - 1 {"), WORDS_SHORT, SET_WORDS_SHORT],
         ),
     ),
     // The slip.
     plant(
         "slip-past",
-        "the slip's byte past 1 + 3n is cleared",
-        &[(COUNT, "    slip[0] = circle.len() as u8;\n    if let Some(past) = slip.get_mut(1 + 3 * circle.len()) {\n        *past = 0;\n    }")],
+        "the slip's byte past 1 + 7n is cleared",
+        &[(LENGTH, "    slip[0] = circle.len() as u8;\n    if let Some(past) = slip.get_mut(1 + 7 * circle.len()) {\n        *past = 0;\n    }")],
     ),
     plant(
         "slip-rest",
-        "the slip's bytes past 1 + 3n are cleared",
-        &[(COUNT, "    slip[0] = circle.len() as u8;\n    slip[1 + 3 * circle.len()..].fill(0);")],
+        "the slip's bytes past 1 + 7n are cleared",
+        &[(LENGTH, "    slip[0] = circle.len() as u8;\n    slip[1 + 7 * circle.len()..].fill(0);")],
     ),
     plant(
         "slip-again",
         "the first dependency is written once more behind the last, where there is room",
         &[(
-            COUNT,
+            LENGTH,
             "    slip[0] = circle.len() as u8;
-    if let Some(past) = slip[1..].chunks_exact_mut(3).nth(circle.len()) {
-        past.copy_from_slice(&[circle[0].0, circle[0].1, circle[0].2]);
+    if let Some(past) = slip[1..].chunks_exact_mut(7).nth(circle.len()) {
+        past[..3].copy_from_slice(&[circle[0].0, circle[0].1, circle[0].2]);
     }",
         )],
     ),
@@ -897,14 +1069,14 @@ pub const PLANTS: &[Plant] = &[
     plant(
         "slip-count",
         "the slip's n is K more",
-        &[(SHOW, "    show(slip, &circle.expect(\"where something remains, a cycle exists\"));\n    slip[0] += desk[0];")],
+        &[(SHOW, "    show(slip, &circle.expect(\"where something remains, a cycle exists\"), k, seen);\n    slip[0] += desk[0];")],
     ),
-    plant("slip-count-less", "the slip's n is 1 less", &[(COUNT, "    slip[0] = circle.len() as u8 - 1;")]),
+    plant("slip-count-less", "the slip's n is 1 less", &[(LENGTH, "    slip[0] = circle.len() as u8 - 1;")]),
     plant(
         "slip-highest",
         "the slip begins with the highest class",
         &[(
-            COUNT,
+            LENGTH,
             "    let high = (0..circle.len()).max_by_key(|&i| circle[i].0).unwrap_or(0);
     let circle = &[&circle[high..], &circle[..high]].concat()[..];
     slip[0] = circle.len() as u8;",
@@ -1053,17 +1225,20 @@ pub const PLANTS: &[Plant] = &[
                 "as late as it can be one dependency is the next less that makes a true cycle",
                 &[(
                     SHOW,
-                    "    show(slip, &circle.expect(\"where something remains, a cycle exists\"));
-    for i in (0..usize::from(slip[0])).rev() {
-        let old = (slip[2 + 3 * i], slip[3 + 3 * i]);
-        let all = [ER, EN, SR, SN].into_iter().flat_map(|kind| [0, 1, 2].map(|source| (kind, source)));
-        for (kind, source) in all.filter(|&other| other > old) {
-            slip[2 + 3 * i..4 + 3 * i].copy_from_slice(&[kind, source]);
-            if true_circle(desk, sheet, slip) {
+                    "    let mut circle = circle.expect(\"where something remains, a cycle exists\");
+    show(slip, &circle, k, seen);
+    for i in (0..circle.len()).rev() {
+        let old = circle[i];
+        let all = [ER, EN, SR, SN].into_iter().flat_map(|kind| [0, 1, 2].map(|source| (old.0, kind, source)));
+        for other in all.filter(|&other| other > old) {
+            circle[i] = other;
+            show(slip, &circle, k, seen);
+            if true_circle(desk, sheet, seen, slip) {
                 return 1;
             }
         }
-        slip[2 + 3 * i..4 + 3 * i].copy_from_slice(&[old.0, old.1]);
+        circle[i] = old;
+        show(slip, &circle, k, seen);
     }",
                 )],
             ),
@@ -1258,12 +1433,12 @@ pub const PLANTS: &[Plant] = &[
             "a refused record is answered with 1 where marks clash",
             &[(
                 STEP,
-                "pub fn step(desk: &mut [u8], sheet: &mut [u8], slip: &mut [u8], record: &[u8]) -> u8 {
-    let answer = judge_record(desk, sheet, slip, record);
+                "pub fn step(desk: &mut [u8], sheet: &mut [u8], seen: &mut [u8], slip: &mut [u8], record: &[u8]) -> u8 {
+    let answer = judge_record(desk, sheet, seen, slip, record);
     if (3..9).contains(&answer) && clashing_classes(desk).next().is_some() { 1 } else { answer }
 }
 
-fn judge_record(desk: &mut [u8], sheet: &mut [u8], slip: &mut [u8], record: &[u8]) -> u8 {",
+fn judge_record(desk: &mut [u8], sheet: &mut [u8], seen: &mut [u8], slip: &mut [u8], record: &[u8]) -> u8 {",
             )],
         ),
     ),
@@ -1278,9 +1453,528 @@ fn judge_record(desk: &mut [u8], sheet: &mut [u8], slip: &mut [u8], record: &[u8
             )],
         ),
     ),
+    // The count.
+    of_numbers(
+        &[],
+        plant(
+            "count-refused",
+            "refused records are counted",
+            &[around_step!(
+                "    let answer = judge_record(desk, sheet, seen, slip, record);
+    if (3..9).contains(&answer) && word_at(desk, COUNT) < u32::MAX {
+        let count = word_at(desk, COUNT) + 1;
+        set_word(desk, COUNT, count);
+    }
+    answer"
+            )],
+        ),
+    ),
+    breaks(
+        NUMBERS,
+        of_numbers(
+            &["fault counted"],
+            plant(
+                "count-fault",
+                "a record that is answered with 1 is not counted",
+                &[(SHOW, "    show(slip, &circle.expect(\"where something remains, a cycle exists\"), k, seen);\n    set_word(desk, COUNT, own_number - 1);")],
+            ),
+        ),
+    ),
+    breaks(
+        NUMBERS,
+        of_numbers(
+            &["release counted", "event counted"],
+            plant("count-acquires", "only acquires are counted", &[(COUNTED, "    if kind == TAKE {\n        set_word(desk, COUNT, own_number);\n    }")]),
+        ),
+    ),
+    of_numbers(
+        &["acquire that draws nothing, counted", "release counted", "event counted"],
+        plant(
+            "count-draws",
+            "only records that draw are counted",
+            &[(COUNTED, "    if kind == TAKE && mode < TRY && depth > 0 {\n        set_word(desk, COUNT, own_number);\n    }")],
+        ),
+    ),
+    of_numbers(
+        &["pair drawn first, its place in the list another"],
+        plant(
+            "count-place",
+            "a pair's number is the place of the record in the list from opening, refused ones included",
+            &[
+                around_step!(
+                    "    use std::sync::atomic::Ordering::Relaxed;
+    let count = if desk.len() < DESK { 0 } else { word_at(desk, COUNT) };
+    if count != ACCEPTED.swap(count, Relaxed) {
+        REFUSED.store(0, Relaxed);
+    }
+    let answer = judge_record(desk, sheet, seen, slip, record);
+    match answer {
+        0 | 1 => ACCEPTED.fetch_add(1, Relaxed),
+        3..9 => REFUSED.fetch_add(1, Relaxed),
+        _ => 0,
+    };
+    answer"
+                ),
+                (NUMBERED, "set_word(seen, WORD * pair, own_number + REFUSED.load(std::sync::atomic::Ordering::Relaxed));"),
+                (
+                    "    seen[..seen_size].fill(0);\n    0",
+                    "    seen[..seen_size].fill(0);
+    ACCEPTED.store(0, std::sync::atomic::Ordering::Relaxed);
+    REFUSED.store(0, std::sync::atomic::Ordering::Relaxed);
+    0",
+                ),
+                (
+                    BEFORE_MARK,
+                    "static ACCEPTED: std::sync::atomic::AtomicU32 = std::sync::atomic::AtomicU32::new(0);
+
+static REFUSED: std::sync::atomic::AtomicU32 = std::sync::atomic::AtomicU32::new(0);
+
+/// \"After each accepted record, every hold",
+                ),
+            ],
+        ),
+    ),
+    of_numbers(
+        &[],
+        plant(
+            "count-high-first",
+            "the count has its high byte first",
+            &[
+                (FIT_COUNT, "    let count = word_at(desk, COUNT).swap_bytes();"),
+                (OWN, "    let Some(own_number) = word_at(desk, COUNT).swap_bytes().checked_add(1) else {\n        return 9;\n    };"),
+                (COUNTED, "    set_word(desk, COUNT, own_number.swap_bytes());"),
+            ],
+        ),
+    ),
+    of_numbers(
+        &CARRIES,
+        plant(
+            "count-one-byte",
+            "the count does not carry to its second byte",
+            &[(COUNTED, "    set_word(desk, COUNT, (own_number - 1) & !255 | own_number & 255);")],
+        ),
+    ),
+    of_numbers(
+        &["count that carries to its third byte", "count that carries to its fourth byte"],
+        plant(
+            "count-two-bytes",
+            "the count does not carry to its third byte",
+            &[(COUNTED, "    set_word(desk, COUNT, (own_number - 1) & !65_535 | own_number & 65_535);")],
+        ),
+    ),
+    of_numbers(
+        &["count that carries to its fourth byte"],
+        plant(
+            "count-three-bytes",
+            "the count does not carry to its fourth byte",
+            &[(COUNTED, "    set_word(desk, COUNT, (own_number - 1) & !16_777_215 | own_number & 16_777_215);")],
+        ),
+    ),
+    // First-seen numbers.
+    breaks(
+        NUMBERS,
+        of_numbers(
+            &["second kind of a numbered pair"],
+            plant("seen-second-kind", "a second kind overwrites a pair's number", &[("if sheet[pair] == 0 {", "if sheet[pair] & arrow == 0 {")]),
+        ),
+    ),
+    breaks(
+        NUMBERS,
+        of_numbers(
+            &["second kind of a numbered pair", "kind of a numbered pair drawn again"],
+            plant("seen-again", "each record that draws a pair overwrites its number", &[(FIRST, "                set_word(seen, WORD * pair, own_number);")]),
+        ),
+    ),
+    of_numbers(
+        &["pair drawn first"],
+        plant("seen-before", "a pair's number is the count before the record", &[(NUMBERED, "set_word(seen, WORD * pair, own_number - 1);")]),
+    ),
+    of_numbers(
+        &[],
+        plant(
+            "seen-high-first",
+            "a pair's number has its high byte first",
+            &[
+                (NUMBERED, "set_word(seen, WORD * pair, own_number.swap_bytes());"),
+                (FIT_PAIRS, "    for pair in 0..k * k {\n        let (kinds, number) = (sheet[pair], word_at(seen, WORD * pair).swap_bytes());"),
+                (SHOWN_NUMBER, "    if source == 0 {\n        word_at(seen, WORD * (usize::from(from) * k + usize::from(to))).swap_bytes()"),
+            ],
+        ),
+    ),
+    of_numbers(
+        &[],
+        plant(
+            "seen-transposed",
+            "a pair's number stands at to x K + from",
+            &[
+                (NUMBERED, "set_word(seen, WORD * (usize::from(class) * k + older), own_number);"),
+                (FIT_PAIRS, "    for pair in 0..k * k {\n        let (kinds, number) = (sheet[pair], word_at(seen, WORD * (pair % k * k + pair / k)));"),
+                (SHOWN_NUMBER, "    if source == 0 {\n        word_at(seen, WORD * (usize::from(to) * k + usize::from(from)))"),
+            ],
+        ),
+    ),
+    of_numbers(
+        &["pair drawn first, the other way drawn before"],
+        plant(
+            "seen-both-ways",
+            "a pair gets the number of the other way, if that has one",
+            &[(
+                NUMBERED,
+                "let other = word_at(seen, WORD * (usize::from(class) * k + older));
+                    set_word(seen, WORD * pair, if other == 0 { own_number } else { other });",
+            )],
+        ),
+    ),
+    of_numbers(
+        &["pair drawn first by a number over 255"],
+        plant("seen-one-byte", "a pair's number is written modulo 256", &[(NUMBERED, "set_word(seen, WORD * pair, own_number % 256);")]),
+    ),
+    of_numbers(
+        &["pair drawn first by a number over 65,535"],
+        plant("seen-two-bytes", "a pair's number is written modulo 65,536", &[(NUMBERED, "set_word(seen, WORD * pair, own_number % 65_536);")]),
+    ),
+    of_numbers(
+        &["pair drawn first by a number over 16,777,215"],
+        plant(
+            "seen-three-bytes",
+            "a pair's number is written without its high byte",
+            &[(NUMBERED, "set_word(seen, WORD * pair, own_number % 16_777_216);")],
+        ),
+    ),
+    of_numbers(
+        &["several pairs drawn first by one record", "pairs drawn first and again by one record"],
+        plant(
+            "seen-of-oldest",
+            "only the pair of the oldest held lock gets a number",
+            &[("if sheet[pair] == 0 {", "if sheet[pair] == 0 && at == first {")],
+        ),
+    ),
+    of_numbers(
+        &["try over a held lock that waited", "try over a try"],
+        plant(
+            "seen-by-try",
+            "a try numbers pairs though it draws no dependency",
+            &[(
+                "for at in older_holds {",
+                "for at in first..first + depth {
+                let pair = usize::from(desk[at] % 64) * k + usize::from(class);
+                if by_try && sheet[pair] == 0 {
+                    set_word(seen, WORD * pair, own_number);
+                }
+            }
+            for at in older_holds {",
+            )],
+        ),
+    ),
+    // Numbers in the slip.
+    of_numbers(
+        &["later kind shown with the first number"],
+        plant("slip-later-0", "the slip has 0 with a kind that is not the pair's first", with_later_kinds!("0")),
+    ),
+    breaks(
+        NUMBERS,
+        of_numbers(
+            &["later kind shown with the first number"],
+            plant("slip-later-own", "the slip has the record's own number with a kind that is not the pair's first", with_later_kinds!("own_number")),
+        ),
+    ),
+    breaks(
+        NUMBERS,
+        of_numbers(
+            &["interrupt shown, its pair with a number"],
+            plant(
+                "slip-interrupt",
+                "the slip has the pair's number with an interrupt",
+                &[(SHOWN_NUMBER, "    if source < 3 {\n        word_at(seen, WORD * (usize::from(from) * k + usize::from(to)))")],
+            ),
+        ),
+    ),
+    of_numbers(
+        &["interrupt shown, its pair with a number", "interrupt shown, its pair without a number"],
+        plant("slip-interrupt-left", "the slip's number is not written with an interrupt", &[(SHOWN, "        if source == 0 {\n            set_word(slip, at + 3, shown_number(class, to, source, k, seen));\n        }")]),
+    ),
+    of_numbers(&[], plant("slip-unnumbered", "the slip's numbers are not written", &[(SHOWN, "")])),
+    of_numbers(
+        &[],
+        plant(
+            "slip-three",
+            "the slip has three bytes for each dependency",
+            &[(SHOWN, ""), ("let at = 1 + ENTRY * i;", "let at = 1 + 3 * i;")],
+        ),
+    ),
+    of_numbers(
+        &[],
+        plant(
+            "slip-high-first",
+            "the slip's numbers have their high byte first",
+            &[(SHOWN, "        set_word(slip, at + 3, shown_number(class, to, source, k, seen).swap_bytes());")],
+        ),
+    ),
+    of_numbers(
+        &["number shown, the other way has another"],
+        plant(
+            "slip-transposed",
+            "the slip has the numbers of the other way",
+            &[(SHOWN_NUMBER, "    if source == 0 {\n        word_at(seen, WORD * (usize::from(to) * k + usize::from(from)))")],
+        ),
+    ),
+    of_numbers(
+        &["number shown over 255"],
+        plant(
+            "slip-one-byte",
+            "the slip's numbers are written modulo 256",
+            &[(SHOWN, "        set_word(slip, at + 3, shown_number(class, to, source, k, seen) % 256);")],
+        ),
+    ),
+    of_numbers(
+        &["number shown over 65,535"],
+        plant(
+            "slip-two-bytes",
+            "the slip's numbers are written modulo 65,536",
+            &[(SHOWN, "        set_word(slip, at + 3, shown_number(class, to, source, k, seen) % 65_536);")],
+        ),
+    ),
+    of_numbers(
+        &["number shown over 16,777,215"],
+        plant(
+            "slip-three-bytes",
+            "the slip's numbers are written without their high byte",
+            &[(SHOWN, "        set_word(slip, at + 3, shown_number(class, to, source, k, seen) % 16_777_216);")],
+        ),
+    ),
+    of_numbers(
+        &["number shown of an earlier record"],
+        plant(
+            "slip-own",
+            "the slip has the record's own number with each lock dependency",
+            &[(
+                SHOW,
+                "    let circle = circle.expect(\"where something remains, a cycle exists\");
+    show(slip, &circle, k, seen);
+    for i in (0..circle.len()).filter(|&i| circle[i].2 == 0) {
+        set_word(slip, 4 + ENTRY * i, own_number);
+    }",
+            )],
+        ),
+    ),
+    // Numbers are no part of the order of cycles.
+    breaks(
+        LEAST,
+        of_numbers(
+            &["cycle that the numbers' bytes would change"],
+            plant("seven-bytes", "all seven bytes of each dependency are compared", by_number!("(arrow, number.swap_bytes())")),
+        ),
+    ),
+    breaks(
+        LEAST,
+        of_numbers(
+            &["cycle that the numbers would change"],
+            plant("number-after-source", "the number is compared after the source", by_number!("(arrow, number)")),
+        ),
+    ),
+    // 9.
+    of_numbers(&NINES, plant("nine-missing", "there is no 9: the count goes on with 0", &[(OWN, "    let own_number = word_at(desk, COUNT).wrapping_add(1);")])),
+    of_numbers(&NINES, plant("nine-stays", "there is no 9: the count stays at its last", &[(OWN, "    let own_number = word_at(desk, COUNT).saturating_add(1);")])),
+    of_numbers(
+        &NINES,
+        plant(
+            "nine-late",
+            "at the last count records are accepted until a pair has that number",
+            at_last_count!("None if (0..k * k).any(|pair| word_at(seen, WORD * pair) == u32::MAX) => return 9,\n        None => u32::MAX,"),
+        ),
+    ),
+    of_numbers(
+        &["count that reaches its last"],
+        plant(
+            "nine-early",
+            "9 at a count one before the last",
+            &[(OWN, "    let Some(own_number) = word_at(desk, COUNT).checked_add(1).filter(|&own| own < u32::MAX) else {\n        return 9;\n    };")],
+        ),
+    ),
+    of_numbers(
+        &[],
+        plant(
+            "nine-signed",
+            "9 from a count of 2 to the 31 less 1 on",
+            &[(OWN, "    let Some(own_number) = word_at(desk, COUNT).checked_add(1).filter(|&own| own < 1 << 31) else {\n        return 9;\n    };")],
+        ),
+    ),
+    of_numbers(
+        &["9 for a release", "9 for an event"],
+        plant("nine-acquires", "9 for acquires only", at_last_count!("None if kind == TAKE => return 9,\n        None => u32::MAX,")),
+    ),
+    of_numbers(
+        &["9 for an acquire over nothing", "9 for a try", "9 for a release", "9 for an event"],
+        plant("nine-draws", "9 for records only that draw", at_last_count!("None if kind == TAKE && mode < TRY && depth > 0 => return 9,\n        None => u32::MAX,")),
+    ),
+    of_numbers(
+        &["9 for an acquire that would draw no new pair", "9 for an acquire over nothing", "9 for a try", "9 for a release", "9 for an event"],
+        plant(
+            "nine-new",
+            "9 for records only that draw a new pair",
+            at_last_count!(
+                "None if kind == TAKE && mode < TRY && (first..first + depth).any(|at| sheet[usize::from(desk[at] % 64) * k + usize::from(class)] == 0) => return 9,
+        None => u32::MAX,"
+            ),
+        ),
+    ),
+    of_numbers(
+        &["9 for an acquire that would draw a new pair", "9 for an acquire that would draw no new pair", "9 for an acquire over nothing", "9 for a try"],
+        plant("nine-not-acquires", "9 for releases and events only", at_last_count!("None if kind != TAKE => return 9,\n        None => u32::MAX,")),
+    ),
+    of_numbers(
+        &["9 for a try"],
+        plant("nine-not-tries", "no 9 for a try", at_last_count!("None if kind != TAKE || mode < TRY => return 9,\n        None => u32::MAX,")),
+    ),
+    of_numbers(
+        &["9 where a cycle stands"],
+        plant("nine-fault", "at the last count 1 where a cycle stands", at_last_count!("None => return if closed_strong_path(desk, sheet) { 1 } else { 9 },")),
+    ),
+    of_numbers(&NINES, plant("nine-closes", "9 closes the desk", at_last_count!("None => {\n            desk[1] = 1;\n            return 9;\n        }"))),
+    of_numbers(
+        &["8 at the last count"],
+        plant("order-9-8", "9 before 8", &[("        return 8;", "        return if word_at(desk, COUNT) == u32::MAX { 9 } else { 8 };")]),
+    ),
+    of_numbers(
+        &["5 at the last count"],
+        plant("order-9-5", "9 before 5", &[("        return 5;", "        return if word_at(desk, COUNT) == u32::MAX { 9 } else { 5 };")]),
+    ),
+    of_numbers(
+        &["7 at the last count"],
+        plant("order-9-7", "9 before 7", &[("        return 7;", "        return if word_at(desk, COUNT) == u32::MAX { 9 } else { 7 };")]),
+    ),
+    of_numbers(
+        &["6 at the last count"],
+        plant("order-9-6", "9 before 6", &[("None => return 6", "None => return if word_at(desk, COUNT) == u32::MAX { 9 } else { 6 }")]),
+    ),
+    of_numbers(
+        &["4 at the last count"],
+        plant(
+            "order-9-4",
+            "9 before 4",
+            &[("usize::from(class) >= k {\n        return 4;", "usize::from(class) >= k {\n        return if word_at(desk, COUNT) == u32::MAX { 9 } else { 4 };")],
+        ),
+    ),
+    of_numbers(
+        &["3 at the last count"],
+        plant("order-9-3", "9 before 3", &[("        return 3;", "        return if word_at(desk, COUNT) == u32::MAX { 9 } else { 3 };")]),
+    ),
+    of_numbers(
+        &["10 at the last count"],
+        plant("order-9-10", "9 before 10", &[("        return 10;", "        return if word_at(desk, COUNT) == u32::MAX { 9 } else { 10 };")]),
+    ),
+    of_numbers(
+        &["11 at the last count"],
+        plant(
+            "order-9-11",
+            "9 before 11",
+            &[(
+                "    if unfit(desk, sheet, seen, Some(slip)).is_some() {\n        return 11;",
+                "    if unfit(desk, sheet, seen, Some(slip)).is_some() {\n        return if desk.len() >= DESK && word_at(desk, COUNT) == u32::MAX { 9 } else { 11 };",
+            )],
+        ),
+    ),
+    // The fit test of count and numbers.
+    of_numbers(&[], plant("fit-no-number", "kinds without a number are fit", &[("kinds != 0 && number == 0", "kinds > 15 && number == 0")])),
+    of_numbers(&[], plant("fit-no-kinds", "a number without kinds is fit", &[("kinds == 0 && number != 0", "kinds > 15 && number != 0")])),
+    of_numbers(&[], plant("fit-above", "a number above the count is fit", &[(FIT_ABOVE, "        above |= kinds > 15 && number > count;")])),
+    of_numbers(
+        &["number at the count"],
+        plant("fit-at-count", "a number at the count is unfit", &[(FIT_ABOVE, "        above |= number != 0 && number >= count;")]),
+    ),
+    of_numbers(
+        &["number one above the count"],
+        plant("fit-one-above", "a number one above the count is fit", &[(FIT_ABOVE, "        above |= number > count.saturating_add(1);")]),
+    ),
+    of_numbers(
+        &["number under the count, its low byte greater", "number above the count, its low byte less"],
+        plant("fit-low-byte", "numbers and count are compared by their low bytes", &[(FIT_ABOVE, "        above |= number as u8 > count as u8;")]),
+    ),
+    of_numbers(
+        &[],
+        plant("fit-two-bytes", "numbers and count are compared by their low two bytes", &[(FIT_ABOVE, "        above |= number as u16 > count as u16;")]),
+    ),
+    of_numbers(
+        &[],
+        plant("fit-three-bytes", "numbers and count are compared without their high bytes", &[(FIT_ABOVE, "        above |= number << 8 > count << 8;")]),
+    ),
+    of_numbers(
+        &["number above the count over 2 to the 31", "number under 2 to the 31, the count over it"],
+        plant("fit-signed", "numbers and count are compared with a sign", &[(FIT_ABOVE, "        above |= number != 0 && number as i32 > count as i32;")]),
+    ),
+    of_numbers(
+        &["pair behind the last that does not fit"],
+        plant(
+            "fit-past",
+            "the pair behind the last is looked at, where there is one",
+            &[(FIT_PAIRS, "    for pair in 0..(k * k + 1).min(sheet.len()).min(seen.len() / WORD) {\n        let (kinds, number) = (sheet[pair], word_at(seen, WORD * pair));")],
+        ),
+    ),
+    of_numbers(&BEHIND_FIRST_ROW, plant("fit-row-0", "only the first row's numbers are looked at", &[(FIT_PAIRS, "    for pair in 0..k {\n        let (kinds, number) = (sheet[pair], word_at(seen, WORD * pair));")])),
+    of_numbers(&IN_LAST_PAIR, plant("fit-last-pair", "the last pair's number is not looked at", &[(FIT_PAIRS, "    for pair in 0..k * k - 1 {\n        let (kinds, number) = (sheet[pair], word_at(seen, WORD * pair));")])),
+    of_numbers(&IN_FIRST_PAIR, plant("fit-first-pair", "the first pair's number is not looked at", &[(FIT_PAIRS, "    for pair in 1..k * k {\n        let (kinds, number) = (sheet[pair], word_at(seen, WORD * pair));")])),
+    of_numbers(
+        &[],
+        plant("fit-question", "the question does not look at the second sheet", &[(ASKED, "    *count = 0;\n    if unfit(desk, sheet, seen, None).is_some_and(|clause| !CLAUSES[16..].contains(&clause)) {")]),
+    ),
+    of_numbers(
+        &[],
+        plant("fit-question-length", "the question does not look at the second sheet's length", &[(ASKED, "    *count = 0;\n    if unfit(desk, sheet, seen, None).is_some_and(|clause| clause != CLAUSES[16]) {")]),
+    ),
+    of_numbers(
+        &[],
+        plant("fit-question-numbers", "the question does not look at the numbers", &[(ASKED, "    *count = 0;\n    if unfit(desk, sheet, seen, None).is_some_and(|clause| !CLAUSES[17..].contains(&clause)) {")]),
+    ),
+    of_numbers(
+        &["call with a second sheet a byte short"],
+        plant(
+            "fit-seen-a-byte-short",
+            "a second sheet a byte short is fit",
+            &[("    if seen.len() < seen_len(k) {", "    if seen.len() + 1 < seen_len(k) {"), WORDS_SHORT, SET_WORDS_SHORT],
+        ),
+    ),
+    of_numbers(
+        &[],
+        plant(
+            "fit-seen-quarter",
+            "a second sheet of K x K bytes is fit",
+            &[("    if seen.len() < seen_len(k) {", "    if seen.len() < sheet_len(k) {"), WORDS_SHORT, SET_WORDS_SHORT],
+        ),
+    ),
+    of_numbers(
+        &["step with a slip a byte short"],
+        plant(
+            "fit-slip-a-byte-short",
+            "a slip a byte short is fit",
+            &[("k.saturating_mul(ENTRY).saturating_add(1)", "k.saturating_mul(ENTRY)"), SET_WORDS_SHORT],
+        ),
+    ),
+    of_numbers(
+        &[],
+        plant(
+            "fit-slip-old",
+            "a slip of 1 + 3K bytes is fit",
+            &[
+                ("k.saturating_mul(ENTRY).saturating_add(1)", "k.saturating_mul(3).saturating_add(1)"),
+                ("let at = 1 + ENTRY * i;", "let at = 1 + ENTRY * i;\n        if at + 3 > slip.len() {\n            break;\n        }"),
+                SET_WORDS_SHORT,
+            ],
+        ),
+    ),
+    shown(
+        &["call on a desk without the count", "call on a desk with part of the count"],
+        plant(
+            "desk-without-count",
+            "a desk of 638 bytes is fit",
+            &[("    if desk.len() < DESK {", "    if desk.len() < COUNT {"), WORDS_SHORT, SET_WORDS_SHORT],
+        ),
+    ),
     // Opening.
     shown(
-        &["opening of a desk without the origins", "opening of a desk with part of the origins"],
+        &[
+            "opening of a desk without the origins", "opening of a desk with part of the origins",
+            "opening of a desk without the count", "opening of a desk with part of the count",
+        ],
         plant(
             "opening-without-origins",
             "opening accepts a desk of 578 bytes",
@@ -1292,11 +1986,78 @@ fn judge_record(desk: &mut [u8], sheet: &mut [u8], slip: &mut [u8], record: &[u8
     ),
     shown(
         &["opening over origins"],
-        plant("opening-origins", "opening leaves the origins", &[("desk[..DESK].fill(0);", "desk[..ORIGINS].fill(0);")]),
+        plant(
+            "opening-origins",
+            "opening leaves the origins",
+            &[("desk[..DESK].fill(0);", "desk[..ORIGINS].fill(0);\n    desk[COUNT..DESK].fill(0);")],
+        ),
     ),
     shown(
         &["opening over origins"],
-        plant("opening-last-origins", "opening leaves the last byte of the origins", &[("desk[..DESK].fill(0);", "desk[..DESK - 1].fill(0);")]),
+        plant(
+            "opening-last-origins",
+            "opening leaves the last byte of the origins",
+            &[("desk[..DESK].fill(0);", "desk[..COUNT - 1].fill(0);\n    desk[COUNT..DESK].fill(0);")],
+        ),
+    ),
+    shown(
+        &["opening of a desk without the count", "opening of a desk with part of the count"],
+        plant(
+            "opening-without-count",
+            "opening accepts a desk of 638 bytes",
+            &[
+                ("if desk.len() < DESK || ", "if desk.len() < COUNT || "),
+                ("desk[..DESK].fill(0);", "let end = desk.len().min(DESK);\n    desk[..end].fill(0);"),
+            ],
+        ),
+    ),
+    shown(
+        &["opening over a count"],
+        plant("opening-count", "opening leaves the count", &[("desk[..DESK].fill(0);", "desk[..COUNT].fill(0);")]),
+    ),
+    shown(
+        &["opening over numbers"],
+        plant("opening-numbers", "opening leaves the second sheet", &[("    seen[..seen_size].fill(0);", "")]),
+    ),
+    shown(
+        &["opening over numbers"],
+        plant("opening-numbers-quarter", "opening clears K x K bytes of the second sheet", &[("seen[..seen_size].fill(0);", "seen[..size].fill(0);")]),
+    ),
+    shown(
+        &["opening over numbers"],
+        plant("opening-numbers-last", "opening leaves the last byte of the second sheet", &[("seen[..seen_size].fill(0);", "seen[..seen_size - 1].fill(0);")]),
+    ),
+    plant(
+        "opening-numbers-past",
+        "opening clears a byte past the second sheet",
+        &[("seen[..seen_size].fill(0);", "let end = seen.len().min(seen_size + 1);\n    seen[..end].fill(0);")],
+    ),
+    plant(
+        "opening-seen-unread",
+        "opening does not look at the second sheet's length",
+        &[
+            ("|| seen.len() < seen_size {", "{"),
+            ("seen[..seen_size].fill(0);", "let end = seen.len().min(seen_size);\n    seen[..end].fill(0);"),
+        ],
+    ),
+    shown(
+        &["opening of a second sheet a byte short"],
+        plant(
+            "opening-seen-short",
+            "opening accepts a second sheet a byte short",
+            &[
+                ("|| seen.len() < seen_size {", "|| seen.len() + 1 < seen_size {"),
+                ("seen[..seen_size].fill(0);", "let end = seen.len().min(seen_size);\n    seen[..end].fill(0);"),
+            ],
+        ),
+    ),
+    plant(
+        "opening-seen-quarter",
+        "opening accepts a second sheet of K x K bytes",
+        &[
+            ("|| seen.len() < seen_size {", "|| seen.len() < size {"),
+            ("seen[..seen_size].fill(0);", "let end = seen.len().min(seen_size);\n    seen[..end].fill(0);"),
+        ],
     ),
     plant(
         "opening-desk-past",
@@ -1311,7 +2072,7 @@ fn judge_record(desk: &mut [u8], sheet: &mut [u8], slip: &mut [u8], record: &[u8
     plant(
         "k-cut",
         "K is cut to a byte: 264 is 8",
-        &[("    if k < 1 || k > MAX_K as u64 {", "    let k = k % 256;\n    if k < 1 || k > MAX_K as u64 {")],
+        &[("    if k < 1 || k > MAX_K as u64 {\n        return 2;", "    let k = k % 256;\n    if k < 1 || k > MAX_K as u64 {\n        return 2;")],
     ),
     // The feed: the header.
     plant(
@@ -1321,7 +2082,7 @@ fn judge_record(desk: &mut [u8], sheet: &mut [u8], slip: &mut [u8], record: &[u8
             PUSH,
             "        held.loose.push(byte);
         if !held.opened && held.loose.len() == 3 {
-            open(1, desk, sheet);
+            open(1, desk, sheet, seen);
         }",
         )],
     ),
@@ -1334,7 +2095,7 @@ fn judge_record(desk: &mut [u8], sheet: &mut [u8], slip: &mut [u8], record: &[u8
                 PUSH,
                 "        held.loose.push(byte);
         if !held.opened && held.loose[0] != 0x4C {
-            held.judge(desk, sheet, slip);
+            held.judge(desk, sheet, seen, slip);
             continue;
         }",
             )],
@@ -1357,16 +2118,33 @@ fn judge_record(desk: &mut [u8], sheet: &mut [u8], slip: &mut [u8], record: &[u8
     ),
     shown(
         &["header with K over 64", "header that opens"],
-        plant("header-k-cut", "the header's K is cut to six bits", &[("open(u64::from(k), desk, sheet),", "open(u64::from(k % 64), desk, sheet),")]),
+        plant("header-k-cut", "the header's K is cut to six bits", &[("open(u64::from(k), desk, sheet, seen),", "open(u64::from(k % 64), desk, sheet, seen),")]),
     ),
     shown(
-        &["header with a short desk", "header with a short sheet"],
+        &["header with a short second sheet"],
+        plant(
+            "header-short-seen",
+            "a second sheet too short for the header is answered with 11",
+            &[(
+                "[0x4C, 0x48, 0x01, k] =>",
+                "[0x4C, 0x48, 0x01, k]
+                    if seen.len() < seen_len(usize::from(k))
+                        && k >= 1
+                        && usize::from(k) <= MAX_K
+                        && desk.len() >= DESK
+                        && sheet.len() >= sheet_len(usize::from(k)) => 11,
+                [0x4C, 0x48, 0x01, k] =>",
+            )],
+        ),
+    ),
+    shown(
+        &["header with a short desk", "header with a short sheet", "header with a short second sheet"],
         plant(
             "header-short-11",
             "a desk or sheet too short for the header is answered with 11",
             &[(
-                "=> open(u64::from(k), desk, sheet),",
-                "=> match open(u64::from(k), desk, sheet) {
+                "=> open(u64::from(k), desk, sheet, seen),",
+                "=> match open(u64::from(k), desk, sheet, seen) {
                     2 if k >= 1 && usize::from(k) <= MAX_K => 11,
                     answer => answer,
                 },",
@@ -1399,7 +2177,7 @@ fn judge_record(desk: &mut [u8], sheet: &mut [u8], slip: &mut [u8], record: &[u8
                 PUSH,
                 "        held.loose.push(byte);
         if held.opened && held.loose[0] != 0x4C {
-            held.judge(desk, sheet, slip);
+            held.judge(desk, sheet, seen, slip);
             continue;
         }",
             )],
@@ -1410,7 +2188,7 @@ fn judge_record(desk: &mut [u8], sheet: &mut [u8], slip: &mut [u8], record: &[u8
         plant(
             "loose-dropped",
             "what is not complete at a piece's end is dropped",
-            &[(AFTER_PIECE, "            held.judge(desk, sheet, slip);\n        }\n    }\n    held.loose.clear();\n    held.write(feed);")],
+            &[(AFTER_PIECE, "            held.judge(desk, sheet, seen, slip);\n        }\n    }\n    held.loose.clear();\n    held.write(feed);")],
         ),
     ),
     shown(
@@ -1418,7 +2196,7 @@ fn judge_record(desk: &mut [u8], sheet: &mut [u8], slip: &mut [u8], record: &[u8
         plant(
             "loose-four",
             "at most four loose bytes are kept",
-            &[(AFTER_PIECE, "            held.judge(desk, sheet, slip);\n        }\n    }\n    held.loose.truncate(4);\n    held.write(feed);")],
+            &[(AFTER_PIECE, "            held.judge(desk, sheet, seen, slip);\n        }\n    }\n    held.loose.truncate(4);\n    held.write(feed);")],
         ),
     ),
     shown(
@@ -1450,7 +2228,7 @@ fn judge_record(desk: &mut [u8], sheet: &mut [u8], slip: &mut [u8], record: &[u8
                 &[(
                     PIECE,
                     "    if piece.is_empty() && held.answer == 0 && (!held.opened || !held.loose.is_empty()) {
-        held.judge(desk, sheet, slip);
+        held.judge(desk, sheet, seen, slip);
     }
     for &byte in piece {",
                 )],
@@ -1528,22 +2306,26 @@ fn judge_record(desk: &mut [u8], sheet: &mut [u8], slip: &mut [u8], record: &[u8
             "stop-other-cycle",
             "a fault in a feed shows another true cycle than the step, if there is one",
             &[
-                ("self.answer = step(desk, sheet, slip, &self.loose);", "self.answer = step_apart(desk, sheet, slip, &self.loose);"),
-                ("let answer = step(desk, sheet, slip, record);", "let answer = step_apart(desk, sheet, slip, record);"),
+                ("self.answer = step(desk, sheet, seen, slip, &self.loose);", "self.answer = step_apart(desk, sheet, seen, slip, &self.loose);"),
+                ("let answer = step(desk, sheet, seen, slip, record);", "let answer = step_apart(desk, sheet, seen, slip, record);"),
                 (
                     "/// A fresh feed, 16 zeros.",
-                    "fn step_apart(desk: &mut [u8], sheet: &mut [u8], slip: &mut [u8], record: &[u8]) -> u8 {
-    let answer = step(desk, sheet, slip, record);
+                    "fn step_apart(desk: &mut [u8], sheet: &mut [u8], seen: &mut [u8], slip: &mut [u8], record: &[u8]) -> u8 {
+    let answer = step(desk, sheet, seen, slip, record);
     if answer == 1 {
-        let arrows = (0..usize::from(slip[0])).flat_map(|i| [ER, EN, SR, SN].map(move |kind| (i, kind)));
+        let k = usize::from(desk[0]);
+        let entries = slip[1..].chunks_exact(ENTRY).take(usize::from(slip[0]));
+        let circle: Vec<Triple> = entries.map(|entry| (entry[0], entry[1], entry[2])).collect();
+        let arrows = (0..circle.len()).flat_map(|i| [ER, EN, SR, SN].map(move |kind| (i, kind)));
         for (i, kind, source) in arrows.flat_map(|(i, kind)| [0, 1, 2].map(move |source| (i, kind, source))) {
-            let old = [slip[2 + 3 * i], slip[3 + 3 * i]];
-            slip[2 + 3 * i..4 + 3 * i].copy_from_slice(&[kind, source]);
-            if old != [kind, source] && true_circle(desk, sheet, slip) {
-                break;
+            let mut other = circle.clone();
+            other[i] = (circle[i].0, kind, source);
+            show(slip, &other, k, seen);
+            if other != circle && true_circle(desk, sheet, seen, slip) {
+                return answer;
             }
-            slip[2 + 3 * i..4 + 3 * i].copy_from_slice(&old);
         }
+        show(slip, &circle, k, seen);
     }
     answer
 }
@@ -1551,6 +2333,46 @@ fn judge_record(desk: &mut [u8], sheet: &mut [u8], slip: &mut [u8], record: &[u8
 /// A fresh feed, 16 zeros.",
                 ),
             ],
+        ),
+    ),
+    // The feed: 9, and first-seen numbers.
+    shown(
+        &["record that stops with 9"],
+        plant(
+            "stop-not-9",
+            "a feed goes on after a 9",
+            &[(
+                "self.answer = step(desk, sheet, seen, slip, &self.loose);",
+                "self.answer = match step(desk, sheet, seen, slip, &self.loose) {
+                9 => 0,
+                answer => answer,
+            };",
+            )],
+        ),
+    ),
+    shown(
+        &["end over loose bytes at the last count, 3"],
+        plant(
+            "end-9",
+            "an end over loose bytes at the last count is answered with 9",
+            &[(AFTER_END, "        held.judge(desk, sheet, seen, slip);\n        if held.answer == 3 && word_at(desk, COUNT) == u32::MAX {\n            held.answer = 9;\n        }\n    }\n    held.write(feed);")],
+        ),
+    ),
+    shown(
+        &["pair drawn first in a piece, its place another"],
+        plant(
+            "feed-place",
+            "a pair's number is the feed's record number",
+            &[(
+                "self.answer = step(desk, sheet, seen, slip, &self.loose);",
+                "let before = seen.to_vec();
+            self.answer = step(desk, sheet, seen, slip, &self.loose);
+            for (old, new) in before.chunks_exact(WORD).zip(seen.chunks_exact_mut(WORD)) {
+                if old != &new[..] {
+                    set_word(new, 0, self.number as u32);
+                }
+            }",
+            )],
         ),
     ),
     // The feed: the number.
@@ -1579,8 +2401,8 @@ fn judge_record(desk: &mut [u8], sheet: &mut [u8], slip: &mut [u8], record: &[u8
         "number-before",
         "a refused record has the number of the one before",
         &[(
-            "self.answer = step(desk, sheet, slip, &self.loose);",
-            "self.answer = step(desk, sheet, slip, &self.loose);\n            self.number -= u64::from(self.answer > 1);",
+            "self.answer = step(desk, sheet, seen, slip, &self.loose);",
+            "self.answer = step(desk, sheet, seen, slip, &self.loose);\n            self.number -= u64::from(self.answer > 1);",
         )],
     ),
     // The feed: ends.
@@ -1599,7 +2421,7 @@ fn judge_record(desk: &mut [u8], sheet: &mut [u8], slip: &mut [u8], record: &[u8
     plant(
         "end-header-3",
         "an end before the header is complete is answered with 3",
-        &[(AFTER_END, "        held.judge(desk, sheet, slip);\n        held.answer = 3;\n    }\n    held.write(feed);")],
+        &[(AFTER_END, "        held.judge(desk, sheet, seen, slip);\n        held.answer = 3;\n    }\n    held.write(feed);")],
     ),
     shown(
         &ENDS_WITH_0,
@@ -1631,14 +2453,14 @@ fn judge_record(desk: &mut [u8], sheet: &mut [u8], slip: &mut [u8], record: &[u8
     plant(
         "end-forgotten",
         "an end's refusal is not kept",
-        &[(AFTER_END, "        held.judge(desk, sheet, slip);\n    }")],
+        &[(AFTER_END, "        held.judge(desk, sheet, seen, slip);\n    }")],
     ),
     shown(
         &ENDS_WITH_10,
         plant(
             "end-10",
             "an end over loose bytes is answered with 3 before 10",
-            &[(AFTER_END, "        held.judge(desk, sheet, slip);\n        if held.answer == 10 {\n            held.answer = 3;\n        }\n    }\n    held.write(feed);")],
+            &[(AFTER_END, "        held.judge(desk, sheet, seen, slip);\n        if held.answer == 10 {\n            held.answer = 3;\n        }\n    }\n    held.write(feed);")],
         ),
     ),
     shown(
@@ -1646,13 +2468,13 @@ fn judge_record(desk: &mut [u8], sheet: &mut [u8], slip: &mut [u8], record: &[u8
         plant(
             "end-11",
             "an end over loose bytes is answered with 3 before 11",
-            &[(AFTER_END, "        held.judge(desk, sheet, slip);\n        if held.answer == 11 {\n            held.answer = 3;\n        }\n    }\n    held.write(feed);")],
+            &[(AFTER_END, "        held.judge(desk, sheet, seen, slip);\n        if held.answer == 11 {\n            held.answer = 3;\n        }\n    }\n    held.write(feed);")],
         ),
     ),
     plant(
         "end-number",
         "an end over loose bytes has the number of the last record",
-        &[(AFTER_END, "        held.judge(desk, sheet, slip);\n        held.number -= u64::from(held.opened);\n    }\n    held.write(feed);")],
+        &[(AFTER_END, "        held.judge(desk, sheet, seen, slip);\n        held.number -= u64::from(held.opened);\n    }\n    held.write(feed);")],
     ),
     shown(
         &ENDS_WITH_3,
@@ -1746,9 +2568,9 @@ fn judge_record(desk: &mut [u8], sheet: &mut [u8], slip: &mut [u8], record: &[u8
     plant("feed-early-10", "10 is fit before opening", &[("answer != 0 && answer != 2 {", "answer != 0 && answer != 2 && answer != 10 {")]),
     plant("feed-early-number", "a number is fit before opening", &[("if !opened && !at_0 {", "if !opened && answer != 0 && !at_0 {")]),
     plant("feed-late-2", "2 is fit after opening", &[("![0, 1, 3, 4,", "![0, 1, 2, 3, 4,")]),
-    plant("feed-late-9", "9 is fit after opening", &[("7, 8, 10, 11].contains(&answer)", "7, 8, 9, 10, 11].contains(&answer)")]),
-    plant("feed-late-12", "12 is fit after opening", &[("7, 8, 10, 11].contains(&answer)", "7, 8, 10, 11, 12].contains(&answer)")]),
-    plant("feed-late-10", "10 is unfit, which no start leads to", &[("7, 8, 10, 11].contains(&answer)", "7, 8, 11].contains(&answer)")]),
+    plant("feed-late-9", "9 is unfit after opening", &[("7, 8, 9, 10, 11].contains(&answer)", "7, 8, 10, 11].contains(&answer)")]),
+    plant("feed-late-12", "12 is fit after opening", &[("7, 8, 9, 10, 11].contains(&answer)", "7, 8, 9, 10, 11, 12].contains(&answer)")]),
+    plant("feed-late-10", "10 is unfit, which no start leads to", &[("7, 8, 9, 10, 11].contains(&answer)", "7, 8, 9, 11].contains(&answer)")]),
     plant(
         "feed-answer-at-0",
         "an answer but 1 is fit at record 0 after opening",

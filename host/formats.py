@@ -1,4 +1,4 @@
-"""What host/test_formats and host/test_feed_formats share: the page that they read, the library, and the sizes and places of desk, sheet and slip.
+"""What host/test_formats and host/test_feed_formats share: the page that they read, the library, and the sizes and places of desk, sheets and slip.
 
 The arguments are theirs: PATH/SHARED_LIBRARY [PAGE [--first]]. What the page says is read from it and tried: every cell that says what a record or a byte
 does. --first: stop at what is wrong first."""
@@ -66,14 +66,15 @@ def octets(text):
 class Buffers:
     """Buffers of the given sizes, or of those that the page has for K; opened."""
 
-    def __init__(self, k=8, desk=None, sheet=None, slip=None):
-        sizes = (DESK if desk is None else desk, k * k if sheet is None else sheet, SLIP[0] + SLIP[1] * k if slip is None else slip)
+    def __init__(self, k=8, desk=None, sheet=None, seen=None, slip=None):
+        sizes = (DESK if desk is None else desk, k * k if sheet is None else sheet, NUMBER * k * k if seen is None else seen,
+                 SLIP[0] + SLIP[1] * k if slip is None else slip)
         self.k = k
-        self.desk, self.sheet, self.slip = ((ctypes.c_uint8 * n).from_buffer_copy(bytes([FILL]) * n) for n in sizes)
-        self.opened = library.plungerowl_open(ctypes.c_uint64(k), *self.lent()[:4])
+        self.desk, self.sheet, self.seen, self.slip = ((ctypes.c_uint8 * n).from_buffer_copy(bytes([FILL]) * n) for n in sizes)
+        self.opened = library.plungerowl_open(ctypes.c_uint64(k), *self.lent()[:6])
 
     def lent(self):
-        return [x for b in (self.desk, self.sheet, self.slip) for x in (b, ctypes.c_size_t(len(b)))]
+        return [x for b in (self.desk, self.sheet, self.seen, self.slip) for x in (b, ctypes.c_size_t(len(b)))]
 
     def step(self, record):
         return library.plungerowl_step(*self.lent(), bytes(record), ctypes.c_size_t(len(record)))
@@ -83,11 +84,33 @@ class Buffers:
 
     def ask(self, class_):
         word, count = ctypes.c_uint64(), ctypes.c_uint32()
-        answer = library.plungerowl_ask(*self.lent()[:4], ctypes.c_uint64(class_), ctypes.byref(word), ctypes.byref(count))
+        answer = library.plungerowl_ask(*self.lent()[:6], ctypes.c_uint64(class_), ctypes.byref(word), ctypes.byref(count))
         return answer, word.value, count.value
 
     def copy(self):
-        return [list(self.desk), list(self.sheet), list(self.slip)]
+        return [list(self.desk), list(self.sheet), list(self.seen), list(self.slip)]
+
+    def count(self):
+        return low_first(self.desk[count_at:count_at + NUMBER])
+
+    def put_count(self, count):
+        self.desk[count_at:count_at + NUMBER] = count.to_bytes(NUMBER, "little")
+
+    def number(self, from_, to):
+        return low_first(self.seen[NUMBER * (from_ * self.k + to):][:NUMBER])
+
+    def put_number(self, from_, to, number):
+        self.seen[NUMBER * (from_ * self.k + to):NUMBER * (from_ * self.k + to + 1)] = number.to_bytes(NUMBER, "little")
+
+    def draw(self, from_, to, kinds, number=1):
+        """Lock dependencies from a class to another, with their number; the count is not below it."""
+        self.sheet[from_ * self.k + to] |= kinds
+        self.put_number(from_, to, number if self.sheet[from_ * self.k + to] else 0)
+        self.put_count(max(self.count(), number))
+
+
+def low_first(octets):
+    return int.from_bytes(bytes(octets), "little")
 
 
 def record(kind, class_=0, mode=0, core=0):
@@ -100,28 +123,35 @@ MODES, TRY = 6, 3
 # ---- sizes and places
 
 DESK, = said(r"\n(\d+) bytes: where every core stands")
+NUMBER, = said(r"\n(\d+) x K x K bytes: the first-seen numbers\.")
 SLIP = said(r"\n(\d+) \+ (\d+) K bytes, written with a fault")
-ROWS = [r"0", r"(\d+)", r"(\d+) \+ i", r"(\d+) \+ f", r"(\d+) \+ c", r"(\d+) \+ (\d+) f \+ p", r"(\d+) \+ \((\d+) f \+ p\) / 8, rounded down"]
+ROWS = [r"0", r"(\d+)", r"(\d+) \+ i", r"(\d+) \+ f", r"(\d+) \+ c", r"(\d+) \+ (\d+) f \+ p", r"(\d+) \+ \((\d+) f \+ p\) / 8, rounded down", r"(\d+) \+ i"]
 rows = table("| byte | has |", len(ROWS))
-_, (closed_at,), (states_at,), (depths_at,), (marks_at,), (held_at, depth), (origins_at, again) = (
+_, (closed_at,), (states_at,), (depths_at,), (marks_at,), (held_at, depth), (origins_at, again), (count_at,) = (
     map(int, re.fullmatch(pattern, cells[0]).groups()) for pattern, cells in zip(ROWS, rows))
 cores, classes, frames, last_state = 8, 64, 24, 8
-check("the numbers in the desk's rows", [[], [0, 1], [0, last_state], [0, depth], [classes], [0, depth - 1, 0, 0], [depth, 8, 0]],
+check("the numbers in the desk's rows", [[], [0, 1], [0, last_state], [0, depth], [classes], [0, depth - 1, 0, 0], [depth, 8, 0], [0, NUMBER - 1, 256]],
       [numbers(has) for _, has in rows])
 check("the depth of the origin bits", depth, again)
 picture = re.search(r"\n    ( *0   1 .*)\n(?:.*\n){3}(.*)C: closed", page)
-offsets = [0, closed_at, states_at, depths_at, marks_at, held_at, origins_at, DESK]
+offsets = [0, closed_at, states_at, depths_at, marks_at, held_at, origins_at, count_at, DESK]
 check("the offsets in the desk's picture", offsets, numbers(picture[1]))
 check("the sizes in the desk's picture", [b - a for a, b in zip(offsets, offsets[1:])],
       [numbers(part)[-1] for part in re.split(r"\s{3,}", picture[2].strip())])
 check("the sums in the desk's picture", [(f"{frames} x {depth}", str(frames * depth)), (f"{frames * depth} / 8", str(frames * depth // 8))],
       re.findall(r"(\d+ [x/] \d+) = (\d+)", picture[2]))
 check("opening", [Buffers(desk=DESK).opened, Buffers(desk=DESK - 1).opened], [0, 2])
-b = Buffers(desk=DESK + 9, sheet=64 + 9)
+b = Buffers(desk=DESK + 9, sheet=64 + 9, seen=NUMBER * 64 + 9)
 check("the desk opened", list(b.desk), [8] + [0] * said(r"0 to the other (\d+) bytes of the desk")[0] + [FILL] * 9)
 check("the sheet opened", list(b.sheet), [0] * 64 + [FILL] * 9)
-check("the slip's picture", SLIP * 2, said(r"\n    0 1 2 3 4 5 6 7 (\d+) \+ (\d+)n (\d+) \+ (\d+)K\n"))
-check("the slip's size", [Buffers(slip=n).step(record(HARD_ON)) for n in (25, 24)], [0, 11])
+check("the second sheet opened", list(b.seen), [0] * 64 * said(r"and 0 to the (\d+) x K x K bytes of the second sheet")[0] + [FILL] * 9)
+check("the slip's picture", [*range(1, 5), *range(1 + SLIP[1], 5 + SLIP[1]), 1 + 2 * SLIP[1], *SLIP * 2],
+      said(r"\n    0 (\d+) (\d+) (\d+) (\d+) (\d+) (\d+) (\d+) (\d+) (\d+) (\d+) \+ (\d+)n (\d+) \+ (\d+)K\n"))
+check("the slip's size", [Buffers(slip=SLIP[0] + SLIP[1] * 8 - n).step(record(HARD_ON)) for n in (0, 1)], [0, 11])
+check("the sizes of a dependency and of a number", [SLIP[1], NUMBER], [3 + NUMBER, 4])
+check("the same in words", ["seven", "four", NUMBER], said(r"Each dependency has (\w+) bytes: the class") + said(r"in the (\w+) bytes from (\d+) x \(from x K \+ to\) on"))
+FULL, power = said(r"At (\d+) \(2 to the (\d+), less 1\) it is full")
+check("a full count", [(1 << power) - 1, (1 << 8 * NUMBER) - 1], [FULL, FULL])
 check("the limits", [classes, cores, cores - 1, depth],
       said(r"K, the number of lock classes, is 1 to (\d+); (\d+) cores, 0 to (\d+); (\d+) held locks in a frame"))
 

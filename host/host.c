@@ -29,11 +29,13 @@
 enum { STATUS_OK = 0, STATUS_TROUBLE = 2, STATUS_LIBRARY = 3 };
 enum { PIECE_SIZE = 4096, MOST_PIECE_SIZE = 1 << 20 };
 
-/* K is known with the header only: sheet and slip are for the most classes. */
+/* K is known with the header only: sheet, seen and slip are for the most
+ * classes. */
 struct buffers {
     struct guarded feed;
     struct guarded desk;
     struct guarded sheet;
+    struct guarded seen;
     struct guarded slip;
     struct guarded piece;
 };
@@ -52,6 +54,7 @@ static void make_buffers(struct buffers *b, size_t piece_size)
     if (!guarded_make(&b->feed, PLUNGEROWL_FEED_SIZE, 0xEE)
         || !guarded_make(&b->desk, PLUNGEROWL_DESK_SIZE, 0xEE)
         || !guarded_make(&b->sheet, PLUNGEROWL_SHEET_SIZE(classes), 0xEE)
+        || !guarded_make(&b->seen, PLUNGEROWL_SEEN_SIZE(classes), 0xEE)
         || !guarded_make(&b->slip, PLUNGEROWL_SLIP_SIZE(classes), 0xEE)
         || !guarded_make(&b->piece, piece_size, 0xEE))
         quit(STATUS_TROUBLE, "out of memory");
@@ -62,6 +65,7 @@ static void free_buffers(struct buffers *b)
     guarded_free(&b->feed);
     guarded_free(&b->desk);
     guarded_free(&b->sheet);
+    guarded_free(&b->seen);
     guarded_free(&b->slip);
     guarded_free(&b->piece);
 }
@@ -74,6 +78,8 @@ static void check_guards(const struct buffers *b)
         quit(STATUS_LIBRARY, "bytes around the desk were changed");
     if (!guarded_intact(&b->sheet))
         quit(STATUS_LIBRARY, "bytes around the sheet were changed");
+    if (!guarded_intact(&b->seen))
+        quit(STATUS_LIBRARY, "bytes around the second sheet were changed");
     if (!guarded_intact(&b->slip))
         quit(STATUS_LIBRARY, "bytes around the slip were changed");
     if (!guarded_intact(&b->piece))
@@ -93,6 +99,7 @@ static unsigned feed_piece(struct buffers *b, size_t length, uint64_t *record)
     unsigned answer = plungerowl_feed(b->feed.bytes, b->feed.size,
                                       b->desk.bytes, b->desk.size,
                                       b->sheet.bytes, b->sheet.size,
+                                      b->seen.bytes, b->seen.size,
                                       b->slip.bytes, b->slip.size,
                                       b->piece.bytes, length, record);
     check_guards(b);
@@ -104,6 +111,7 @@ static unsigned end_feed(struct buffers *b, uint64_t *record)
     unsigned answer = plungerowl_feed_end(b->feed.bytes, b->feed.size,
                                           b->desk.bytes, b->desk.size,
                                           b->sheet.bytes, b->sheet.size,
+                                          b->seen.bytes, b->seen.size,
                                           b->slip.bytes, b->slip.size, record);
     check_guards(b);
     return answer;
@@ -114,6 +122,7 @@ static unsigned ask_buffers(const struct buffers *b, unsigned class_,
 {
     unsigned answer = plungerowl_ask(b->desk.bytes, b->desk.size,
                                      b->sheet.bytes, b->sheet.size,
+                                     b->seen.bytes, b->seen.size,
                                      class_, word, count);
     check_guards(b);
     return answer;
@@ -175,6 +184,7 @@ static unsigned classes_of(const struct buffers *b)
     return b->desk.bytes[0];
 }
 
+/* The numbers of the entries are not printed. */
 static void print_cycle(const struct buffers *b)
 {
     const uint8_t *slip = b->slip.bytes;
@@ -184,8 +194,8 @@ static void print_cycle(const struct buffers *b)
     if (n < 1 || n > classes_of(b))
         quit(STATUS_LIBRARY, "the slip has a wrong length");
     for (i = 0; i < n; i++) {
-        const uint8_t *entry = slip + 1 + 3 * i;
-        const uint8_t *next = slip + 1 + 3 * ((i + 1) % n);
+        const uint8_t *entry = slip + 1 + PLUNGEROWL_ENTRY_SIZE * i;
+        const uint8_t *next = slip + 1 + PLUNGEROWL_ENTRY_SIZE * ((i + 1) % n);
 
         printf("%u %s %u %s\n", (unsigned)entry[0], kind_name(entry[1]),
                (unsigned)next[0], source_name(entry[2]));

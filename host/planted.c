@@ -39,19 +39,59 @@
     X(fit_no_origins, unfit_origins, wrong) \
     X(fit_no_origins_asked, unfit_origins, wrong) \
     X(fit_try_refused, unfit_origins, wrong) \
+    X(fit_number_0_of_first, unfit_numbers, wrong) \
+    X(fit_number_0_of_last, unfit_numbers, wrong) \
+    X(fit_number_0_with_sr, unfit_numbers, wrong) \
+    X(fit_number_0_but_of_first, unfit_last_pair, wrong) \
+    X(fit_number_without_kinds, unfit_numbers, wrong) \
+    X(fit_high_number_without_kinds, unfit_numbers, wrong) \
+    X(fit_number_above_count, unfit_numbers, wrong) \
+    X(fit_number_above_count_of_0, unfit_counts, wrong) \
+    X(fit_number_above_by_high_byte, unfit_numbers, wrong) \
+    X(fit_number_above_with_high_count, unfit_counts, wrong) \
+    X(fit_highest_number, unfit_numbers, wrong) \
+    X(fit_number_of_last_pair, unfit_last_pair, wrong) \
+    X(fit_numbers_not_tested, unfit_numbers, wrong) \
+    X(fit_numbers_not_tested_asked, unfit_numbers, wrong) \
+    X(fit_number_as_count_refused, unfit_numbers, wrong) \
+    X(fit_number_1_refused, unfit_numbers, wrong) \
+    X(fit_number_low_byte_0_refused, unfit_numbers, wrong) \
+    X(fit_number_high_byte_first, unfit_numbers, wrong) \
+    X(fit_number_signed, unfit_counts, wrong) \
+    X(fit_number_behind_last_pair, unfit_last_pair, wrong) \
+    X(fit_kinds_behind_last_pair, unfit_last_pair, wrong) \
+    X(fit_numbers_of_64_classes, seen_past, wrong) \
+    X(fit_count_without_numbers_refused, unfit_counts, wrong) \
+    X(fit_number_as_count_refused_asked, unfit_numbers, wrong) \
     X(open_k_cut, open_refused, wrong) \
     X(open_desk_short_by_one, open_refused, wrong) \
     X(open_desk_without_origins, open_refused, wrong) \
+    X(open_desk_without_count, open_refused, wrong) \
     X(open_sheet_short_by_one, open_refused, wrong) \
+    X(open_seen_short_by_one, open_refused, wrong) \
+    X(open_seen_of_k_x_k, open_refused, wrong) \
+    X(open_seen_not_tested, open_refused, wrong) \
     X(open_writes_before_desk, open_accepted, wrong) \
     X(open_writes_behind_sheet, open_accepted, wrong) \
     X(open_writes_behind_desk, open_accepted, wrong) \
     X(open_leaves_origins, open_accepted, wrong) \
     X(open_leaves_last_byte, open_accepted, wrong) \
+    X(open_leaves_count, open_accepted, wrong) \
+    X(open_counts_itself, open_accepted, wrong) \
+    X(open_leaves_seen, open_accepted, wrong) \
+    X(open_leaves_seen_of_used, reopen, wrong) \
+    X(open_leaves_last_number, open_accepted, wrong) \
+    X(open_zeroes_k_x_k_of_seen, open_accepted, wrong) \
+    X(open_zeroes_all_of_seen, open_accepted, wrong) \
+    X(open_writes_behind_seen, open_accepted, wrong) \
+    X(open_writes_before_seen, open_accepted, wrong) \
     X(open_refused_writes, open_refused, wrong) \
+    X(open_refused_writes_seen, open_refused, wrong) \
     X(step_reads_before_desk, p2, killed) \
     X(step_reads_behind_desk, p2, killed) \
     X(step_reads_behind_sheet, p2, killed) \
+    X(step_reads_behind_seen, p2, killed) \
+    X(step_reads_before_seen, p2, killed) \
     X(step_reads_behind_slip, p2, killed) \
     X(step_reads_behind_record, p2, killed) \
     X(step_reads_before_record, p2, killed) \
@@ -61,6 +101,14 @@
     X(step_writes_behind_desk, origin_last, wrong) \
     X(step_desk_without_origins, unfit_lengths, wrong) \
     X(step_desk_short_by_one, unfit_lengths, wrong) \
+    X(step_desk_without_count, unfit_lengths, wrong) \
+    X(step_seen_short_by_one, unfit_lengths, wrong) \
+    X(step_seen_of_k_x_k, unfit_lengths, wrong) \
+    X(step_slip_short_by_one, unfit_lengths, wrong) \
+    X(step_old_slip, unfit_lengths, wrong) \
+    X(step_old_slip_of_64, old_slip, wrong) \
+    X(step_writes_behind_seen, seen_past, wrong) \
+    X(step_writes_seen_tail, seen_places, wrong) \
     X(refused_7_writes, refusal_7, wrong) \
     X(exit_with_tries_held, refusal_7, wrong) \
     X(refused_8_writes, refusal_8, wrong) \
@@ -148,6 +196,14 @@
     X(shown_ring_ends_wrong, shown_ring, wrong) \
     X(shown_tie_wrong, shown_ties, wrong) \
     X(shown_late_kinds_wrong, shown_ties, wrong) \
+    X(shown_numbers_compared, seen_not_compared, wrong) \
+    X(shown_numbers_compared_in_logs, seen_older_not_shown, wrong) \
+    X(shown_numbers_compared_at_random, shown_all_tried, wrong) \
+    X(shown_numbers_before_kind, seen_not_compared, wrong) \
+    X(shown_numbers_before_source, seen_not_compared, wrong) \
+    X(shown_oldest_first, seen_not_compared, wrong) \
+    X(shown_newest_first, seen_not_compared, wrong) \
+    X(shown_earliest_cycle, seen_not_compared, wrong) \
     X(shown_clears_slip, shown_by_hand, wrong) \
     X(clash_flipped_5, clashes, wrong) \
     X(clash_flipped_6, clashes, wrong) \
@@ -170,11 +226,106 @@
     X(clash_before_lock, clashes_and_locks, wrong) \
     X(clash_before_lower_lock, shown_by_hand, wrong) \
     X(lock_of_one_class_missed, clashes_and_locks, wrong) \
+    X(count_not_at_fault, count, wrong) \
+    X(count_acquires_only, count, wrong) \
+    X(count_no_releases, count, wrong) \
+    X(count_no_tries, count, wrong) \
+    X(count_no_events, count, wrong) \
+    X(count_only_what_draws, count, wrong) \
+    X(count_only_new_dependencies, count, wrong) \
+    X(count_only_what_changes, count, wrong) \
+    X(count_by_held_locks, count, wrong) \
+    X(count_refused_3, count, wrong) \
+    X(count_refused_4, count, wrong) \
+    X(count_refused_5, count, wrong) \
+    X(count_refused_6, count, wrong) \
+    X(count_refused_7, count, wrong) \
+    X(count_refused_8, count, wrong) \
+    X(count_refused_10, count, wrong) \
+    X(count_refused_11, count, wrong) \
+    X(count_of_8_bits, count_carries, wrong) \
+    X(count_of_16_bits, count_carries, wrong) \
+    X(count_of_24_bits, count_carries, wrong) \
+    X(count_of_31_bits, count_carries, wrong) \
+    X(count_carry_lost, count_carries, wrong) \
+    X(count_high_byte_first, count_carries, wrong) \
+    X(full_count_wraps, count_full, wrong) \
+    X(full_count_stays, count_full, wrong) \
+    X(full_count_one_early, count_full, wrong) \
+    X(full_count_of_16_bits, count_carries, wrong) \
+    X(full_count_of_31_bits, count_carries, wrong) \
+    X(full_count_not_for_events, count_full, wrong) \
+    X(full_count_not_for_releases, count_full, wrong) \
+    X(full_count_not_for_tries, count_full, wrong) \
+    X(full_count_only_for_dependencies, count_full, wrong) \
+    X(full_count_not_for_faults, count_full_fault, wrong) \
+    X(full_count_closes, count_full, wrong) \
+    X(full_count_writes_slip, count_full_fault, wrong) \
+    X(full_count_draws, count_full, wrong) \
+    X(full_count_as_8, count_full, wrong) \
+    X(full_count_as_10, count_full, wrong) \
+    X(full_count_as_11, count_full, wrong) \
+    X(nine_before_3, count_order, wrong) \
+    X(nine_before_4, count_order, wrong) \
+    X(nine_before_5, count_order, wrong) \
+    X(nine_before_6, count_order, wrong) \
+    X(nine_before_7, count_order, wrong) \
+    X(nine_before_8, count_order, wrong) \
+    X(nine_before_10, count_order, wrong) \
+    X(nine_before_11, count_order, wrong) \
+    X(seen_latest, seen_later_kind, wrong) \
+    X(seen_by_latest_kind, seen_later_kind, wrong) \
+    X(seen_as_before_the_record, p2, wrong) \
+    X(seen_of_fault_as_before, seen_of_the_fault, wrong) \
+    X(seen_transposed, seen_places, wrong) \
+    X(seen_high_byte_first, seen_places, wrong) \
+    X(seen_in_rows_of_64, seen_places, wrong) \
+    X(seen_number_of_3_bytes, count_carries, wrong) \
+    X(seen_number_of_2_bytes, seen_long, wrong) \
+    X(seen_number_of_1_byte, seen_long, wrong) \
+    X(seen_from_newest_only, seen_by_one, wrong) \
+    X(seen_from_oldest_only, seen_by_one, wrong) \
+    X(seen_own_class_left_out, seen_by_one, wrong) \
+    X(seen_back_too, seen_by_one, wrong) \
+    X(seen_from_other_frames, seen_by_one, wrong) \
+    X(seen_from_tries_left_out, seen_by_one, wrong) \
+    X(seen_to_tries, seen_try, wrong) \
+    X(seen_counts_refused, seen_refused, wrong) \
+    X(seen_not_at_fault, seen_of_the_fault, wrong) \
+    X(seen_of_marks, seen_by_marks, wrong) \
+    X(seen_as_count_renewed, seen_from_elsewhere, wrong) \
+    X(slip_number_of_marks, seen_by_marks, wrong) \
+    X(slip_number_of_hard_marks, seen_by_marks, wrong) \
+    X(slip_number_of_soft_marks, seen_by_marks, wrong) \
+    X(slip_number_of_own_marks, seen_by_marks, wrong) \
+    X(slip_number_left_out, p2, wrong) \
+    X(slip_number_not_written, p2, wrong) \
+    X(slip_number_of_marks_not_written, seen_by_marks, wrong) \
+    X(slip_number_high_byte_first, p2, wrong) \
+    X(slip_number_of_3_bytes, count_carries, wrong) \
+    X(slip_number_of_2_bytes, seen_long, wrong) \
+    X(slip_number_of_1_byte, seen_long, wrong) \
+    X(slip_number_transposed, p2, wrong) \
+    X(slip_number_of_next_entry, p2, wrong) \
+    X(slip_number_of_the_fault, p2, wrong) \
+    X(slip_number_before_the_fault, seen_of_the_fault, wrong) \
+    X(slip_number_of_first_only, p2, wrong) \
+    X(slip_number_of_last_left_out, full_slip, wrong) \
+    X(slip_number_0_of_later_kind, seen_later_kind, wrong) \
+    X(slip_number_before_source, p2, wrong) \
+    X(slip_number_before_class, p2, wrong) \
+    X(slip_entries_of_3, p2, wrong) \
     X(ask_class_cut, ask_refused, wrong) \
     X(ask_leaves_word, ask_refused, wrong) \
     X(ask_writes_behind_count, ask_refused, wrong) \
     X(ask_refuses_closed, closed, wrong) \
+    X(ask_refuses_full_count, count_full, wrong) \
     X(ask_reads_behind_sheet, short_buffers, killed) \
+    X(ask_reads_behind_seen, short_buffers, killed) \
+    X(ask_writes_seen, p2, wrong) \
+    X(ask_seen_short_by_one, unfit_lengths, wrong) \
+    X(ask_seen_after_class, unfit_lengths, wrong) \
+    X(ask_desk_without_count, unfit_lengths, wrong) \
     X(ask_desk_without_origins, unfit_lengths, wrong)
 
 #define FEED_PLANTS(X) \
@@ -204,12 +355,14 @@
     X(feed_fit_high_number_before_opening, feed_unfit, wrong) \
     X(feed_fit_number_with_2, feed_unfit, wrong) \
     X(feed_fit_2_opened, feed_unfit, wrong) \
-    X(feed_fit_9, feed_unfit, wrong) \
+    X(feed_fit_9_at_0, feed_unfit, wrong) \
+    X(feed_fit_9_before_opening, feed_unfit, wrong) \
     X(feed_fit_12, feed_unfit, wrong) \
     X(feed_fit_255, feed_unfit, wrong) \
     X(feed_fit_answer_at_0, feed_unfit, wrong) \
     X(feed_fit_answer_at_0_only_1, feed_unfit, wrong) \
     X(feed_fit_answer_at_256_refused, feed_unfit, wrong) \
+    X(feed_fit_9_refused, feed_unfit, wrong) \
     X(feed_fit_10_refused, feed_unfit, wrong) \
     X(feed_fit_11_refused, feed_unfit, wrong) \
     X(feed_fit_2_refused, feed_header, wrong) \
@@ -228,6 +381,9 @@
     X(opens_with_2, feed_header, wrong) \
     X(opens_with_the_record, feed_header, wrong) \
     X(opening_clears_slip, feed_header, wrong) \
+    X(opening_leaves_seen, feed_header, wrong) \
+    X(opening_leaves_count, feed_header, wrong) \
+    X(header_accepted, feed_seen, wrong) \
     X(header_byte_by_byte, feed_header, wrong) \
     X(header_signature_half, feed_header, wrong) \
     X(header_version_any, feed_header, wrong) \
@@ -240,6 +396,8 @@
     X(header_2_keeps_loose, feed_cuts, wrong) \
     X(short_desk_as_11, feed_lengths, wrong) \
     X(short_sheet_as_11, feed_lengths, wrong) \
+    X(short_seen_as_11, feed_lengths, wrong) \
+    X(short_seen_at_first_byte, feed_lengths, wrong) \
     X(short_slip_as_2, feed_lengths, wrong) \
     X(short_desk_at_first_byte, feed_lengths, wrong) \
     X(record_byte_by_byte, feed_record, wrong) \
@@ -248,11 +406,13 @@
     X(follows_stop, feed_stop, wrong) \
     X(follows_fault, feed_stop, wrong) \
     X(follows_refusal, feed_stop, wrong) \
+    X(follows_9, feed_count_full, wrong) \
     X(keeps_loose_of_stopping_record, feed_cuts, wrong) \
     X(keeps_loose_behind_stop, feed_stop, wrong) \
     X(takes_all_into_loose, feed_stop, wrong) \
     X(number_off_at_fault, feed_cuts, wrong) \
     X(number_off_at_refusal, feed_stop, wrong) \
+    X(number_off_at_9, feed_count_full, wrong) \
     X(number_off_at_clean, feed_cuts, wrong) \
     X(number_of_the_piece, feed_cuts, wrong) \
     X(loses_fifth_loose, feed_cuts, wrong) \
@@ -280,6 +440,8 @@
     X(stopped_empty_says_0, feed_stop, wrong) \
     X(stopped_looks_at_desk, feed_stop, wrong) \
     X(stopped_asks_desk_again, feed_other_writer, wrong) \
+    X(stopped_asks_count_again, feed_count_full, wrong) \
+    X(stop_by_9_forgotten, feed_count_full, wrong) \
     X(stop_by_10_forgotten, feed_other_writer, wrong) \
     X(stop_by_11_forgotten, feed_other_writer, wrong) \
     X(number_wraps, feed_number, wrong) \
@@ -299,6 +461,10 @@
     X(feed_writes_before, feed_cuts, wrong) \
     X(feed_writes_slip, feed_cuts, wrong) \
     X(feed_writes_sheet, feed_cuts, wrong) \
+    X(feed_writes_seen, feed_cuts, wrong) \
+    X(feed_counts_by_its_number, feed_seen, wrong) \
+    X(feed_sees_by_its_number, feed_seen, wrong) \
+    X(feed_shows_no_numbers, feed_seen, wrong) \
     X(feed_shows_second, shown_in_logs, wrong) \
     X(feed_shows_second_by_hand, shown_by_hand, wrong) \
     X(feed_shows_from_second_class, shown_in_logs, wrong) \
@@ -318,6 +484,10 @@
     X(end_answers_3_for_11, feed_end_order, wrong) \
     X(end_answers_3_for_10, feed_end_order, wrong) \
     X(end_answers_10_for_11, feed_end_order, wrong) \
+    X(end_answers_9, feed_end_order, wrong) \
+    X(end_answers_9_without_loose, feed_end_order, wrong) \
+    X(end_answers_3_for_short_seen, feed_end_order, wrong) \
+    X(end_answers_3_for_a_number, feed_end_order, wrong) \
     X(end_answers_11_without_loose, feed_end_order, wrong) \
     X(end_answers_10_without_loose, feed_end_order, wrong) \
     X(end_forgets_2, feed_end, wrong) \
@@ -329,6 +499,8 @@
     X(end_pads_record, feed_end, wrong) \
     X(end_closes_desk, feed_end, wrong) \
     X(end_writes_slip, feed_end, wrong) \
+    X(end_writes_seen, feed_end, wrong) \
+    X(end_counts, feed_end, wrong) \
     X(end_writes_past_16, feed_again, wrong) \
     X(end_keeps_loose, feed_end, wrong) \
     X(end_keeps_loose_of_header, feed_end, wrong) \
@@ -354,14 +526,16 @@ static const char *const names[] = { PLANTS(NAME) FEED_PLANTS(NAME)
 
 uint8_t real_feed_start(uint8_t *, size_t);
 uint8_t real_feed(uint8_t *, size_t, uint8_t *, size_t, uint8_t *, size_t,
-                  uint8_t *, size_t, const uint8_t *, size_t, uint64_t *);
+                  uint8_t *, size_t, uint8_t *, size_t, const uint8_t *, size_t,
+                  uint64_t *);
 uint8_t real_feed_end(uint8_t *, size_t, uint8_t *, size_t, uint8_t *, size_t,
-                      uint8_t *, size_t, uint64_t *);
-uint8_t real_open(uint64_t, uint8_t *, size_t, uint8_t *, size_t);
+                      uint8_t *, size_t, uint8_t *, size_t, uint64_t *);
+uint8_t real_open(uint64_t, uint8_t *, size_t, uint8_t *, size_t, uint8_t *,
+                  size_t);
 uint8_t real_step(uint8_t *, size_t, uint8_t *, size_t, uint8_t *, size_t,
-                  const uint8_t *, size_t);
-uint8_t real_ask(const uint8_t *, size_t, const uint8_t *, size_t, uint64_t,
-                 uint64_t *, uint32_t *);
+                  uint8_t *, size_t, const uint8_t *, size_t);
+uint8_t real_ask(const uint8_t *, size_t, const uint8_t *, size_t,
+                 const uint8_t *, size_t, uint64_t, uint64_t *, uint32_t *);
 
 static enum plant plant(void)
 {
@@ -388,6 +562,7 @@ static void peek(const uint8_t *at)
 
 enum { DEPTHS_AT = PLUNGEROWL_DEPTHS_AT, MARKS_AT = PLUNGEROWL_MARKS_AT,
        HELD_AT = PLUNGEROWL_HELD_AT, ORIGINS_AT = PLUNGEROWL_ORIGINS_AT,
+       ACCEPTED_AT = PLUNGEROWL_ACCEPTED_AT, NUMBER = PLUNGEROWL_NUMBER_SIZE,
        DEPTH = PLUNGEROWL_MAX_DEPTH, FRAMES = PLUNGEROWL_FRAMES,
        PLACES = PLUNGEROWL_PLACES, DESK_SIZE = PLUNGEROWL_DESK_SIZE,
        TRY = PLUNGEROWL_TRY_EXCLUSIVE };
@@ -404,6 +579,31 @@ static void put_bit(uint8_t *desk, unsigned index, int bit)
 
     *byte = (uint8_t)((*byte & ~(1u << index % 8))
                       | (unsigned)bit << index % 8);
+}
+
+/* A number of four bytes, low byte first. */
+static uint32_t number_at(const uint8_t *at)
+{
+    return at[0] | (uint32_t)at[1] << 8 | (uint32_t)at[2] << 16
+           | (uint32_t)at[3] << 24;
+}
+
+static void put_number(uint8_t *at, uint32_t number)
+{
+    unsigned i;
+
+    for (i = 0; i < NUMBER; i++)
+        at[i] = (uint8_t)(number >> 8 * i);
+}
+
+/* The high byte first. */
+static void turn_number(uint8_t *at)
+{
+    uint32_t number = number_at(at);
+    unsigned i;
+
+    for (i = 0; i < NUMBER; i++)
+        at[NUMBER - 1 - i] = (uint8_t)(number >> 8 * i);
 }
 
 static unsigned current_frame(const uint8_t *desk, unsigned core)
@@ -447,6 +647,107 @@ static int has_stray_origin(const uint8_t *desk)
     return 0;
 }
 
+/* Whether the numbers of the first pairs are unfit. */
+static int has_unfit_number(const uint8_t *desk, const uint8_t *sheet,
+                            const uint8_t *seen, unsigned pairs)
+{
+    uint32_t count = number_at(desk + ACCEPTED_AT);
+    unsigned i;
+
+    for (i = 0; i < pairs; i++) {
+        uint32_t number = number_at(seen + NUMBER * i);
+
+        if ((sheet[i] == 0) != (number == 0) || number > count)
+            return 1;
+    }
+    return 0;
+}
+
+/* A clause about a pair is not seen. */
+static int pair_missed(unsigned pair, unsigned pairs, unsigned kinds,
+                       uint32_t number, uint32_t count)
+{
+    switch (plant()) {
+    case fit_number_0_of_first: return pair == 0 && kinds && !number;
+    case fit_number_0_of_last: return pair + 1 == pairs && kinds && !number;
+    case fit_number_0_with_sr: return kinds == PLUNGEROWL_SR && !number;
+    case fit_number_0_but_of_first: return pair > 0 && kinds && !number;
+    case fit_number_without_kinds: return !kinds && number && number == count;
+    case fit_high_number_without_kinds:
+        return !kinds && number && number % 65536 == 0;
+    case fit_number_above_count:
+        return kinds && number > count && number - count == 1;
+    case fit_number_above_count_of_0: return kinds && number && count == 0;
+    case fit_number_above_by_high_byte:
+        return kinds && number > count
+               && (number & 0xFFFFFF) <= (count & 0xFFFFFF);
+    case fit_number_above_with_high_count:
+        return kinds && number > count && count > INT32_MAX;
+    case fit_highest_number: return kinds && number == UINT32_MAX;
+    default: return 0;
+    }
+}
+
+static int number_missed(const uint8_t *desk, const uint8_t *sheet,
+                         const uint8_t *seen)
+{
+    unsigned pairs = desk[0] * desk[0], i;
+    uint32_t count = number_at(desk + ACCEPTED_AT);
+
+    if (plant() == fit_numbers_not_tested)
+        return has_unfit_number(desk, sheet, seen, pairs);
+    if (plant() == fit_number_of_last_pair)
+        return has_unfit_number(desk, sheet, seen, pairs)
+               && !has_unfit_number(desk, sheet, seen, pairs - 1);
+    for (i = 0; i < pairs; i++)
+        if (pair_missed(i, pairs, sheet[i], number_at(seen + NUMBER * i),
+                        count))
+            return 1;
+    return 0;
+}
+
+/* Fit numbers that a wrong version refuses. */
+static int refuses_number(const uint8_t *desk, const uint8_t *sheet,
+                          size_t sheet_len, const uint8_t *seen,
+                          size_t seen_len)
+{
+    unsigned pairs = desk[0] * desk[0], i;
+    uint32_t count = number_at(desk + ACCEPTED_AT);
+
+    for (i = 0; i < pairs; i++) {
+        uint8_t turned[NUMBER];
+        uint32_t number = number_at(seen + NUMBER * i);
+
+        put_number(turned, number);
+        turn_number(turned);
+        if (number != 0
+            && ((plant() == fit_number_as_count_refused && number == count)
+                || (plant() == fit_number_1_refused && number == 1)
+                || (plant() == fit_number_low_byte_0_refused
+                    && number % 256 == 0)
+                || (plant() == fit_number_high_byte_first
+                    && number_at(turned) > count)
+                || (plant() == fit_number_signed && number <= INT32_MAX
+                    && count > INT32_MAX)))
+            return 1;
+    }
+    switch (plant()) {
+    case fit_number_behind_last_pair:
+        return seen_len >= NUMBER * (pairs + (size_t)1)
+               && number_at(seen + NUMBER * pairs) > count;
+    case fit_kinds_behind_last_pair:
+        return sheet_len > pairs && sheet[pairs] == PLUNGEROWL_ER;
+    case fit_numbers_of_64_classes:
+        return sheet_len >= 64 * 64 && seen_len >= NUMBER * 64 * 64
+               && has_unfit_number(desk, sheet, seen, 64 * 64);
+    case fit_count_without_numbers_refused:
+        for (i = 0; i < pairs && sheet[i] == 0; i++)
+            ;
+        return i == pairs && count > 100000;
+    default: return 0;
+    }
+}
+
 /* A clause of the fit test is not seen, most of them at one place (K is 8). */
 static int clause_missed(const uint8_t *desk, const uint8_t *sheet)
 {
@@ -487,8 +788,10 @@ static int clause_missed(const uint8_t *desk, const uint8_t *sheet)
 struct call {
     uint8_t old_desk[DESK_SIZE]; /* before the record */
     uint8_t old_sheet[PLUNGEROWL_SHEET_SIZE(PLUNGEROWL_MAX_CLASSES)];
+    uint8_t old_seen[PLUNGEROWL_SEEN_SIZE(PLUNGEROWL_MAX_CLASSES)];
     uint8_t old_slip[PLUNGEROWL_SLIP_SIZE(PLUNGEROWL_MAX_CLASSES)];
-    uint8_t *desk, *sheet; /* after it */
+    uint8_t *desk, *sheet, *seen; /* after it */
+    size_t seen_len;
     unsigned k, core, kind, class_, mode;
     unsigned old_frame; /* the current frame before the record */
 };
@@ -735,7 +1038,8 @@ static void spoil_accepted(struct call *c)
 /* --------------------------------------------------------- the cycle shown */
 
 /* Most wrong versions try all cycles, and are right with many classes. */
-enum { FEW = 12, RANKS = 12, ENTRY = 3, MOST_KEY = 2 + 4 * FEW };
+enum { FEW = 12, RANKS = 12, ENTRY = PLUNGEROWL_ENTRY_SIZE, TRIPLE = 3,
+       MOST_KEY = 6 + ENTRY * FEW };
 
 struct choice {
     const struct call *c;
@@ -770,6 +1074,20 @@ static int is_either(enum plant one, enum plant other)
     return plant() == one || plant() == other;
 }
 
+/* The numbers of a slip's entries, as they should be. */
+static void put_numbers(const struct call *c, uint8_t *slip)
+{
+    unsigned n = slip[0], i;
+
+    for (i = 0; i < n; i++) {
+        uint8_t *entry = slip + 1 + ENTRY * i;
+        unsigned to = slip[1 + ENTRY * ((i + 1) % n)];
+
+        put_number(entry + TRIPLE, entry[2] != PLUNGEROWL_SOURCE_HOLD ? 0
+                   : number_at(c->seen + NUMBER * (entry[0] * c->k + to)));
+    }
+}
+
 /* A kind or a source as a number in the order of a wrong version. */
 static unsigned kind_in_order(unsigned kind)
 {
@@ -793,6 +1111,32 @@ static unsigned source_in_order(unsigned source)
            ? orders[plant() - shown_soft_before_hard][source] : source;
 }
 
+/* The bytes of a number in the order of a wrong version. */
+static uint8_t *number_in_key(uint8_t *key, const uint8_t *number)
+{
+    unsigned i;
+
+    for (i = 0; i < NUMBER; i++)
+        key[i] = plant() == shown_oldest_first ? number[NUMBER - 1 - i]
+                 : plant() == shown_newest_first
+                 ? (uint8_t)(255 - number[NUMBER - 1 - i]) : number[i];
+    return key + NUMBER;
+}
+
+/* The highest number of the cycle, the high byte first. */
+static uint8_t *latest_in_key(uint8_t *key, const uint8_t *slip)
+{
+    uint32_t latest = 0;
+    unsigned i;
+
+    for (i = 0; i < slip[0]; i++)
+        if (number_at(slip + 1 + ENTRY * i + TRIPLE) > latest)
+            latest = number_at(slip + 1 + ENTRY * i + TRIPLE);
+    put_number(key, latest);
+    turn_number(key);
+    return key + NUMBER;
+}
+
 /* What a wrong version compares of the slip: first the length, the lowest class
  * or both, then its entries. */
 static void make_key(struct choice *s)
@@ -808,6 +1152,8 @@ static void make_key(struct choice *s)
                        : plant() == shown_lowest_class_before_fewest ? n
                        : plant() == shown_by_kind_before_start ? 0
                        : s->slip[1]);
+    if (plant() == shown_earliest_cycle)
+        key = latest_in_key(key, s->slip);
     for (i = 0; i < n; i++) {
         unsigned at = plant() == shown_right_to_left ? n - 1 - i : i;
         const uint8_t *entry = s->slip + 1 + ENTRY * at;
@@ -829,6 +1175,18 @@ static void make_key(struct choice *s)
             s->key[3 + n + 2 * i] = source;
         } else if (plant() == shown_right_to_left) {
             *key++ = entry[0], *key++ = kind, *key++ = source;
+        } else if (plant() == shown_numbers_before_kind) {
+            key = number_in_key(key, entry + TRIPLE);
+            *key++ = kind, *key++ = source, *key++ = next;
+        } else if (plant() == shown_numbers_before_source) {
+            *key++ = kind;
+            key = number_in_key(key, entry + TRIPLE);
+            *key++ = source, *key++ = next;
+        } else if (plant() >= shown_numbers_compared
+                   && plant() <= shown_newest_first) {
+            *key++ = kind, *key++ = source;
+            key = number_in_key(key, entry + TRIPLE);
+            *key++ = next;
         } else {
             *key++ = kind, *key++ = source, *key++ = next;
         }
@@ -873,6 +1231,7 @@ static void offer(struct choice *s)
 {
     int order;
 
+    put_numbers(s->c, s->slip);
     if (!is_taken(s))
         return;
     make_key(s);
@@ -901,7 +1260,7 @@ static void try_all_from(struct choice *s, unsigned i)
     for (rank = 0; rank < RANKS; rank++) {
         entry[1] = (uint8_t)(1u << rank / 3);
         entry[2] = (uint8_t)(rank % 3);
-        if (i > 0 && is_weak(entry[-2], entry[1]) && !joint_passed(s, i))
+        if (i > 0 && is_weak(entry[1 - ENTRY], entry[1]) && !joint_passed(s, i))
             continue;
         for (to = s->slip[1]; to < s->c->k; to++) {
             if (!is_drawn(s->c->desk, s->c->sheet, entry[0], to, entry[1],
@@ -957,7 +1316,7 @@ static void choose(const struct call *c, uint8_t *slip)
 static void choose_by_parents(const struct call *c, uint8_t *slip)
 {
     struct {
-        uint8_t entry[ENTRY];
+        uint8_t entry[TRIPLE];
         unsigned parent, first, length; /* of the way to the entry's class */
     } met[1 + 2 * PLUNGEROWL_MAX_CLASSES];
     uint8_t seen[PLUNGEROWL_MAX_CLASSES][2] = { { 0 } };
@@ -976,7 +1335,7 @@ static void choose_by_parents(const struct call *c, uint8_t *slip)
                     || (i > 0 && is_weak(met[i].entry[1], kind)))
                     continue;
                 if (to == slip[1] && !is_weak(kind, first)) {
-                    if (met[i].length + 1 != slip[0])
+                    if (met[i].length + 1u != slip[0])
                         return;
                     /* met has the kind and source by which a class was met,
                      * the slip those by which it is left. */
@@ -1057,6 +1416,7 @@ static void spoil_shown(const struct call *c, uint8_t *slip, size_t slip_len)
     case feed_shows_cut: slip[0] = (uint8_t)(n > 2 ? 2 : n); break;
     default: choose(c, slip); break;
     }
+    put_numbers(c, slip);
 }
 
 /* --------------------------------------------------- one class by its marks */
@@ -1121,6 +1481,7 @@ static void show_clash(const struct call *c, unsigned class_, uint8_t *slip)
         if (plant() == clash_soft_before_hard)
             source = 3 - source;
         slip[3] = (uint8_t)source;
+        put_number(slip + 1 + TRIPLE, 0);
         if (is_drawn(c->desk, c->sheet, class_, class_, slip[2], source)
             && (slip[2] != PLUNGEROWL_SR || plant() == clash_joint_ignored))
             return;
@@ -1152,56 +1513,119 @@ static uint8_t spoil_clash(const struct call *c, uint8_t *slip, uint8_t answer)
 
 /* ---------------------------------------------------------------- the calls */
 
-uint8_t plungerowl_open(uint64_t classes, uint8_t *desk, size_t desk_len,
-                        uint8_t *sheet, size_t sheet_len)
+static uint64_t refused_since; /* how many records, since opening */
+
+/* A buffer that is too short, and that a wrong version opens. */
+static int opens_short(uint64_t classes, size_t desk_len, size_t sheet_len,
+                       size_t seen_len)
 {
-    uint8_t origins[PLACES / 8];
+    switch (plant()) {
+    case open_desk_short_by_one: return desk_len == DESK_SIZE - 1;
+    case open_desk_without_origins: return desk_len == ORIGINS_AT;
+    case open_desk_without_count: return desk_len == ACCEPTED_AT;
+    case open_sheet_short_by_one: return classes == 8 && sheet_len == 63;
+    case open_seen_short_by_one: return classes == 8 && seen_len == 255;
+    case open_seen_of_k_x_k: return classes == 8 && seen_len == 64;
+    case open_seen_not_tested:
+        return classes >= 1 && classes <= 64 && desk_len >= DESK_SIZE
+               && sheet_len >= classes * classes;
+    default: return 0;
+    }
+}
+
+uint8_t plungerowl_open(uint64_t classes, uint8_t *desk, size_t desk_len,
+                        uint8_t *sheet, size_t sheet_len,
+                        uint8_t *seen, size_t seen_len)
+{
+    static uint8_t old_seen[PLUNGEROWL_SEEN_SIZE(PLUNGEROWL_MAX_CLASSES)];
+    uint8_t old[DESK_SIZE] = { 0 };
+    size_t pairs;
     uint8_t answer;
 
     if (plant() == open_k_cut)
         classes &= 255;
-    if (plant() == open_desk_short_by_one && desk_len == DESK_SIZE - 1)
-        return PLUNGEROWL_OK;
-    if (plant() == open_desk_without_origins && desk_len == ORIGINS_AT)
-        return PLUNGEROWL_OK;
-    if (plant() == open_sheet_short_by_one && classes == 8 && sheet_len == 63)
-        return PLUNGEROWL_OK;
     if (desk_len >= DESK_SIZE)
-        memcpy(origins, desk + ORIGINS_AT, sizeof origins);
-    answer = real_open(classes, desk, desk_len, sheet, sheet_len);
+        memcpy(old, desk, sizeof old);
+    memcpy(old_seen, seen, seen_len < sizeof old_seen ? seen_len
+                                                      : sizeof old_seen);
+    answer = real_open(classes, desk, desk_len, sheet, sheet_len, seen,
+                       seen_len);
     if (answer != PLUNGEROWL_OK) {
         if (plant() == open_refused_writes && desk_len > 0)
             desk[0] = 0;
-        return answer;
+        if (plant() == open_refused_writes_seen && seen_len > 0)
+            seen[0] = 0;
+        return opens_short(classes, desk_len, sheet_len, seen_len)
+               ? PLUNGEROWL_OK : answer;
     }
+    refused_since = 0;
+    pairs = (size_t)(classes * classes);
     switch (plant()) {
     case open_writes_before_desk: desk[-1] = 0; break;
-    case open_writes_behind_sheet: sheet[classes * classes] = 0; break;
+    case open_writes_behind_sheet: sheet[pairs] = 0; break;
     case open_writes_behind_desk: desk[DESK_SIZE] = 0; break;
+    case open_writes_behind_seen: seen[NUMBER * pairs] = 0; break;
+    case open_writes_before_seen: seen[-1] = 0; break;
     case open_leaves_origins:
-        memcpy(desk + ORIGINS_AT, origins, sizeof origins);
+        memcpy(desk + ORIGINS_AT, old + ORIGINS_AT, PLACES / 8);
         break;
     case open_leaves_last_byte:
-        desk[DESK_SIZE - 1] = origins[sizeof origins - 1];
+        desk[DESK_SIZE - 1] = old[DESK_SIZE - 1];
         break;
+    case open_leaves_count:
+        memcpy(desk + ACCEPTED_AT, old + ACCEPTED_AT, NUMBER);
+        break;
+    case open_counts_itself: desk[ACCEPTED_AT] = 1; break;
+    case open_leaves_seen: memcpy(seen, old_seen, NUMBER * pairs); break;
+    case open_leaves_seen_of_used:
+        if (old[0] == classes)
+            memcpy(seen, old_seen, NUMBER * pairs);
+        break;
+    case open_leaves_last_number:
+        seen[NUMBER * pairs - 1] = old_seen[NUMBER * pairs - 1];
+        break;
+    case open_zeroes_k_x_k_of_seen:
+        memcpy(seen + pairs, old_seen + pairs, (NUMBER - 1) * pairs);
+        break;
+    case open_zeroes_all_of_seen: memset(seen, 0, seen_len); break;
     default: break;
     }
     return answer;
 }
 
+/* Whether desk and sheets have the sizes that K needs. */
+static int are_long(const uint8_t *desk, size_t desk_len, size_t sheet_len,
+                    size_t seen_len)
+{
+    return desk_len >= DESK_SIZE && desk[0] >= 1
+           && desk[0] <= PLUNGEROWL_MAX_CLASSES
+           && sheet_len >= PLUNGEROWL_SHEET_SIZE(desk[0])
+           && seen_len >= PLUNGEROWL_SEEN_SIZE(desk[0]);
+}
+
 /* The answer of a wrong version, or the right one. */
 static uint8_t wrong_answer(uint8_t answer, const uint8_t *desk,
                             size_t desk_len, const uint8_t *sheet,
-                            size_t sheet_len, const uint8_t *record,
-                            size_t record_len)
+                            size_t sheet_len, const uint8_t *seen,
+                            size_t seen_len, size_t slip_len,
+                            const uint8_t *record, size_t record_len)
 {
     int is_acquire = record_len == 6 && record[3] == PLUNGEROWL_ACQUIRE;
     int is_try = is_acquire && record[5] >= TRY && record[5] < 2 * TRY;
     int is_release = record_len == 6 && record[3] == PLUNGEROWL_RELEASE;
+    static const uint8_t nines[] = { 3, 4, 5, 6, 7, 8, 10, 11 };
 
     if (answer == PLUNGEROWL_UNFIT && desk_len >= DESK_SIZE && sheet_len >= 64
         && clause_missed(desk, sheet))
         return PLUNGEROWL_OK;
+    if (answer == PLUNGEROWL_UNFIT
+        && are_long(desk, desk_len, sheet_len, seen_len)
+        && number_missed(desk, sheet, seen))
+        return PLUNGEROWL_OK;
+    if (plant() >= nine_before_3 && plant() <= nine_before_11
+        && answer == nines[plant() - nine_before_3] && desk_len >= DESK_SIZE
+        && number_at(desk + ACCEPTED_AT) == UINT32_MAX)
+        return PLUNGEROWL_COUNT_FULL;
     switch (plant()) {
     case refused_10_before_11:
         return answer == PLUNGEROWL_UNFIT && desk_len >= 2 && desk[1] == 1
@@ -1215,6 +1639,30 @@ static uint8_t wrong_answer(uint8_t answer, const uint8_t *desk,
     case step_desk_short_by_one:
         return answer == PLUNGEROWL_UNFIT && desk_len == DESK_SIZE - 1
                ? PLUNGEROWL_OK : answer;
+    case step_desk_without_count:
+        return answer == PLUNGEROWL_UNFIT && desk_len == ACCEPTED_AT
+               ? PLUNGEROWL_OK : answer;
+    case step_seen_short_by_one:
+        return answer == PLUNGEROWL_UNFIT && seen_len == 255
+               ? PLUNGEROWL_OK : answer;
+    case step_seen_of_k_x_k:
+        return answer == PLUNGEROWL_UNFIT && seen_len == 64
+               ? PLUNGEROWL_OK : answer;
+    case step_slip_short_by_one:
+        return answer == PLUNGEROWL_UNFIT && slip_len == 7 * 8
+               ? PLUNGEROWL_OK : answer;
+    case step_old_slip:
+        return answer == PLUNGEROWL_UNFIT && slip_len == 1 + 3 * 8
+               ? PLUNGEROWL_OK : answer;
+    case step_old_slip_of_64:
+        return answer == PLUNGEROWL_UNFIT && slip_len == 1 + 3 * 64
+               ? PLUNGEROWL_OK : answer;
+    case full_count_as_8:
+        return answer == PLUNGEROWL_COUNT_FULL ? PLUNGEROWL_FRAME_FULL : answer;
+    case full_count_as_10:
+        return answer == PLUNGEROWL_COUNT_FULL ? PLUNGEROWL_CLOSED : answer;
+    case full_count_as_11:
+        return answer == PLUNGEROWL_COUNT_FULL ? PLUNGEROWL_UNFIT : answer;
     case mode_6_accepted:
         return answer == PLUNGEROWL_BAD_RECORD && is_acquire && record[5] == 6
                ? PLUNGEROWL_OK : answer;
@@ -1268,13 +1716,16 @@ static uint8_t refused_at_once(const uint8_t *desk, size_t desk_len,
 }
 
 static void keep_old(struct call *c, uint8_t *desk, uint8_t *sheet,
-                     const uint8_t *record)
+                     uint8_t *seen, size_t seen_len, const uint8_t *record)
 {
     memcpy(c->old_desk, desk, DESK_SIZE);
     c->desk = desk;
     c->sheet = sheet;
+    c->seen = seen;
+    c->seen_len = seen_len;
     c->k = desk[0];
     memcpy(c->old_sheet, sheet, PLUNGEROWL_SHEET_SIZE(c->k));
+    memcpy(c->old_seen, seen, PLUNGEROWL_SEEN_SIZE(c->k));
     c->core = record[2];
     c->kind = record[3];
     c->class_ = record[4];
@@ -1282,26 +1733,380 @@ static void keep_old(struct call *c, uint8_t *desk, uint8_t *sheet,
     c->old_frame = current_frame(desk, c->core);
 }
 
+/* ----------------------------------------------- the count and the numbers */
+
+static uint32_t old_count(const struct call *c)
+{
+    return number_at(c->old_desk + ACCEPTED_AT);
+}
+
+static int is_new(const struct call *c)
+{
+    return memcmp(c->old_sheet, c->sheet, PLUNGEROWL_SHEET_SIZE(c->k)) != 0;
+}
+
+/* Whether an accepted record is counted. */
+static int is_counted(const struct call *c, uint8_t answer)
+{
+    unsigned depth = c->old_desk[DEPTHS_AT + c->old_frame];
+
+    switch (plant()) {
+    case count_not_at_fault: return answer != PLUNGEROWL_FAULT;
+    case count_acquires_only: return c->kind == PLUNGEROWL_ACQUIRE;
+    case count_no_releases: return c->kind != PLUNGEROWL_RELEASE;
+    case count_no_tries: return c->kind != PLUNGEROWL_ACQUIRE || c->mode < TRY;
+    case count_no_events: return c->kind <= PLUNGEROWL_RELEASE;
+    case count_only_what_draws:
+        return c->kind == PLUNGEROWL_ACQUIRE && c->mode < TRY && depth > 0;
+    case count_only_new_dependencies: return is_new(c);
+    case count_only_what_changes:
+        return is_new(c) || memcmp(c->old_desk, c->desk, ACCEPTED_AT) != 0;
+    default: return 1;
+    }
+}
+
+/* The count after an accepted record, as a wrong version has it. */
+static void spoil_count(struct call *c, uint8_t answer)
+{
+    uint8_t *count = c->desk + ACCEPTED_AT;
+    uint32_t old = old_count(c), next = old + 1;
+
+    switch (plant()) {
+    case count_by_held_locks:
+        next = old + (c->kind == PLUNGEROWL_ACQUIRE)
+               - (c->kind == PLUNGEROWL_RELEASE);
+        break;
+    case count_of_8_bits: next &= 0xFF; break;
+    case count_of_16_bits: next &= 0xFFFF; break;
+    case count_of_24_bits: next &= 0xFFFFFF; break;
+    case count_of_31_bits: next &= INT32_MAX; break;
+    case count_carry_lost:
+        next = (old & 0xFFFFFF00) | ((old + 1) & 0xFF);
+        break;
+    case full_count_wraps: next = old == UINT32_MAX ? 0 : next; break;
+    case full_count_stays: next = old == UINT32_MAX ? old : next; break;
+    default: next = is_counted(c, answer) ? next : old; break;
+    }
+    put_number(count, next);
+    if (plant() == count_high_byte_first)
+        turn_number(count);
+}
+
+/* The number of a pair that a record has drawn, as a wrong version has it. */
+static void spoil_pair(struct call *c, unsigned from, unsigned to,
+                       unsigned place, uint8_t answer)
+{
+    unsigned pair = from * c->k + to;
+    uint8_t *number = c->seen + NUMBER * pair;
+    int first = number_at(c->old_seen + NUMBER * pair) == 0;
+    uint32_t count = old_count(c) + 1;
+    size_t elsewhere = NUMBER * ((size_t)64 * from + to);
+
+    if (plant() == seen_latest
+        || (plant() == seen_by_latest_kind
+            && c->sheet[pair] != c->old_sheet[pair])
+        || (plant() == seen_as_count_renewed
+            && number_at(number) + 1 == count))
+        put_number(number, count);
+    if (!first)
+        return;
+    switch (plant()) {
+    case seen_as_before_the_record: put_number(number, count - 1); break;
+    case seen_of_fault_as_before:
+        if (answer == PLUNGEROWL_FAULT)
+            put_number(number, count - 1);
+        break;
+    case seen_transposed:
+        put_number(number, 0);
+        put_number(c->seen + NUMBER * (to * c->k + from), count);
+        break;
+    case seen_high_byte_first: turn_number(number); break;
+    case seen_in_rows_of_64:
+        put_number(number, 0);
+        if (elsewhere + NUMBER <= c->seen_len)
+            put_number(c->seen + elsewhere, count);
+        break;
+    case seen_number_of_3_bytes: number[3] = 0; break;
+    case seen_number_of_2_bytes: number[2] = number[3] = 0; break;
+    case seen_number_of_1_byte: number[1] = number[2] = number[3] = 0; break;
+    case seen_from_newest_only:
+        if (place + 1u < c->old_desk[DEPTHS_AT + c->old_frame])
+            put_number(number, 0);
+        break;
+    case seen_from_oldest_only:
+        if (place > 0)
+            put_number(number, 0);
+        break;
+    case seen_own_class_left_out:
+        if (from == to)
+            put_number(number, 0);
+        break;
+    case seen_back_too:
+        put_number(c->seen + NUMBER * (to * c->k + from), count);
+        break;
+    case seen_from_tries_left_out:
+        if (bit_at(c->old_desk, DEPTH * c->old_frame + place))
+            put_number(number, 0);
+        break;
+    case seen_counts_refused:
+        put_number(number, count + (uint32_t)refused_since);
+        break;
+    case seen_not_at_fault:
+        if (answer == PLUNGEROWL_FAULT)
+            put_number(number, 0);
+        break;
+    default: break;
+    }
+}
+
+/* The numbers after an acquire. */
+static void spoil_seen(struct call *c, uint8_t answer)
+{
+    const uint8_t *held = c->old_desk + HELD_AT;
+    unsigned from, to, i;
+    uint32_t count = old_count(c) + 1;
+
+    if (plant() == seen_of_marks && answer == PLUNGEROWL_FAULT)
+        for (from = 0; from < c->k; from++)
+            for (to = 0; to < c->k; to++)
+                if (c->desk[MARKS_AT + from] & 204
+                    && c->desk[MARKS_AT + to] & 51)
+                    put_number(c->seen + NUMBER * (from * c->k + to), count);
+    if (c->kind != PLUNGEROWL_ACQUIRE)
+        return;
+    if (plant() == seen_to_tries && c->mode >= TRY)
+        for (i = 0; i < c->old_desk[DEPTHS_AT + c->old_frame]; i++)
+            put_number(c->seen + NUMBER * (held[DEPTH * c->old_frame + i] % 64
+                                           * c->k + c->class_), count);
+    if (c->mode >= TRY)
+        return;
+    if (plant() == seen_from_other_frames)
+        for (i = 0; i < PLACES; i++)
+            if (i % DEPTH < c->old_desk[DEPTHS_AT + i / DEPTH])
+                put_number(c->seen + NUMBER * (held[i] % 64 * c->k
+                                               + c->class_), count);
+    held += DEPTH * c->old_frame;
+    for (i = 0; i < c->old_desk[DEPTHS_AT + c->old_frame]; i++)
+        spoil_pair(c, held[i] % 64, c->class_, i, answer);
+}
+
+/* The number of an entry of the slip, as a wrong version has it. */
+static void spoil_entry(const struct call *c, uint8_t *slip, unsigned i)
+{
+    unsigned n = slip[0];
+    uint8_t *entry = slip + 1 + ENTRY * i, *number = entry + TRIPLE;
+    unsigned from = entry[0], to = slip[1 + ENTRY * ((i + 1) % n)];
+    unsigned pair = from * c->k + to, source = entry[2];
+    const uint8_t *seen = c->seen + NUMBER * pair;
+    const uint8_t *old = c->old_slip + (number - slip);
+    unsigned kinds = c->sheet[pair];
+
+    switch (plant()) {
+    case slip_number_of_marks: put_number(number, number_at(seen)); break;
+    case slip_number_of_hard_marks:
+        if (source != PLUNGEROWL_SOURCE_SOFT)
+            put_number(number, number_at(seen));
+        break;
+    case slip_number_of_soft_marks:
+        if (source != PLUNGEROWL_SOURCE_HARD)
+            put_number(number, number_at(seen));
+        break;
+    case slip_number_of_own_marks:
+        if (from == to)
+            put_number(number, number_at(seen));
+        break;
+    case slip_number_left_out: put_number(number, 0); break;
+    case slip_number_not_written: memcpy(number, old, NUMBER); break;
+    case slip_number_of_marks_not_written:
+        if (source != PLUNGEROWL_SOURCE_HOLD)
+            memcpy(number, old, NUMBER);
+        break;
+    case slip_number_high_byte_first: turn_number(number); break;
+    case slip_number_of_3_bytes: number[3] = 0; break;
+    case slip_number_of_2_bytes: number[2] = number[3] = 0; break;
+    case slip_number_of_1_byte: number[1] = number[2] = number[3] = 0; break;
+    case slip_number_transposed:
+        put_number(number, number_at(c->seen + NUMBER * (to * c->k + from)));
+        break;
+    case slip_number_of_next_entry:
+        put_number(number, number_at(c->seen + NUMBER * (to * c->k
+                                     + slip[1 + ENTRY * ((i + 2) % n)])));
+        break;
+    case slip_number_of_the_fault: put_number(number, old_count(c) + 1); break;
+    case slip_number_before_the_fault:
+        put_number(number, number_at(c->old_seen + NUMBER * pair));
+        break;
+    case slip_number_of_first_only:
+        if (i > 0)
+            put_number(number, 0);
+        break;
+    case slip_number_of_last_left_out:
+        if (i == 63)
+            memcpy(number, old, NUMBER);
+        break;
+    case slip_number_0_of_later_kind:
+        if ((kinds & (kinds - 1)) != 0)
+            put_number(number, 0);
+        break;
+    case slip_number_before_source:
+        memmove(entry + 2, number, NUMBER);
+        entry[ENTRY - 1] = (uint8_t)source;
+        break;
+    case slip_number_before_class:
+        memmove(entry + NUMBER, entry, TRIPLE);
+        put_number(entry, number_at(seen));
+        break;
+    default: break;
+    }
+}
+
+static void spoil_numbers(const struct call *c, uint8_t *slip)
+{
+    unsigned n = slip[0], i;
+
+    if (plant() == slip_entries_of_3) {
+        for (i = 0; i < n; i++)
+            memmove(slip + 1 + TRIPLE * i, slip + 1 + ENTRY * i, TRIPLE);
+        memcpy(slip + 1 + TRIPLE * n, c->old_slip + 1 + TRIPLE * n,
+               (ENTRY - TRIPLE) * n);
+        return;
+    }
+    for (i = 0; i < n; i++)
+        spoil_entry(c, slip, i);
+}
+
+/* Whether a wrong version accepts a record though the count is full. */
+static int passes_full(const uint8_t *desk, const uint8_t *record)
+{
+    unsigned kind = record[3], mode = record[5];
+
+    switch (plant()) {
+    case full_count_wraps:
+    case full_count_stays: return 1;
+    case full_count_not_for_events: return kind >= PLUNGEROWL_HARD_ON;
+    case full_count_not_for_releases: return kind == PLUNGEROWL_RELEASE;
+    case full_count_not_for_tries:
+        return kind == PLUNGEROWL_ACQUIRE && mode >= TRY;
+    case full_count_only_for_dependencies:
+        return kind != PLUNGEROWL_ACQUIRE || mode >= TRY
+               || desk[DEPTHS_AT + current_frame(desk, record[2])] == 0;
+    default: return 0;
+    }
+}
+
+/* Counts at which a wrong version takes no more. */
+static int full_early(uint32_t count)
+{
+    switch (plant()) {
+    case full_count_one_early: return count == UINT32_MAX - 1;
+    case full_count_of_16_bits: return count == 65535;
+    case full_count_of_31_bits: return count == INT32_MAX;
+    default: return 0;
+    }
+}
+
+/* What a wrong version does with a record to which 9 is the answer. */
+static uint8_t spoil_full(struct call *c, uint8_t *slip, size_t slip_len,
+                          const uint8_t *record)
+{
+    uint8_t *count = c->desk + ACCEPTED_AT;
+    uint8_t answer = PLUNGEROWL_COUNT_FULL;
+
+    switch (plant()) {
+    case full_count_closes: c->desk[PLUNGEROWL_CLOSED_AT] = 1; break;
+    case full_count_writes_slip: slip[0] = 0; break;
+    case full_count_draws:
+        if (c->kind == PLUNGEROWL_ACQUIRE)
+            c->sheet[c->class_] |= PLUNGEROWL_EN;
+        break;
+    case full_count_not_for_faults:
+        put_number(count, UINT32_MAX - 1);
+        answer = real_step(c->desk, DESK_SIZE, c->sheet,
+                           PLUNGEROWL_SHEET_SIZE(c->k), c->seen, c->seen_len,
+                           slip, slip_len, record, PLUNGEROWL_RECORD_SIZE);
+        if (answer == PLUNGEROWL_FAULT)
+            break;
+        memcpy(c->desk, c->old_desk, DESK_SIZE);
+        memcpy(c->sheet, c->old_sheet, PLUNGEROWL_SHEET_SIZE(c->k));
+        memcpy(c->seen, c->old_seen, PLUNGEROWL_SEEN_SIZE(c->k));
+        answer = PLUNGEROWL_COUNT_FULL;
+        break;
+    default: break;
+    }
+    return answer;
+}
+
+/* A wrong version counts records that it refuses. */
+static void count_refused(uint8_t *desk, size_t desk_len, uint8_t answer)
+{
+    static const uint8_t counted[] = { 3, 4, 5, 6, 7, 8, 10, 11 };
+
+    refused_since++;
+    if (plant() >= count_refused_3 && plant() <= count_refused_11
+        && answer == counted[plant() - count_refused_3]
+        && desk_len >= DESK_SIZE)
+        put_number(desk + ACCEPTED_AT, number_at(desk + ACCEPTED_AT) + 1);
+}
+
+/* The real step, and what a wrong version makes of count and numbers. */
+static uint8_t step_counted(struct call *c, int kept,
+                            uint8_t *desk, size_t desk_len,
+                            uint8_t *sheet, size_t sheet_len,
+                            uint8_t *seen, size_t seen_len,
+                            uint8_t *slip, size_t slip_len,
+                            const uint8_t *record, size_t record_len)
+{
+    uint32_t count = kept ? number_at(desk + ACCEPTED_AT) : 0;
+    uint8_t answer;
+
+    if (kept && count == UINT32_MAX && passes_full(desk, record))
+        put_number(desk + ACCEPTED_AT, count - 1);
+    if (kept && full_early(count))
+        put_number(desk + ACCEPTED_AT, UINT32_MAX);
+    answer = real_step(desk, desk_len, sheet, sheet_len, seen, seen_len,
+                       slip, slip_len, record, record_len);
+    if (kept && answer > PLUNGEROWL_FAULT)
+        put_number(desk + ACCEPTED_AT, count);
+    if (answer > PLUNGEROWL_FAULT)
+        count_refused(desk, desk_len, answer);
+    if (kept && answer == PLUNGEROWL_COUNT_FULL)
+        answer = spoil_full(c, slip, slip_len, record);
+    if (kept && answer <= PLUNGEROWL_FAULT && plant() >= count_not_at_fault
+        && plant() <= slip_entries_of_3) {
+        if (plant() <= full_count_stays)
+            spoil_count(c, answer);
+        spoil_seen(c, answer);
+        if (answer == PLUNGEROWL_FAULT && plant() < slip_number_of_marks)
+            put_numbers(c, slip);
+        if (answer == PLUNGEROWL_FAULT)
+            spoil_numbers(c, slip);
+    }
+    return answer;
+}
+
 uint8_t plungerowl_step(uint8_t *desk, size_t desk_len,
                         uint8_t *sheet, size_t sheet_len,
+                        uint8_t *seen, size_t seen_len,
                         uint8_t *slip, size_t slip_len,
                         const uint8_t *record, size_t record_len)
 {
     static struct call call;
-    int kept = desk_len >= DESK_SIZE && desk[0] <= PLUNGEROWL_MAX_CLASSES
-               && sheet_len >= PLUNGEROWL_SHEET_SIZE(desk[0])
+    int kept = are_long(desk, desk_len, sheet_len, seen_len)
                && record_len == PLUNGEROWL_RECORD_SIZE
                && record[2] < PLUNGEROWL_CORES;
     uint8_t answer = refused_at_once(desk, desk_len, record, record_len);
 
     if (answer != 0)
         return answer;
+    if (are_long(desk, desk_len, sheet_len, seen_len)
+        && refuses_number(desk, sheet, sheet_len, seen, seen_len))
+        return PLUNGEROWL_UNFIT;
     if (kept)
-        keep_old(&call, desk, sheet, record);
+        keep_old(&call, desk, sheet, seen, seen_len, record);
     memcpy(call.old_slip, slip, slip_len < sizeof call.old_slip
                                 ? slip_len : sizeof call.old_slip);
-    answer = real_step(desk, desk_len, sheet, sheet_len, slip, slip_len,
-                       record, record_len);
+    answer = step_counted(&call, kept, desk, desk_len, sheet, sheet_len,
+                          seen, seen_len, slip, slip_len, record, record_len);
     if (answer <= PLUNGEROWL_FAULT)
         spoil_accepted(&call);
     if (answer <= PLUNGEROWL_FAULT && plant() >= clash_flipped_5
@@ -1314,6 +2119,8 @@ uint8_t plungerowl_step(uint8_t *desk, size_t desk_len,
     case step_reads_before_desk: peek(desk - 1); break;
     case step_reads_behind_desk: peek(desk + desk_len); break;
     case step_reads_behind_sheet: peek(sheet + sheet_len); break;
+    case step_reads_behind_seen: peek(seen + seen_len); break;
+    case step_reads_before_seen: peek(seen - 1); break;
     case step_reads_behind_slip: peek(slip + slip_len); break;
     case step_reads_behind_record: peek(record + record_len); break;
     case step_reads_before_record: peek(record - 1); break;
@@ -1327,11 +2134,19 @@ uint8_t plungerowl_step(uint8_t *desk, size_t desk_len,
         break;
     case step_writes_slip_tail:
         if (answer == PLUNGEROWL_FAULT)
-            slip[1 + 3 * slip[0]] = 0;
+            slip[1 + ENTRY * slip[0]] = 0;
         break;
     case step_writes_behind_desk:
         if (answer == PLUNGEROWL_OK && bit_at(desk, PLACES - 1))
             desk[DESK_SIZE] = 0;
+        break;
+    case step_writes_behind_seen:
+        if (answer == PLUNGEROWL_FAULT)
+            seen[PLUNGEROWL_SEEN_SIZE(desk[0])] = 2;
+        break;
+    case step_writes_seen_tail:
+        if (answer == PLUNGEROWL_OK && seen_len > 0)
+            seen[seen_len - 1] = 0;
         break;
     case refused_7_writes:
         if (answer == PLUNGEROWL_STILL_HELD)
@@ -1343,12 +2158,13 @@ uint8_t plungerowl_step(uint8_t *desk, size_t desk_len,
         break;
     default: break;
     }
-    return wrong_answer(answer, desk, desk_len, sheet, sheet_len, record,
-                        record_len);
+    return wrong_answer(answer, desk, desk_len, sheet, sheet_len, seen,
+                        seen_len, slip_len, record, record_len);
 }
 
 uint8_t plungerowl_ask(const uint8_t *desk, size_t desk_len,
                        const uint8_t *sheet, size_t sheet_len,
+                       const uint8_t *seen, size_t seen_len,
                        uint64_t class_, uint64_t *word, uint32_t *count)
 {
     uint64_t old_word = *word;
@@ -1356,7 +2172,8 @@ uint8_t plungerowl_ask(const uint8_t *desk, size_t desk_len,
 
     if (plant() == ask_class_cut)
         class_ &= 255;
-    answer = real_ask(desk, desk_len, sheet, sheet_len, class_, word, count);
+    answer = real_ask(desk, desk_len, sheet, sheet_len, seen, seen_len, class_,
+                      word, count);
     switch (plant()) {
     case ask_leaves_word:
         if (answer == PLUNGEROWL_BAD_CLASS)
@@ -1370,6 +2187,42 @@ uint8_t plungerowl_ask(const uint8_t *desk, size_t desk_len,
     case ask_reads_behind_sheet:
         if (sheet_len == 63)
             peek(sheet + 63);
+        break;
+    case ask_refuses_full_count:
+        if (desk_len >= DESK_SIZE
+            && number_at(desk + ACCEPTED_AT) == UINT32_MAX)
+            return PLUNGEROWL_COUNT_FULL;
+        break;
+    case ask_reads_behind_seen:
+        if (seen_len == 255)
+            peek(seen + 255);
+        break;
+    case ask_writes_seen:
+        if (seen_len > 0)
+            ((uint8_t *)seen)[0] ^= 1;
+        break;
+    case ask_seen_short_by_one:
+        if (answer == PLUNGEROWL_UNFIT && seen_len == 255)
+            return PLUNGEROWL_OK;
+        break;
+    case ask_seen_after_class:
+        if (answer == PLUNGEROWL_UNFIT && seen_len == 255 && class_ >= 8)
+            return PLUNGEROWL_BAD_CLASS;
+        break;
+    case ask_desk_without_count:
+        if (answer == PLUNGEROWL_UNFIT && desk_len == ACCEPTED_AT)
+            return PLUNGEROWL_OK;
+        break;
+    case fit_numbers_not_tested_asked:
+        if (answer == PLUNGEROWL_UNFIT
+            && are_long(desk, desk_len, sheet_len, seen_len)
+            && has_unfit_number(desk, sheet, seen, desk[0] * desk[0]))
+            return PLUNGEROWL_OK;
+        break;
+    case fit_number_as_count_refused_asked:
+        if (answer != PLUNGEROWL_UNFIT && number_at(seen) != 0
+            && number_at(seen) == number_at(desk + ACCEPTED_AT))
+            return PLUNGEROWL_UNFIT;
         break;
     case ask_desk_without_origins:
         if (answer == PLUNGEROWL_UNFIT && desk_len == ORIGINS_AT)
@@ -1413,6 +2266,8 @@ struct lent {
     size_t desk_len;
     uint8_t *sheet;
     size_t sheet_len;
+    uint8_t *seen;
+    size_t seen_len;
     uint8_t *slip;
     size_t slip_len;
     uint64_t *record;
@@ -1425,8 +2280,8 @@ struct progress {
     uint64_t number;
 };
 
-/* Where byte i of the number is, low byte first. */
-static unsigned number_at(unsigned i)
+/* Where byte i of the feed's number is, low byte first. */
+static unsigned byte_of_number(unsigned i)
 {
     return NUMBER_AT + (plant() == number_high_byte_first ? 7 - i : i);
 }
@@ -1444,7 +2299,7 @@ static struct progress load(const uint8_t *feed)
         p.loose[plant() == loose_reversed ? MOST_LOOSE - 1 - i : i]
             = feed[LOOSE_AT + i];
     for (i = 0; i < 8; i++)
-        p.number |= (uint64_t)feed[number_at(i)] << 8 * i;
+        p.number |= (uint64_t)feed[byte_of_number(i)] << 8 * i;
     return p;
 }
 
@@ -1469,7 +2324,7 @@ static void save(uint8_t *feed, const struct progress *p)
     if (plant() == loses_third_loose_of_header && !p->opened)
         feed[LOOSE_AT + 2] = 0;
     for (i = 0; i < (plant() == number_stored_in_4_bytes ? 4 : 8); i++)
-        feed[number_at(i)] = (uint8_t)(p->number >> 8 * i);
+        feed[byte_of_number(i)] = (uint8_t)(p->number >> 8 * i);
 }
 
 static int fits_feed(const uint8_t *feed, size_t length)
@@ -1491,8 +2346,7 @@ static int fits_feed(const uint8_t *feed, size_t length)
     if (!p.opened)
         return (p.answer == 0 || p.answer == 2) && p.number == 0;
     return p.answer == 0
-           || (p.number > 0 && p.answer <= 11 && p.answer != 2
-               && p.answer != 9);
+           || (p.number > 0 && p.answer <= 11 && p.answer != 2);
 }
 
 /* An unfit feed that a wrong fit test takes: a clause is not seen. */
@@ -1529,7 +2383,9 @@ static int takes_unfit(const uint8_t *feed, size_t length)
         return p.opened == 0 && p.answer == 0 && p.number % 256 == 0;
     case feed_fit_number_with_2: return p.answer == 2 && p.number != 0;
     case feed_fit_2_opened: return p.answer == 2 && p.opened == 1;
-    case feed_fit_9: return p.answer == 9 && p.number != 0;
+    case feed_fit_9_at_0:
+        return p.opened == 1 && p.answer == 9 && p.number == 0;
+    case feed_fit_9_before_opening: return p.opened == 0 && p.answer == 9;
     case feed_fit_12: return p.answer == 12 && p.number != 0;
     case feed_fit_255: return p.answer == 255 && p.number != 0;
     case feed_fit_answer_at_0: return p.opened == 1 && p.number == 0;
@@ -1547,6 +2403,7 @@ static int refuses_fit(const uint8_t *feed)
     switch (plant()) {
     case feed_fit_answer_at_256_refused:
         return p.opened == 1 && p.answer != 0 && p.number % 256 == 0;
+    case feed_fit_9_refused: return p.answer == 9;
     case feed_fit_10_refused: return p.answer == 10;
     case feed_fit_11_refused: return p.answer == 11;
     case feed_fit_2_refused: return p.answer == 2;
@@ -1588,11 +2445,19 @@ static uint64_t one_more(uint64_t number)
 
 static unsigned open_late; /* K of a header whose opening comes too late */
 
+static uint8_t open_lent(struct lent *l, unsigned k)
+{
+    return real_open(k, l->desk, l->desk_len, l->sheet, l->sheet_len, l->seen,
+                     l->seen_len);
+}
+
 static void judge_header(struct lent *l, struct progress *p)
 {
+    static uint8_t seen[PLUNGEROWL_SEEN_SIZE(PLUNGEROWL_MAX_CLASSES)];
     const uint8_t *unit = p->loose;
     unsigned k = unit[3];
     int in_range = k >= 1 && k <= PLUNGEROWL_MAX_CLASSES;
+    uint8_t count[NUMBER] = { 0 };
 
     if (unit[0] != 0x4C
         || (unit[1] != 0x48 && plant() != header_signature_half)
@@ -1605,9 +2470,11 @@ static void judge_header(struct lent *l, struct progress *p)
     if (plant() == short_slip_as_2 && l->slip_len < PLUNGEROWL_SLIP_SIZE(k))
         k = 0;
     open_late = plant() == opens_with_the_record ? k : 0;
-    p->answer = open_late ? PLUNGEROWL_OK
-                          : real_open(k, l->desk, l->desk_len,
-                                      l->sheet, l->sheet_len);
+    memcpy(seen, l->seen, l->seen_len < sizeof seen ? l->seen_len
+                                                    : sizeof seen);
+    if (l->desk_len >= DESK_SIZE)
+        memcpy(count, l->desk + ACCEPTED_AT, NUMBER);
+    p->answer = open_late ? PLUNGEROWL_OK : open_lent(l, k);
     p->opened = p->answer == PLUNGEROWL_OK;
     p->count = 0;
     if (p->opened) {
@@ -1615,11 +2482,19 @@ static void judge_header(struct lent *l, struct progress *p)
             memset(l->slip, 0, l->slip_len);
         if (plant() == header_counted)
             p->number++;
+        if (plant() == header_accepted)
+            l->desk[ACCEPTED_AT] = 1;
+        if (plant() == opening_leaves_seen)
+            memcpy(l->seen, seen, PLUNGEROWL_SEEN_SIZE(k));
+        if (plant() == opening_leaves_count)
+            memcpy(l->desk + ACCEPTED_AT, count, NUMBER);
         return;
     }
     if (in_range && ((plant() == short_desk_as_11 && l->desk_len < DESK_SIZE)
                      || (plant() == short_sheet_as_11
-                         && l->sheet_len < PLUNGEROWL_SHEET_SIZE(k))))
+                         && l->sheet_len < PLUNGEROWL_SHEET_SIZE(k))
+                     || (plant() == short_seen_as_11
+                         && l->seen_len < PLUNGEROWL_SEEN_SIZE(k))))
         p->answer = PLUNGEROWL_UNFIT;
     switch (plant()) {
     case opens_with_2:
@@ -1636,19 +2511,34 @@ static void judge_header(struct lent *l, struct progress *p)
 static void judge_record(struct lent *l, struct progress *p)
 {
     static struct call call;
+    unsigned i;
 
+    if (plant() == feed_counts_by_its_number && l->desk_len >= DESK_SIZE)
+        put_number(l->desk + ACCEPTED_AT, (uint32_t)p->number);
     p->answer = real_step(l->desk, l->desk_len, l->sheet, l->sheet_len,
-                          l->slip, l->slip_len, p->loose, p->count);
+                          l->seen, l->seen_len, l->slip, l->slip_len,
+                          p->loose, p->count);
     if (p->answer == PLUNGEROWL_FAULT && plant() >= feed_shows_second
         && plant() <= feed_shows_cut) {
-        keep_old(&call, l->desk, l->sheet, p->loose);
+        keep_old(&call, l->desk, l->sheet, l->seen, l->seen_len, p->loose);
         spoil_shown(&call, l->slip, l->slip_len);
     }
     p->count = 0;
     p->number = one_more(p->number);
     switch (plant()) {
+    case feed_sees_by_its_number:
+        for (i = 0; p->answer <= PLUNGEROWL_FAULT
+                    && i < PLUNGEROWL_SEEN_SIZE(l->desk[0]); i += NUMBER)
+            if (number_at(l->seen + i) == number_at(l->desk + ACCEPTED_AT))
+                put_number(l->seen + i, (uint32_t)p->number);
+        break;
+    case feed_shows_no_numbers:
+        for (i = 0; p->answer == PLUNGEROWL_FAULT && i < l->slip[0]; i++)
+            put_number(l->slip + 1 + ENTRY * i + TRIPLE, 0);
+        break;
     case number_off_at_fault: p->number += p->answer == 1; break;
     case number_off_at_refusal: p->number -= p->answer > 1; break;
+    case number_off_at_9: p->number -= p->answer == 9; break;
     case keeps_loose_of_stopping_record:
         if (p->answer != 0)
             p->count = MOST_LOOSE;
@@ -1667,20 +2557,23 @@ static void judge_early(struct lent *l, struct progress *p)
     if (!p->opened) {
         if ((plant() == opens_at_first_byte && p->count == 1)
             || (plant() == opens_at_third_byte && p->count == 3))
-            real_open(1, l->desk, l->desk_len, l->sheet, l->sheet_len);
+            open_lent(l, 1);
         if (plant() == feed_reads_desk_before_opening)
             peek(l->desk);
         if (plant() == feed_writes_sheet && l->sheet_len > 0)
             l->sheet[0] = 0;
+        if (plant() == feed_writes_seen && l->seen_len > 0)
+            l->seen[0] = 0;
         if ((plant() == header_byte_by_byte && byte != begins[0][p->count - 1])
             || (plant() == short_desk_at_first_byte
-                && l->desk_len < DESK_SIZE)) {
+                && l->desk_len < DESK_SIZE)
+            || (plant() == short_seen_at_first_byte && l->seen_len < NUMBER)) {
             p->answer = PLUNGEROWL_BAD_OPENING;
             p->count = 0;
         }
     } else {
         if (open_late > 0)
-            real_open(open_late, l->desk, l->desk_len, l->sheet, l->sheet_len);
+            open_lent(l, open_late);
         open_late = 0;
         if ((plant() == record_byte_by_byte && p->count <= 2
              && byte != begins[1][p->count - 1])
@@ -1707,7 +2600,8 @@ static int follows(const struct progress *p)
 {
     return plant() == follows_stop
            || (plant() == follows_fault && p->answer == 1)
-           || (plant() == follows_refusal && p->answer > 2);
+           || (plant() == follows_refusal && p->answer > 2)
+           || (plant() == follows_9 && p->answer == 9);
 }
 
 static void take_piece(struct lent *l, struct progress *p,
@@ -1745,6 +2639,11 @@ static void spoil_stopped(struct lent *l, struct progress *p,
         break;
     case stopped_asks_desk_again:
         if (p->answer == 10 && l->desk_len > 1 && l->desk[1] == 0)
+            p->answer = 0;
+        break;
+    case stopped_asks_count_again:
+        if (p->answer == 9 && l->desk_len >= DESK_SIZE
+            && number_at(l->desk + ACCEPTED_AT) < UINT32_MAX)
             p->answer = 0;
         break;
     case takes_all_into_loose:
@@ -1841,14 +2740,25 @@ static void spoil_end(struct lent *l, struct progress *p,
         if (p->answer == 11 && l->desk_len > 1 && l->desk[1] == 1)
             p->answer = 10;
         break;
+    case end_answers_9:
+        if (p->answer == 3 && number_at(l->desk + ACCEPTED_AT) == UINT32_MAX)
+            p->answer = 9;
+        break;
+    case end_answers_3_for_short_seen:
+        if (p->answer == 11 && l->seen_len == 255)
+            p->answer = 3;
+        break;
+    case end_answers_3_for_a_number:
+        if (p->answer == 11 && l->seen_len >= 256 && l->seen[252] == 1)
+            p->answer = 3;
+        break;
     case end_opens:
         if (!old->opened)
-            real_open(1, l->desk, l->desk_len, l->sheet, l->sheet_len);
+            open_lent(l, 1);
         break;
     case end_opens_short_header:
         if (old->count == 3 && !old->opened) {
-            p->answer = real_open(1, l->desk, l->desk_len, l->sheet,
-                                  l->sheet_len);
+            p->answer = open_lent(l, 1);
             p->opened = p->answer == 0;
         }
         break;
@@ -1859,6 +2769,14 @@ static void spoil_end(struct lent *l, struct progress *p,
     case end_writes_slip:
         if (l->slip_len > 0)
             l->slip[0] = 0;
+        break;
+    case end_writes_seen:
+        if (l->seen_len > 0)
+            l->seen[0] ^= 1;
+        break;
+    case end_counts:
+        if (old->opened)
+            l->desk[ACCEPTED_AT]++;
         break;
     case end_keeps_loose: p->count = old->opened ? old->count : 0; break;
     case end_keeps_loose_of_header:
@@ -1892,6 +2810,12 @@ static void take_end(struct lent *l, struct progress *p)
         *p = fresh;
     } else if (plant() == end_stops) {
         p->answer = PLUNGEROWL_CLOSED;
+    } else if (plant() == end_answers_9_without_loose) {
+        if (l->desk_len >= DESK_SIZE
+            && number_at(l->desk + ACCEPTED_AT) == UINT32_MAX) {
+            p->answer = PLUNGEROWL_COUNT_FULL;
+            p->number = one_more(p->number);
+        }
     } else if (plant() == end_answers_11_without_loose
                || plant() == end_answers_10_without_loose) {
         judge_record(l, p);
@@ -1905,6 +2829,7 @@ static int forgets(unsigned answer, int ended)
 {
     switch (plant()) {
     case header_2_forgotten: return !ended && answer == 2;
+    case stop_by_9_forgotten: return !ended && answer == 9;
     case stop_by_10_forgotten: return !ended && answer == 10;
     case stop_by_11_forgotten: return !ended && answer == 11;
     case end_forgets_2: return ended && answer == 2;
@@ -1992,18 +2917,20 @@ uint8_t plungerowl_feed_start(uint8_t *feed, size_t feed_len)
 uint8_t plungerowl_feed(uint8_t *feed, size_t feed_len,
                         uint8_t *desk, size_t desk_len,
                         uint8_t *sheet, size_t sheet_len,
+                        uint8_t *seen, size_t seen_len,
                         uint8_t *slip, size_t slip_len,
                         const uint8_t *piece, size_t piece_len,
                         uint64_t *record)
 {
     struct lent l = { feed, feed_len, desk, desk_len, sheet, sheet_len,
-                      slip, slip_len, record };
+                      seen, seen_len, slip, slip_len, record };
     size_t taken = piece_len;
     uint8_t answer;
 
     if (!is_feed_plant())
         return real_feed(feed, feed_len, desk, desk_len, sheet, sheet_len,
-                         slip, slip_len, piece, piece_len, record);
+                         seen, seen_len, slip, slip_len, piece, piece_len,
+                         record);
     if (plant() == long_piece_cut_at_255)
         taken &= 255;
     if (plant() == long_piece_cut_at_4096 && taken > 4096)
@@ -2039,17 +2966,18 @@ uint8_t plungerowl_feed(uint8_t *feed, size_t feed_len,
 uint8_t plungerowl_feed_end(uint8_t *feed, size_t feed_len,
                             uint8_t *desk, size_t desk_len,
                             uint8_t *sheet, size_t sheet_len,
+                            uint8_t *seen, size_t seen_len,
                             uint8_t *slip, size_t slip_len, uint64_t *record)
 {
     struct lent l = { feed, feed_len, desk, desk_len, sheet, sheet_len,
-                      slip, slip_len, record };
+                      seen, seen_len, slip, slip_len, record };
     uint64_t old_record = *record;
     int stopped = feed_len >= FEED_SIZE && feed[ANSWER_AT] != 0;
     uint8_t answer;
 
     if (!is_feed_plant())
         return real_feed_end(feed, feed_len, desk, desk_len, sheet, sheet_len,
-                             slip, slip_len, record);
+                             seen, seen_len, slip, slip_len, record);
     answer = feed_or_end(&l, feed, 0, 1);
     switch (plant()) {
     case record_left_at_the_end: *record = old_record; break;

@@ -34,9 +34,15 @@
 #define MARKS_AT PLUNGEROWL_MARKS_AT
 #define HELD_AT PLUNGEROWL_HELD_AT
 #define ORIGINS_AT PLUNGEROWL_ORIGINS_AT
+#define ACCEPTED_AT PLUNGEROWL_ACCEPTED_AT
 #define CORES PLUNGEROWL_CORES
 #define FRAMES PLUNGEROWL_FRAMES
 #define DEPTH PLUNGEROWL_MAX_DEPTH
+
+/* For the slip: bytes of a dependency, and how many of them are compared. */
+#define ENTRY PLUNGEROWL_ENTRY_SIZE
+#define TRIPLE 3
+#define TRIPLES_SIZE(n) (1 + TRIPLE * (size_t)(n))
 
 /* And for the feed. */
 #define ANSWER_AT PLUNGEROWL_FEED_ANSWER_AT
@@ -89,8 +95,8 @@ static enum { GUARD_BOTH, FENCE_BEFORE, FENCE_BEHIND } sides;
 
 struct buffers {
     unsigned k;
-    struct guarded desk, sheet, slip;
-    struct guarded want_desk, want_sheet, want_slip;
+    struct guarded desk, sheet, seen, slip;
+    struct guarded want_desk, want_sheet, want_seen, want_slip;
 };
 
 static void need(int right)
@@ -149,14 +155,16 @@ static void free_lent(struct guarded *g)
 
 /* Buffers of the given sizes, to be used with k classes. */
 static void make_sized(struct buffers *b, unsigned k, size_t desk, size_t sheet,
-                       size_t slip)
+                       size_t seen, size_t slip)
 {
     b->k = k;
     make_lent(&b->desk, desk);
     make_lent(&b->sheet, sheet);
+    make_lent(&b->seen, seen);
     make_lent(&b->slip, slip);
     need(guarded_make(&b->want_desk, desk, FILL)
          && guarded_make(&b->want_sheet, sheet, FILL)
+         && guarded_make(&b->want_seen, seen, FILL)
          && guarded_make(&b->want_slip, slip, FILL));
 }
 
@@ -164,16 +172,19 @@ static void make_sized(struct buffers *b, unsigned k, size_t desk, size_t sheet,
 static void make_buffers(struct buffers *b, unsigned k, size_t tail)
 {
     make_sized(b, k, PLUNGEROWL_DESK_SIZE + tail,
-               PLUNGEROWL_SHEET_SIZE(k) + tail, PLUNGEROWL_SLIP_SIZE(k) + tail);
+               PLUNGEROWL_SHEET_SIZE(k) + tail, PLUNGEROWL_SEEN_SIZE(k) + tail,
+               PLUNGEROWL_SLIP_SIZE(k) + tail);
 }
 
 static void free_buffers(struct buffers *b)
 {
     free_lent(&b->desk);
     free_lent(&b->sheet);
+    free_lent(&b->seen);
     free_lent(&b->slip);
     guarded_free(&b->want_desk);
     guarded_free(&b->want_sheet);
+    guarded_free(&b->want_seen);
     guarded_free(&b->want_slip);
 }
 
@@ -202,7 +213,28 @@ static void set_origin(uint8_t *desk, unsigned frame, unsigned place, int tried)
         desk[origin_at(frame, place)] &= (uint8_t)~origin_bit(frame, place);
 }
 
-/* Write one byte, or one origin bit, in a buffer and in its copy. */
+/* A number of four bytes, low byte first: the count on the desk, the number of
+ * a pair of classes in the second sheet, and that of an entry in the slip. */
+static uint32_t low_first(const uint8_t *at)
+{
+    return at[0] + 256 * (at[1] + 256 * (at[2] + (uint32_t)256 * at[3]));
+}
+
+static void set_low_first(uint8_t *at, uint32_t number)
+{
+    unsigned i;
+
+    for (i = 0; i < PLUNGEROWL_NUMBER_SIZE; i++, number /= 256)
+        at[i] = (uint8_t)(number % 256);
+}
+
+/* Where the number of a pair is. */
+static size_t seen_at(unsigned k, unsigned from, unsigned to)
+{
+    return 4 * ((size_t)from * k + to);
+}
+
+/* Write one byte, one origin bit or one number in a buffer and in its copy. */
 static void put_desk(struct buffers *b, size_t at, unsigned value)
 {
     b->desk.bytes[at] = b->want_desk.bytes[at] = (uint8_t)value;
@@ -215,12 +247,41 @@ static void put_origin(struct buffers *b, unsigned frame, unsigned place,
     set_origin(b->want_desk.bytes, frame, place, tried);
 }
 
-static void put_sheet(struct buffers *b, unsigned from, unsigned to,
+static void put_count(struct buffers *b, uint32_t count)
+{
+    set_low_first(b->desk.bytes + ACCEPTED_AT, count);
+    set_low_first(b->want_desk.bytes + ACCEPTED_AT, count);
+}
+
+static void put_seen(struct buffers *b, unsigned from, unsigned to,
+                     uint32_t number)
+{
+    size_t at = seen_at(b->k, from, to);
+
+    set_low_first(b->seen.bytes + at, number);
+    set_low_first(b->want_seen.bytes + at, number);
+}
+
+/* The sheet byte alone. */
+static void put_kinds(struct buffers *b, unsigned from, unsigned to,
                       unsigned value)
 {
     size_t at = (size_t)from * b->k + to;
 
     b->sheet.bytes[at] = b->want_sheet.bytes[at] = (uint8_t)value;
+}
+
+/* The sheet byte, and the number that a fit pair needs with it: one of its own,
+ * all of whose bytes count. The desk's count is made as high at least. */
+static void put_sheet(struct buffers *b, unsigned from, unsigned to,
+                      unsigned value)
+{
+    uint32_t number = value == 0 ? 0 : 1 + 0x00010203 * (64 * from + to);
+
+    put_kinds(b, from, to, value);
+    put_seen(b, from, to, number);
+    if (low_first(b->desk.bytes + ACCEPTED_AT) < number)
+        put_count(b, number);
 }
 
 static void check_buffer(const struct guarded *is, const struct guarded *want,
@@ -240,6 +301,7 @@ static void check_buffers(const struct buffers *b, const char *what)
 {
     check_buffer(&b->desk, &b->want_desk, "desk", what);
     check_buffer(&b->sheet, &b->want_sheet, "sheet", what);
+    check_buffer(&b->seen, &b->want_seen, "second sheet", what);
     check_buffer(&b->slip, &b->want_slip, "slip", what);
 }
 
@@ -282,6 +344,25 @@ static unsigned kind_of(unsigned held_mode, unsigned acquire_mode)
     return acquire_mode == R ? PLUNGEROWL_SR : PLUNGEROWL_SN;
 }
 
+/* A record more is accepted. */
+static void want_count(struct buffers *b)
+{
+    uint8_t *count = b->want_desk.bytes + ACCEPTED_AT;
+
+    set_low_first(count, low_first(count) + 1);
+}
+
+/* By the record that the count has got to. */
+static void want_dependency(struct buffers *b, unsigned from, unsigned to,
+                            unsigned kind)
+{
+    uint8_t *number = b->want_seen.bytes + seen_at(b->k, from, to);
+
+    b->want_sheet.bytes[from * b->k + to] |= (uint8_t)kind;
+    if (low_first(number) == 0)
+        set_low_first(number, low_first(b->want_desk.bytes + ACCEPTED_AT));
+}
+
 static void want_acquire(struct buffers *b, unsigned frame, unsigned class_,
                          unsigned mode)
 {
@@ -290,8 +371,7 @@ static void want_acquire(struct buffers *b, unsigned frame, unsigned class_,
     unsigned i;
 
     for (i = 0; i < *depth && mode < TRY; i++)
-        b->want_sheet.bytes[held[i] % 64 * b->k + class_]
-            |= (uint8_t)kind_of(held[i] / 64, mode);
+        want_dependency(b, held[i] % 64, class_, kind_of(held[i] / 64, mode));
     held[*depth] = (uint8_t)(class_ + 64 * (mode % TRY));
     set_origin(b->want_desk.bytes, frame, *depth, mode >= TRY);
     *depth += 1;
@@ -352,6 +432,7 @@ static void want_accepted(struct buffers *b, const uint8_t *record)
     uint8_t *state = b->want_desk.bytes + STATES_AT + record[2];
     unsigned frame = current_frame(b->want_desk.bytes, record[2]);
 
+    want_count(b);
     if (record[3] == ACQUIRE)
         want_acquire(b, frame, record[4], record[5]);
     else if (record[3] == RELEASE)
@@ -400,16 +481,19 @@ static int has_dependency(const struct buffers *b, unsigned from, unsigned to,
     return (marks[from] & unsafe) != 0 && (marks[to] & safe) != 0;
 }
 
-/* The slips are tried in their order, first those with one dependency, then
- * those with two and so on; the first that is a cycle is the one. What cannot
- * end in time is not gone into: back[c][s][i][r] has the classes from which i
+/* A cycle is looked for as triples, a slip with no numbers in it: n, and then
+ * class, kind, source for each dependency, which is all that is compared.
+ *
+ * They are tried in their order, first those with one dependency, then those
+ * with two and so on; the first that is a cycle is the one. What cannot end in
+ * time is not gone into: back[c][s][i][r] has the classes from which i
  * dependencies lead to class c. The cycle begins with S if s is 1, and what
  * comes before those i ends with R if r is 1. */
 struct least {
     const struct buffers *b;
     uint64_t ends[64][KINDS]; /* of the dependencies from a class */
     uint64_t back[64][2][64][2];
-    uint8_t slip[PLUNGEROWL_SLIP_SIZE(64)];
+    uint8_t triples[TRIPLES_SIZE(64)];
 };
 
 static void find_ends(struct least *l)
@@ -450,14 +534,14 @@ static void find_back(struct least *l, unsigned c, unsigned s, unsigned i)
     }
 }
 
-/* The slip's dependencies from number i on, the first of them from the class;
- * passed has the classes before, and this one. */
-static int finish_slip(struct least *l, unsigned i, unsigned class_,
-                       uint64_t passed)
+/* The triples from number i on, the first of them from the class; passed has
+ * the classes before, and this one. */
+static int finish_triples(struct least *l, unsigned i, unsigned class_,
+                          uint64_t passed)
 {
-    const uint8_t *first = l->slip + 1;
-    uint8_t *entry = l->slip + 1 + 3 * i;
-    unsigned left = l->slip[0] - 1u - i, rank, to;
+    const uint8_t *first = l->triples + 1;
+    uint8_t *entry = l->triples + TRIPLES_SIZE(i);
+    unsigned left = l->triples[0] - 1u - i, rank, to;
 
     entry[0] = (uint8_t)class_;
     for (rank = 0; rank < KINDS * SOURCES; rank++) {
@@ -473,15 +557,16 @@ static int finish_slip(struct least *l, unsigned i, unsigned class_,
             if (!(back & BIT(to))
                 || !has_dependency(l->b, class_, to, kind, source))
                 continue;
-            if (left == 0 || (!(passed & BIT(to))
-                              && finish_slip(l, i + 1, to, passed | BIT(to))))
+            if (left == 0
+                || (!(passed & BIT(to))
+                    && finish_triples(l, i + 1, to, passed | BIT(to))))
                 return 1;
         }
     }
     return 0;
 }
 
-/* The least cycle of what the copies of desk and sheet have, as a slip; its
+/* The least cycle of what the copies of desk and sheet have, as triples; its
  * number of dependencies is 0 if there is none. */
 static const uint8_t *least_cycle(const struct buffers *b)
 {
@@ -495,29 +580,51 @@ static const uint8_t *least_cycle(const struct buffers *b)
             find_back(&l, c, 0, n - 1);
             find_back(&l, c, 1, n - 1);
         }
-        l.slip[0] = (uint8_t)n;
+        l.triples[0] = (uint8_t)n;
         for (c = 0; c < classes_of(b); c++)
-            if (finish_slip(&l, 0, c, BIT(c)))
-                return l.slip;
+            if (finish_triples(&l, 0, c, BIT(c)))
+                return l.triples;
     }
-    l.slip[0] = 0;
-    return l.slip;
+    l.triples[0] = 0;
+    return l.triples;
+}
+
+/* Write a cycle as a slip, with the numbers that the copy of the second sheet
+ * has: none for a dependency by marks. */
+static void write_slip(uint8_t *slip, const struct buffers *b,
+                       const uint8_t *triples)
+{
+    unsigned n = triples[0], i;
+
+    slip[0] = (uint8_t)n;
+    for (i = 0; i < n; i++) {
+        const uint8_t *from = triples + TRIPLES_SIZE(i);
+        const uint8_t *to = triples + TRIPLES_SIZE((i + 1) % n);
+        uint8_t *entry = slip + 1 + ENTRY * i;
+
+        memcpy(entry, from, TRIPLE);
+        set_low_first(entry + TRIPLE, from[2] != PLUNGEROWL_SOURCE_HOLD ? 0
+                      : low_first(b->want_seen.bytes
+                                  + seen_at(classes_of(b), from[0], to[0])));
+    }
 }
 
 /* Put the least cycle into the slip's copy. */
 static void want_cycle(struct buffers *b, const char *what)
 {
-    const uint8_t *slip = least_cycle(b);
+    const uint8_t *triples = least_cycle(b);
 
-    check(slip[0] > 0, "%s: a fault, but no cycle is drawn", what);
-    if (slip[0] > 0)
-        memcpy(b->want_slip.bytes, slip, PLUNGEROWL_SLIP_SIZE(slip[0]));
+    check(triples[0] > 0, "%s: a fault, but no cycle is drawn", what);
+    if (triples[0] > 0)
+        write_slip(b->want_slip.bytes, b, triples);
 }
 
 /* ------------------------------------------------------ calls with checks */
 
-static void expect_open(struct buffers *b, uint64_t classes, size_t desk_len,
-                        size_t sheet_len, unsigned answer, const char *what)
+static void expect_open_lengths(struct buffers *b, uint64_t classes,
+                                size_t desk_len, size_t sheet_len,
+                                size_t seen_len, unsigned answer,
+                                const char *what)
 {
     unsigned is;
 
@@ -525,18 +632,26 @@ static void expect_open(struct buffers *b, uint64_t classes, size_t desk_len,
         memset(b->want_desk.bytes, 0, PLUNGEROWL_DESK_SIZE);
         b->want_desk.bytes[0] = (uint8_t)classes;
         memset(b->want_sheet.bytes, 0, PLUNGEROWL_SHEET_SIZE(classes));
+        memset(b->want_seen.bytes, 0, PLUNGEROWL_SEEN_SIZE(classes));
     }
     is = plungerowl_open(classes, b->desk.bytes, desk_len,
-                         b->sheet.bytes, sheet_len);
+                         b->sheet.bytes, sheet_len, b->seen.bytes, seen_len);
     open_met[is] = 1;
     check(is == answer, "%s: open answers %u, not %u", what, is, answer);
     check_buffers(b, what);
 }
 
+static void expect_open(struct buffers *b, uint64_t classes, unsigned answer,
+                        const char *what)
+{
+    expect_open_lengths(b, classes, b->desk.size, b->sheet.size, b->seen.size,
+                        answer, what);
+}
+
 static void open_buffers(struct buffers *b, unsigned k, size_t tail)
 {
     make_buffers(b, k, tail);
-    expect_open(b, k, b->desk.size, b->sheet.size, 0, "opening");
+    expect_open(b, k, 0, "opening");
 }
 
 #define LONGEST_RECORD 12
@@ -561,12 +676,14 @@ static const struct guarded *lent_bytes(const uint8_t *bytes, size_t length)
 
 /* Step with the first bytes of each buffer, and a record of its own. */
 static unsigned call_step(struct buffers *b, size_t desk_len, size_t sheet_len,
-                          size_t slip_len, const uint8_t *record, size_t length,
+                          size_t seen_len, size_t slip_len,
+                          const uint8_t *record, size_t length,
                           const char *what)
 {
     const struct guarded *lent = lent_bytes(record, length);
     unsigned is = plungerowl_step(b->desk.bytes, desk_len,
                                   b->sheet.bytes, sheet_len,
+                                  b->seen.bytes, seen_len,
                                   b->slip.bytes, slip_len,
                                   lent->bytes, length);
 
@@ -587,8 +704,8 @@ static void expect_bytes(struct buffers *b, const uint8_t *record,
         b->want_desk.bytes[CLOSED_AT] = 1;
         want_cycle(b, what);
     }
-    is = call_step(b, b->desk.size, b->sheet.size, b->slip.size, record, length,
-                   what);
+    is = call_step(b, b->desk.size, b->sheet.size, b->seen.size, b->slip.size,
+                   record, length, what);
     check(is == answer, "%s: step answers %u, not %u", what, is, answer);
     check_buffers(b, what);
 }
@@ -607,15 +724,17 @@ static void expect_step(struct buffers *b, unsigned core, unsigned kind,
 }
 
 static void expect_ask_lengths(struct buffers *b, size_t desk_len,
-                               size_t sheet_len, uint64_t class_,
-                               unsigned answer, uint64_t word, uint32_t count,
-                               const char *what)
+                               size_t sheet_len, size_t seen_len,
+                               uint64_t class_, unsigned answer, uint64_t word,
+                               uint32_t count, const char *what)
 {
     /* Guards before and behind word and count. */
     uint64_t words[3] = { GUARD_WORD, GUARD_WORD, GUARD_WORD };
     uint32_t counts[3] = { GUARD_COUNT, GUARD_COUNT, GUARD_COUNT };
-    unsigned is = plungerowl_ask(b->desk.bytes, desk_len, b->sheet.bytes,
-                                 sheet_len, class_, &words[1], &counts[1]);
+    unsigned is = plungerowl_ask(b->desk.bytes, desk_len,
+                                 b->sheet.bytes, sheet_len,
+                                 b->seen.bytes, seen_len,
+                                 class_, &words[1], &counts[1]);
 
     ask_met[is] = 1;
     check(is == answer, "%s: ask answers %u, not %u", what, is, answer);
@@ -632,15 +751,15 @@ static void expect_ask_lengths(struct buffers *b, size_t desk_len,
 static void expect_reach(struct buffers *b, uint64_t class_, uint64_t word,
                          uint32_t count, const char *what)
 {
-    expect_ask_lengths(b, b->desk.size, b->sheet.size, class_, 0, word, count,
-                       what);
+    expect_ask_lengths(b, b->desk.size, b->sheet.size, b->seen.size, class_, 0,
+                       word, count, what);
 }
 
 static void expect_no_reach(struct buffers *b, uint64_t class_, unsigned answer,
                             const char *what)
 {
-    expect_ask_lengths(b, b->desk.size, b->sheet.size, class_, answer, 0, 0,
-                       what);
+    expect_ask_lengths(b, b->desk.size, b->sheet.size, b->seen.size, class_,
+                       answer, 0, 0, what);
 }
 
 /* ---------------------------------------------------------------- opening */
@@ -648,10 +767,14 @@ static void expect_no_reach(struct buffers *b, uint64_t class_, unsigned answer,
 static void test_sizes(void)
 {
     check(CLOSED_AT == 1 && STATES_AT == 2 && DEPTHS_AT == 10 && MARKS_AT == 34
-          && HELD_AT == 98 && ORIGINS_AT == 578, "places on the desk");
-    check(PLUNGEROWL_DESK_SIZE == 638, "desk size");
+          && HELD_AT == 98 && ORIGINS_AT == 578 && ACCEPTED_AT == 638,
+          "places on the desk");
+    check(PLUNGEROWL_DESK_SIZE == 642, "desk size");
     check(PLUNGEROWL_SHEET_SIZE(3 + 5) == 64, "sheet size");
-    check(PLUNGEROWL_SLIP_SIZE(3 + 5) == 25, "slip size");
+    check(PLUNGEROWL_SEEN_SIZE(3 + 5) == 256, "size of the second sheet");
+    check(PLUNGEROWL_SLIP_SIZE(3 + 5) == 57, "slip size");
+    check(PLUNGEROWL_NUMBER_SIZE == 4 && PLUNGEROWL_ENTRY_SIZE == 7,
+          "sizes of a number and of an entry");
     check(PLUNGEROWL_RECORD_SIZE == 6, "record size");
     check(ANSWER_AT == 0 && OPENED_AT == 1 && COUNT_AT == 2 && LOOSE_AT == 3
           && NUMBER_AT == 8 && FEED_SIZE == 16, "places in the feed");
@@ -664,7 +787,8 @@ static void test_numbers(void)
     static const unsigned answers[] = {
         PLUNGEROWL_OK, PLUNGEROWL_FAULT, PLUNGEROWL_BAD_OPENING,
         PLUNGEROWL_BAD_RECORD, PLUNGEROWL_BAD_CLASS, PLUNGEROWL_NOT_HELD,
-        PLUNGEROWL_BAD_EVENT, PLUNGEROWL_STILL_HELD, PLUNGEROWL_FRAME_FULL };
+        PLUNGEROWL_BAD_EVENT, PLUNGEROWL_STILL_HELD, PLUNGEROWL_FRAME_FULL,
+        PLUNGEROWL_COUNT_FULL, PLUNGEROWL_CLOSED, PLUNGEROWL_UNFIT };
     static const unsigned kinds[] = {
         PLUNGEROWL_ACQUIRE, PLUNGEROWL_RELEASE, PLUNGEROWL_HARD_ON,
         PLUNGEROWL_HARD_OFF, PLUNGEROWL_SOFT_ON, PLUNGEROWL_SOFT_OFF,
@@ -674,7 +798,6 @@ static void test_numbers(void)
 
     for (i = 0; i < sizeof answers / sizeof answers[0]; i++)
         check(answers[i] == i, "number of answer %u", i);
-    check(PLUNGEROWL_CLOSED == 10 && PLUNGEROWL_UNFIT == 11, "answers 10, 11");
     for (i = 0; i < sizeof kinds / sizeof kinds[0]; i++)
         check(kinds[i] == i, "number of kind %u", i);
     check(PLUNGEROWL_EXCLUSIVE == 0 && PLUNGEROWL_NONRECURSIVE_READ == 1
@@ -702,17 +825,28 @@ static void test_open_refused(void)
 
     make_buffers(&b, 8, 70000);
     for (i = 0; i < sizeof wrong / sizeof wrong[0]; i++)
-        expect_open(&b, wrong[i], b.desk.size, b.sheet.size, 2, "wrong K");
-    expect_open(&b, 0, desk_size, 0, 2, "K = 0, empty sheet");
+        expect_open(&b, wrong[i], 2, "wrong K");
+    expect_open_lengths(&b, 0, desk_size, 0, 0, 2, "K = 0, empty sheets");
+    for (i = 1; i <= 64; i++)
+        expect_open_lengths(&b, i, desk_size, i * i, 4 * i * i - 1, 2,
+                            "a second sheet short by one");
     free_buffers(&b);
 
     make_buffers(&b, 8, 0);
     for (i = 0; i < desk_size; i++)
-        expect_open(&b, 8, i, 64, 2, "open, short desk");
+        expect_open_lengths(&b, 8, i, 64, 256, 2, "open, short desk");
     for (i = 0; i < 64; i++)
-        expect_open(&b, 8, desk_size, i, 2, "open, short sheet");
-    expect_open(&b, 9, desk_size, 64, 2, "sheet for fewer classes");
-    expect_open(&b, 64, desk_size, 64, 2, "sheet of K bytes");
+        expect_open_lengths(&b, 8, desk_size, i, 256, 2, "open, short sheet");
+    for (i = 0; i < 256; i++)
+        expect_open_lengths(&b, 8, desk_size, 64, i, 2,
+                            "open, short second sheet");
+    expect_open(&b, 9, 2, "sheets for fewer classes");
+    expect_open(&b, 64, 2, "sheet of K bytes");
+    free_buffers(&b);
+
+    make_sized(&b, 9, desk_size, 81, 256, 0);
+    expect_open(&b, 9, 2, "a second sheet for fewer classes");
+    expect_open(&b, 8, 0, "sheets for more classes, and as many");
     free_buffers(&b);
 }
 
@@ -739,8 +873,20 @@ static void test_reopen(void)
     expect_step(&b, 0, ACQUIRE, 0, E, 0, "0E");
     expect_step(&b, 0, ACQUIRE, 1, TRY + E, 0, "0E, try 1E");
     expect_step(&b, 0, ACQUIRE, 0, E, 1, "0E, try 1E, 0E");
-    expect_open(&b, 8, b.desk.size, b.sheet.size, 0, "opening again");
+    expect_open(&b, 8, 0, "opening again");
     expect_step(&b, 0, ACQUIRE, 0, E, 0, "0E after opening again");
+    free_buffers(&b);
+
+    /* With fewer classes, what is past their sheets stays. */
+    open_buffers(&b, 8, 0);
+    expect_step(&b, 0, ACQUIRE, 7, E, 0, "7E");
+    expect_step(&b, 0, ACQUIRE, 2, E, 0, "7E, 2E");
+    expect_step(&b, 0, ACQUIRE, 0, E, 0, "7E, 2E, 0E");
+    b.k = 3;
+    expect_open(&b, 3, 0, "opening with fewer classes");
+    check(b.sheet.bytes[7 * 8 + 2] == 2 && b.seen.bytes[4 * (7 * 8 + 2)] == 2,
+          "opening with fewer classes: past their sheets");
+    expect_step(&b, 0, ACQUIRE, 2, E, 0, "2E of fewer classes");
     free_buffers(&b);
 }
 
@@ -748,8 +894,11 @@ static void test_reopen(void)
 
 static void expect_p2(size_t tail)
 {
-    static const uint8_t cycle[] = { 2, 1, 2, 0, 2, 2, 0, FILL, FILL, FILL };
+    static const uint8_t cycle[] = { 2, 1, 2, 0, 2, 0, 0, 0, 2, 2, 0, 6, 0, 0,
+                                     0, FILL, FILL, FILL, FILL, FILL, FILL,
+                                     FILL };
     static const uint8_t sheet[] = { 0, 0, 0, 0, 0, 2, 0, 2, 0 };
+    uint8_t seen[PLUNGEROWL_SEEN_SIZE(3)] = { 0 };
     uint8_t desk[PLUNGEROWL_DESK_SIZE] = { 3, 1 };
     struct buffers b;
 
@@ -758,6 +907,9 @@ static void expect_p2(size_t tail)
     desk[35] = desk[36] = 0x44;
     desk[158] = 2;
     desk[159] = 1;
+    desk[638] = 6;
+    seen[20] = 2;
+    seen[28] = 6;
 
     open_buffers(&b, 3, tail);
     expect_step(&b, 0, ACQUIRE, 1, E, 0, "P2 record 1");
@@ -770,6 +922,7 @@ static void expect_p2(size_t tail)
     expect_step(&b, 1, ACQUIRE, 1, E, 1, "P2 record 6");
     check(memcmp(b.desk.bytes, desk, sizeof desk) == 0, "P2: desk");
     check(memcmp(b.sheet.bytes, sheet, sizeof sheet) == 0, "P2: sheet");
+    check(memcmp(b.seen.bytes, seen, sizeof seen) == 0, "P2: second sheet");
     check(memcmp(b.slip.bytes, cycle, sizeof cycle) == 0, "P2: slip");
     expect_reach(&b, 0, 0, 0, "P2 closed, from 0");
     expect_reach(&b, 1, BIT(1) | BIT(2), 2, "P2 closed, from 1");
@@ -814,9 +967,13 @@ static void test_full_slip(void)
     expect_reach(&b, 62, BIT(63), 1, "ring before the fault, from 62");
     expect_step(&b, 7, ACQUIRE, 63, E, 0, "ring, last but one");
     expect_step(&b, 7, ACQUIRE, 0, E, 1, "ring, last");
-    for (i = 0; i < 64; i++)
-        check(b.slip.bytes[1 + 3 * i] == i && b.slip.bytes[2 + 3 * i] == 2
-              && b.slip.bytes[3 + 3 * i] == 0, "ring: dependency %u", i);
+    for (i = 0; i < 64; i++) {
+        const uint8_t *entry = b.slip.bytes + 1 + ENTRY * i;
+
+        check(entry[0] == i && entry[1] == 2 && entry[2] == 0,
+              "ring: dependency %u", i);
+        check(low_first(entry + 3) == 4 * i + 2, "ring: number %u", i);
+    }
     expect_reach(&b, 31, UINT64_MAX, 64, "ring closed, from 31");
     expect_no_reach(&b, 64, 4, "ring closed, from 64");
     free_buffers(&b);
@@ -1214,8 +1371,9 @@ static void check_byte(const struct buffers *b, size_t at, unsigned byte,
 /* The example of tries in docs/FORMATS.md. */
 static void test_try_example(void)
 {
-    static const uint8_t cycle[] = { 1, 2, 2, 2, FILL, FILL, FILL };
+    static const uint8_t cycle[] = { 1, 2, 2, 2, 0, 0, 0, 0, FILL, FILL, FILL };
     static const uint8_t sheet[] = { 0, 0, 0, 1, 0, 0, 1, 0, 0 };
+    uint8_t seen[PLUNGEROWL_SEEN_SIZE(3)] = { 0 };
     uint8_t desk[PLUNGEROWL_DESK_SIZE] = { 3, 0, 4 };
     struct buffers b;
 
@@ -1229,6 +1387,8 @@ static void test_try_example(void)
     desk[118] = 0x42;
     desk[578] = 0x01;
     desk[580] = 0x10;
+    desk[638] = 6;
+    seen[12] = seen[24] = 3;
 
     open_buffers(&b, 3, 0);
     expect_step(&b, 0, ACQUIRE, 1, E, 0, "try example, 1E");
@@ -1244,9 +1404,12 @@ static void test_try_example(void)
     desk[36] = 0x5C;
     desk[118] = 0x02;
     desk[580] = 0;
+    desk[638] = 8;
     check_desk(&b, 0, desk, sizeof desk, "try example, fault");
     check(memcmp(b.sheet.bytes, sheet, sizeof sheet) == 0,
           "try example: sheet");
+    check(memcmp(b.seen.bytes, seen, sizeof seen) == 0,
+          "try example: second sheet");
     check(memcmp(b.slip.bytes, cycle, sizeof cycle) == 0, "try example: slip");
     free_buffers(&b);
 }
@@ -1687,13 +1850,16 @@ static void expect_unfit_with(struct buffers *b, size_t at, unsigned value,
 }
 
 static void expect_step_lengths(struct buffers *b, size_t desk_len,
-                                size_t sheet_len, size_t slip_len,
-                                unsigned answer, const char *what)
+                                size_t sheet_len, size_t seen_len,
+                                size_t slip_len, unsigned answer,
+                                const char *what)
 {
     static const uint8_t record[] = { 0x4C, 0x4B, 0, HARD_ON, 0, 0 };
-    unsigned is = call_step(b, desk_len, sheet_len, slip_len,
+    unsigned is = call_step(b, desk_len, sheet_len, seen_len, slip_len,
                             record, sizeof record, what);
 
+    if (answer == 0)
+        want_count(b);
     check(is == answer, "%s: step answers %u, not %u", what, is, answer);
     check_buffers(b, what);
 }
@@ -1705,46 +1871,57 @@ static void test_unfit_lengths(void)
     size_t i;
 
     open_buffers(&b, 8, 0);
-    expect_step_lengths(&b, desk, 64, 25, 0, "exact lengths");
-    expect_ask_lengths(&b, desk, 64, 0, 0, 0, 0, "ask, exact lengths");
+    expect_step_lengths(&b, desk, 64, 256, 57, 0, "exact lengths");
+    expect_ask_lengths(&b, desk, 64, 256, 0, 0, 0, 0, "ask, exact lengths");
     for (i = 0; i < desk; i++) {
-        expect_step_lengths(&b, i, 64, 25, 11, "short desk");
-        expect_ask_lengths(&b, i, 64, 0, 11, 0, 0, "ask, short desk");
+        expect_step_lengths(&b, i, 64, 256, 57, 11, "short desk");
+        expect_ask_lengths(&b, i, 64, 256, 0, 11, 0, 0, "ask, short desk");
     }
     for (i = 0; i < 64; i++) {
-        expect_step_lengths(&b, desk, i, 25, 11, "short sheet");
-        expect_ask_lengths(&b, desk, i, 0, 11, 0, 0, "ask, short sheet");
+        expect_step_lengths(&b, desk, i, 256, 57, 11, "short sheet");
+        expect_ask_lengths(&b, desk, i, 256, 0, 11, 0, 0, "ask, short sheet");
     }
-    for (i = 0; i < 25; i++)
-        expect_step_lengths(&b, desk, 64, i, 11, "short slip");
-    expect_ask_lengths(&b, desk, 63, 8, 11, 0, 0, "ask, 11 before 4");
+    for (i = 0; i < 256; i++) {
+        expect_step_lengths(&b, desk, 64, i, 57, 11, "short second sheet");
+        expect_ask_lengths(&b, desk, 64, i, 0, 11, 0, 0,
+                           "ask, short second sheet");
+    }
+    for (i = 0; i < 57; i++)
+        expect_step_lengths(&b, desk, 64, 256, i, 11, "short slip");
+    expect_ask_lengths(&b, desk, 63, 256, 8, 11, 0, 0, "ask, 11 before 4");
+    expect_ask_lengths(&b, desk, 64, 255, 8, 11, 0, 0, "ask, 11 before 4");
     put_desk(&b, 0, 9);
-    expect_step_lengths(&b, desk, 64, 25, 11, "sheet for fewer classes");
-    expect_ask_lengths(&b, desk, 64, 0, 11, 0, 0, "ask, fewer classes");
+    expect_step_lengths(&b, desk, 64, 256, 57, 11, "sheet for fewer classes");
+    expect_ask_lengths(&b, desk, 64, 256, 0, 11, 0, 0, "ask, fewer classes");
     put_desk(&b, 0, 8);
     put_desk(&b, CLOSED_AT, 1);
-    expect_step_lengths(&b, desk, 64, 24, 11, "short slip, 11 before 10");
-    expect_step_lengths(&b, desk, 64, 25, 10, "exact lengths, closed");
+    expect_step_lengths(&b, desk, 64, 256, 56, 11, "short slip, 11 before 10");
+    expect_step_lengths(&b, desk, 64, 255, 57, 11,
+                        "short second sheet, 11 before 10");
+    expect_step_lengths(&b, desk, 64, 256, 57, 10, "exact lengths, closed");
     free_buffers(&b);
 }
 
 /* The calls on buffers that end, or begin, where a fence may stand. */
-static void expect_short(size_t desk, size_t sheet, size_t slip,
+static void expect_short(size_t desk, size_t sheet, size_t seen, size_t slip,
                          const char *what)
 {
+    int asked = desk < PLUNGEROWL_DESK_SIZE || sheet < 64 || seen < 256;
     struct buffers b;
 
-    make_sized(&b, 8, desk, sheet, slip);
-    if (desk < PLUNGEROWL_DESK_SIZE || sheet < 64)
-        expect_open(&b, 8, desk, sheet, 2, what);
+    make_sized(&b, 8, desk, sheet, seen, slip);
+    if (asked)
+        expect_open(&b, 8, 2, what);
     memset(b.desk.bytes, 0, desk);
     memset(b.want_desk.bytes, 0, desk);
     memset(b.sheet.bytes, 0, sheet);
     memset(b.want_sheet.bytes, 0, sheet);
+    memset(b.seen.bytes, 0, seen);
+    memset(b.want_seen.bytes, 0, seen);
     if (desk > 0)
         put_desk(&b, 0, 8);
     expect_step(&b, 0, HARD_ON, 0, 0, 11, what);
-    if (desk < PLUNGEROWL_DESK_SIZE || sheet < 64)
+    if (asked)
         expect_no_reach(&b, 0, 11, what);
     free_buffers(&b);
 }
@@ -1755,15 +1932,40 @@ static void test_short_buffers(void)
     size_t i;
 
     for (i = 0; i < desk; i += i < 100 ? 1 : 53)
-        expect_short(i, 64, 25, "a desk that is short");
-    expect_short(ORIGINS_AT - 1, 64, 25, "a desk without its last place");
-    expect_short(ORIGINS_AT, 64, 25, "a desk without origin bits");
-    expect_short(desk - 1, 64, 25, "a desk that is short by one");
+        expect_short(i, 64, 256, 57, "a desk that is short");
+    expect_short(ORIGINS_AT - 1, 64, 256, 57, "a desk without its last place");
+    expect_short(ORIGINS_AT, 64, 256, 57, "a desk without origin bits");
+    expect_short(ACCEPTED_AT, 64, 256, 57, "a desk without its count");
+    expect_short(desk - 1, 64, 256, 57, "a desk that is short by one");
     for (i = 0; i < 64; i++)
-        expect_short(desk, i, 25, "a sheet that is short");
-    for (i = 0; i < 25; i++)
-        expect_short(desk, 64, i, "a slip that is short");
-    expect_short(0, 0, 0, "no buffers");
+        expect_short(desk, i, 256, 57, "a sheet that is short");
+    for (i = 0; i < 256; i += i < 60 || i > 240 ? 1 : 7)
+        expect_short(desk, 64, i, 57, "a second sheet that is short");
+    for (i = 0; i < 57; i++)
+        expect_short(desk, 64, 256, i, "a slip that is short");
+    expect_short(0, 0, 0, 0, "no buffers");
+}
+
+/* A slip as it was before its entries had numbers, or short by one: 11 for
+ * every record. The question needs none. */
+static void test_old_slip(void)
+{
+    const size_t desk = PLUNGEROWL_DESK_SIZE;
+    struct buffers b;
+    unsigned k, i;
+
+    for (k = 1; k <= 64; k++) {
+        for (i = 0; i < 2; i++) {
+            make_sized(&b, k, desk, PLUNGEROWL_SHEET_SIZE(k),
+                       PLUNGEROWL_SEEN_SIZE(k), i == 0 ? 1 + 3 * k : 7 * k);
+            expect_open(&b, k, 0, "an old slip, opening");
+            expect_step(&b, 0, HARD_ON, 0, 0, 11, "an old slip, hard on");
+            expect_step(&b, 0, ACQUIRE, k - 1, E, 11, "an old slip, acquire");
+            expect_step(&b, 9, ACQUIRE, k, E, 11, "an old slip, 11 before 3");
+            expect_no_reach(&b, k - 1, 0, "an old slip, ask");
+            free_buffers(&b);
+        }
+    }
 }
 
 static void test_unfit_heads(void)
@@ -1949,16 +2151,24 @@ static void test_fullest(void)
         put_desk(&b, HELD_AT + i, 63 + 64 * R);
     for (i = ORIGINS_AT; i < PLUNGEROWL_DESK_SIZE; i++)
         put_desk(&b, i, 255);
-    for (i = 0; i < 64; i++)
-        for (j = 0; j < 64; j++)
-            put_sheet(&b, i, j, 15);
+    for (i = 0; i < 64; i++) {
+        for (j = 0; j < 64; j++) {
+            put_kinds(&b, i, j, 15);
+            put_seen(&b, i, j, i == j ? 1 : UINT32_MAX - (i < j));
+        }
+    }
     expect_reach(&b, 63, UINT64_MAX, 64, "fullest, ask");
     expect_no_reach(&b, 64, 4, "fullest, ask class K");
     expect_step(&b, 7, ACQUIRE, 0, E, 8, "fullest, acquire");
     expect_step(&b, 7, EXIT_HARD, 0, 0, 7, "fullest, exit hard");
     expect_step(&b, 7, EXIT_SOFT, 0, 0, 6, "fullest, exit soft");
     expect_step(&b, 7, RELEASE, 62, 0, 5, "fullest, release of 62");
-    expect_step(&b, 7, RELEASE, 63, 0, 1, "fullest, release of 63");
+    expect_step(&b, 7, RELEASE, 63, 0, 9, "fullest, release of 63");
+    for (i = 0; i < 64; i++)
+        for (j = 0; j < i; j++)
+            put_seen(&b, i, j, UINT32_MAX - 1);
+    put_count(&b, UINT32_MAX - 1);
+    expect_step(&b, 7, RELEASE, 63, 0, 1, "fullest but one, release of 63");
     expect_step(&b, 7, RELEASE, 63, 0, 10, "fullest, closed");
     free_buffers(&b);
 }
@@ -2063,7 +2273,7 @@ static void test_ask_marks(void)
 struct feeding {
     struct buffers b;
     struct guarded feed, want_feed;
-    size_t feed_len, desk_len, sheet_len, slip_len;
+    size_t feed_len, desk_len, sheet_len, seen_len, slip_len;
 };
 
 /* What a call said. */
@@ -2118,7 +2328,7 @@ static void put_whole_feed(struct feeding *f, unsigned answer, unsigned opened,
 /* The fit test of docs/FORMATS.md. */
 static int feed_fits(const uint8_t *feed, size_t length)
 {
-    static const char stands[2][13] = { "x-x---------", "xx-xxxxxx-xx" };
+    static const char stands[2][13] = { "x-x---------", "xx-xxxxxxxxx" };
     unsigned i;
 
     if (length < FEED_SIZE || feed[OPENED_AT] > 1
@@ -2150,6 +2360,7 @@ static void want_unit(struct feeding *f, const uint8_t *unit, size_t size)
     if (feed[OPENED_AT]) {
         feed[ANSWER_AT] = plungerowl_step(b->want_desk.bytes, f->desk_len,
                                           b->want_sheet.bytes, f->sheet_len,
+                                          b->want_seen.bytes, f->seen_len,
                                           b->want_slip.bytes, f->slip_len,
                                           unit, size);
         put_number_in(feed, number + (number != UINT64_MAX));
@@ -2158,7 +2369,8 @@ static void want_unit(struct feeding *f, const uint8_t *unit, size_t size)
     } else {
         feed[ANSWER_AT] = plungerowl_open(good ? unit[3] : 0,
                                           b->want_desk.bytes, f->desk_len,
-                                          b->want_sheet.bytes, f->sheet_len);
+                                          b->want_sheet.bytes, f->sheet_len,
+                                          b->want_seen.bytes, f->seen_len);
         feed[OPENED_AT] = feed[ANSWER_AT] == 0;
     }
     memset(feed + COUNT_AT, 0, 1 + MOST_LOOSE);
@@ -2206,6 +2418,7 @@ static unsigned call_feed(struct feeding *f, const uint8_t *piece,
     unsigned is = plungerowl_feed(f->feed.bytes, f->feed_len,
                                   f->b.desk.bytes, f->desk_len,
                                   f->b.sheet.bytes, f->sheet_len,
+                                  f->b.seen.bytes, f->seen_len,
                                   f->b.slip.bytes, f->slip_len,
                                   lent->bytes, length, record);
 
@@ -2220,6 +2433,7 @@ static unsigned call_end(struct feeding *f, uint64_t *record)
     unsigned is = plungerowl_feed_end(f->feed.bytes, f->feed_len,
                                       f->b.desk.bytes, f->desk_len,
                                       f->b.sheet.bytes, f->sheet_len,
+                                      f->b.seen.bytes, f->seen_len,
                                       f->b.slip.bytes, f->slip_len, record);
 
     end_met[is] = 1;
@@ -2291,8 +2505,9 @@ static void expect_start(struct feeding *f, unsigned answer, const char *what)
 /* All bytes as they were made, and a fresh feed. */
 static void start_again(struct feeding *f)
 {
-    struct guarded *all[] = { &f->feed, &f->b.desk, &f->b.sheet, &f->b.slip,
-                              &f->want_feed, &f->b.want_desk, &f->b.want_sheet,
+    struct guarded *all[] = { &f->feed, &f->b.desk, &f->b.sheet, &f->b.seen,
+                              &f->b.slip, &f->want_feed, &f->b.want_desk,
+                              &f->b.want_sheet, &f->b.want_seen,
                               &f->b.want_slip };
     size_t i;
 
@@ -2303,14 +2518,15 @@ static void start_again(struct feeding *f)
 
 /* A fresh feed and buffers of the given sizes, for logs of k classes. */
 static void start_sized(struct feeding *f, unsigned k, size_t feed_size,
-                        size_t desk, size_t sheet, size_t slip)
+                        size_t desk, size_t sheet, size_t seen, size_t slip)
 {
-    make_sized(&f->b, k, desk, sheet, slip);
+    make_sized(&f->b, k, desk, sheet, seen, slip);
     make_lent(&f->feed, feed_size);
     need(guarded_make(&f->want_feed, feed_size, FILL));
     f->feed_len = feed_size;
     f->desk_len = desk;
     f->sheet_len = sheet;
+    f->seen_len = seen;
     f->slip_len = slip;
     start_again(f);
 }
@@ -2318,7 +2534,7 @@ static void start_sized(struct feeding *f, unsigned k, size_t feed_size,
 static void start_feed(struct feeding *f, unsigned k, size_t tail)
 {
     start_sized(f, k, FEED_SIZE + tail, PLUNGEROWL_DESK_SIZE + tail,
-                PLUNGEROWL_SHEET_SIZE(k) + tail,
+                PLUNGEROWL_SHEET_SIZE(k) + tail, PLUNGEROWL_SEEN_SIZE(k) + tail,
                 PLUNGEROWL_SLIP_SIZE(k) + tail);
 }
 
@@ -2494,11 +2710,11 @@ static void test_feed_start(void)
     size_t i;
 
     for (i = 0; i < FEED_SIZE; i++) {
-        start_sized(&f, 1, i, 0, 0, 0);
+        start_sized(&f, 1, i, 0, 0, 0, 0);
         free_feed(&f);
     }
     for (i = 0; i < sizeof tails / sizeof tails[0]; i++) {
-        start_sized(&f, 1, FEED_SIZE + tails[i], 0, 0, 0);
+        start_sized(&f, 1, FEED_SIZE + tails[i], 0, 0, 0, 0);
         guarded_fill(&f.feed, 0xFF);
         guarded_fill(&f.want_feed, 0xFF);
         expect_start(&f, 0, "start over other bytes");
@@ -2846,7 +3062,7 @@ static void expect_stopped(struct feeding *f, unsigned answer, uint64_t number,
         expect_feed(f, log.bytes, log.size, answer, number, what);
         expect_end(f, answer, number, what);
     }
-    other.desk_len = other.sheet_len = other.slip_len = 0;
+    other.desk_len = other.sheet_len = other.seen_len = other.slip_len = 0;
     expect_feed(&other, log.bytes, log.size, answer, number, what);
     expect_end(&other, answer, number, what);
 }
@@ -2955,7 +3171,7 @@ static void test_feed_end_order(void)
     log_header(&log, 8);
     log_loose(&log, 5);
     for (loose = 0; loose <= 5; loose++) {
-        start_sized(&f, 8, FEED_SIZE, PLUNGEROWL_DESK_SIZE, 64, 24);
+        start_sized(&f, 8, FEED_SIZE, PLUNGEROWL_DESK_SIZE, 64, 256, 56);
         expect_feed(&f, log.bytes, 4 + loose, 0, 0, "short slip, no record");
         expect_end(&f, loose == 0 ? 0 : 11, loose > 0, "short slip, end");
         if (loose > 0)
@@ -2980,13 +3196,27 @@ static void test_feed_end_order(void)
         f.sheet_len = 64;
         start_again(&f);
         expect_feed(&f, log.bytes, 4 + loose, 0, 0, "another writer");
-        f.desk_len = ORIGINS_AT;
+        f.seen_len = 255;
+        expect_end(&f, loose == 0 ? 0 : 11, loose > 0,
+                   "short second sheet, end");
+        f.seen_len = 256;
+        start_again(&f);
+        expect_feed(&f, log.bytes, 4 + loose, 0, 0, "another writer");
+        put_seen(&f.b, 7, 7, 1);
+        expect_end(&f, loose == 0 ? 0 : 11, loose > 0, "a number, end");
+        start_again(&f);
+        expect_feed(&f, log.bytes, 4 + loose, 0, 0, "another writer");
+        put_count(&f.b, UINT32_MAX);
+        expect_end(&f, loose == 0 ? 0 : 3, loose > 0, "full count, end");
+        start_again(&f);
+        expect_feed(&f, log.bytes, 4 + loose, 0, 0, "another writer");
+        f.desk_len = ACCEPTED_AT;
         expect_end(&f, loose == 0 ? 0 : 11, loose > 0, "short desk, end");
         free_feed(&f);
     }
 }
 
-/* The end call does not look at desk, sheet and slip without loose bytes, nor
+/* The end call does not look at desk, sheets and slip without loose bytes, nor
  * an empty piece, nor one that completes nothing. */
 static void test_feed_not_looked_at(void)
 {
@@ -2994,19 +3224,20 @@ static void test_feed_not_looked_at(void)
     struct feeding f;
 
     make_p2(&log);
-    start_sized(&f, 3, FEED_SIZE, 0, 0, 0);
+    start_sized(&f, 3, FEED_SIZE, 0, 0, 0, 0);
     expect_feed(&f, log.bytes, 3, 0, 0, "no buffers, part of a header");
     expect_end(&f, 2, 0, "no buffers, end");
     free_feed(&f);
 
     start_feed(&f, 3, 0);
     expect_feed(&f, log.bytes, 10, 0, 1, "a record");
-    f.desk_len = f.sheet_len = f.slip_len = 0;
+    f.desk_len = f.sheet_len = f.seen_len = f.slip_len = 0;
     expect_feed(&f, log.bytes, 0, 0, 1, "no buffers, empty piece");
     expect_end(&f, 0, 1, "no buffers, end");
     expect_feed(&f, log.bytes + 10, 5, 0, 1, "no buffers, part of a record");
     f.desk_len = f.b.desk.size;
     f.sheet_len = f.b.sheet.size;
+    f.seen_len = f.b.seen.size;
     f.slip_len = f.b.slip.size;
     expect_feed(&f, log.bytes + 15, 1, 0, 2, "its last byte");
     free_feed(&f);
@@ -3043,7 +3274,7 @@ static void test_feed_short(void)
     size_t i;
 
     for (i = 0; i < FEED_SIZE; i++) {
-        start_sized(&f, 8, i, PLUNGEROWL_DESK_SIZE, 64, 25);
+        start_sized(&f, 8, i, PLUNGEROWL_DESK_SIZE, 64, 256, 57);
         memset(f.feed.bytes, 0, i);
         memset(f.want_feed.bytes, 0, i);
         expect_unfit_feed(&f, "short feed");
@@ -3106,8 +3337,7 @@ static void test_feed_unfit(void)
                                        "an unused place, record");
     }
     for (value = 1; value < 256; value++) {
-        int stands = value == 1 || (value >= 3 && value <= 8) || value == 10
-                     || value == 11;
+        int stands = value == 1 || (value >= 3 && value <= 11);
 
         put_whole_feed(&f, value, 1, 0, 0);
         expect_unfit_feed(&f, "an answer at record 0");
@@ -3135,7 +3365,7 @@ static void test_feed_fit(void)
     unsigned opened, answer, count, i;
 
     start_feed(&f, 8, 0);
-    expect_open(&f.b, 8, f.b.desk.size, f.b.sheet.size, 0, "opening");
+    expect_open(&f.b, 8, 0, "opening");
     for (opened = 0; opened < 4; opened++) {
         for (answer = 0; answer < 256; answer++) {
             for (count = 0; count < 8; count++) {
@@ -3161,7 +3391,7 @@ static void test_feed_by_hand(void)
     unsigned i;
 
     start_feed(&f, 8, 0);
-    expect_open(&f.b, 8, f.b.desk.size, f.b.sheet.size, 0, "opening");
+    expect_open(&f.b, 8, 0, "opening");
     put_whole_feed(&f, 0, 1, 5, 41);
     for (i = 0; i < 5; i++)
         put_feed(&f, LOOSE_AT + i, loose[i]);
@@ -3188,7 +3418,7 @@ static void test_feed_number(void)
     log_record(&log, 0, RELEASE, 1, 0);
     log_loose(&log, 1);
     start_feed(&f, 8, 0);
-    expect_open(&f.b, 8, f.b.desk.size, f.b.sheet.size, 0, "opening");
+    expect_open(&f.b, 8, 0, "opening");
     for (i = 0; i <= 64; i++) {
         for (j = 1; j <= 4; j++) {
             /* i is 64: 2 to the 64, less j */
@@ -3216,7 +3446,7 @@ static void test_feed_number(void)
     free_feed(&f);
 }
 
-/* Desk, sheet and slip of each length. */
+/* Desk, sheets and slip of each length. */
 static void test_feed_lengths(void)
 {
     const size_t desk = PLUNGEROWL_DESK_SIZE;
@@ -3243,22 +3473,36 @@ static void test_feed_lengths(void)
                     "short sheet");
         expect_end(&f, i < 64 ? 2 : 1, i < 64 ? 0 : 2, "short sheet, end");
     }
-    for (i = 0; i <= 25; i++) {
+    for (i = 0; i <= 256; i++) {
+        start_again(&f);
+        f.seen_len = i;
+        expect_feed(&f, log.bytes, 3, 0, 0,
+                    "short second sheet, before the header");
+        expect_feed(&f, log.bytes + 3, 13, i < 256 ? 2 : 1, i < 256 ? 0 : 2,
+                    "short second sheet");
+        expect_end(&f, i < 256 ? 2 : 1, i < 256 ? 0 : 2,
+                   "short second sheet, end");
+    }
+    for (i = 0; i <= 57; i++) {
         start_again(&f);
         f.slip_len = i;
         expect_feed(&f, log.bytes, 9, 0, 0, "short slip, before a record");
-        expect_feed(&f, log.bytes + 9, 7, i < 25 ? 11 : 1, i < 25 ? 1 : 2,
+        expect_feed(&f, log.bytes + 9, 7, i < 57 ? 11 : 1, i < 57 ? 1 : 2,
                     "short slip");
     }
     free_feed(&f);
     for (i = 0; i < 64; i += 7) {
-        start_sized(&f, 8, FEED_SIZE, desk, i, 25);
+        start_sized(&f, 8, FEED_SIZE, desk, i, 256, 57);
         expect_feed(&f, log.bytes, log.size, 2, 0, "a sheet that is short");
         free_feed(&f);
-        start_sized(&f, 8, FEED_SIZE, desk - 1 - i, 64, 25);
+        start_sized(&f, 8, FEED_SIZE, desk, 64, 255 - i, 57);
+        expect_feed(&f, log.bytes, log.size, 2, 0,
+                    "a second sheet that is short");
+        free_feed(&f);
+        start_sized(&f, 8, FEED_SIZE, desk - 1 - i, 64, 256, 57);
         expect_feed(&f, log.bytes, log.size, 2, 0, "a desk that is short");
         free_feed(&f);
-        start_sized(&f, 8, FEED_SIZE, desk, 64, i % 25);
+        start_sized(&f, 8, FEED_SIZE, desk, 64, 256, i % 57);
         expect_feed(&f, log.bytes, log.size, 11, 1, "a slip that is short");
         free_feed(&f);
     }
@@ -3315,8 +3559,8 @@ static void test_feed_other_writer(void)
 /* --------------------------------------------------------- the cycle shown */
 
 /* A graph with few classes: the sheet bytes up to one of 0, the marks, and the
- * slip that is due. In a log all dependencies that go to class `into` are drawn
- * last, by one acquire. */
+ * triples of the slip that is due. In a log all dependencies that go to class
+ * `into` are drawn last, by one acquire. */
 enum { FEW = 8, NO_LOG = 255 };
 
 struct drawn {
@@ -3328,7 +3572,7 @@ struct shown {
     uint8_t into;
     struct drawn drawn[10];
     uint8_t marks[FEW];
-    uint8_t slip[PLUNGEROWL_SLIP_SIZE(4)];
+    uint8_t slip[TRIPLES_SIZE(4)];
 };
 
 static const struct shown shown[] = {
@@ -3457,12 +3701,14 @@ static void put_shown(struct buffers *b, const struct shown *s)
         put_desk(b, MARKS_AT + i, s->marks[i]);
 }
 
-/* The slip has these bytes, and FILL behind them. */
-static void check_slip(const struct buffers *b, const uint8_t *slip,
+/* The slip has these triples with their numbers, and FILL behind them. */
+static void check_slip(const struct buffers *b, const uint8_t *triples,
                        const char *what)
 {
-    size_t size = PLUNGEROWL_SLIP_SIZE(slip[0]), i;
+    size_t size = PLUNGEROWL_SLIP_SIZE(triples[0]), i;
+    uint8_t slip[PLUNGEROWL_SLIP_SIZE(64)];
 
+    write_slip(slip, b, triples);
     for (i = 0; i < b->slip.size; i++)
         check(b->slip.bytes[i] == (i < size ? slip[i] : FILL),
               "%s: slip byte %lu is %u", what, (unsigned long)i,
@@ -3485,7 +3731,7 @@ static void test_shown_by_hand(void)
         free_buffers(&b);
 
         start_feed(&f, FEW, 0);
-        expect_open(&f.b, FEW, f.desk_len, f.sheet_len, 0, shown[i].what);
+        expect_open(&f.b, FEW, 0, shown[i].what);
         put_shown(&f.b, &shown[i]);
         put_whole_feed(&f, 0, 1, 0, 41);
         expect_feed(&f, record, 5, 0, 41, shown[i].what);
@@ -3560,15 +3806,15 @@ static void test_shown_sources(void)
 static void expect_ring(unsigned kinds, unsigned last, unsigned kind,
                         unsigned last_kind)
 {
-    uint8_t slip[PLUNGEROWL_SLIP_SIZE(64)] = { 64 };
+    uint8_t slip[TRIPLES_SIZE(64)] = { 64 };
     struct buffers b;
     unsigned i;
 
     open_buffers(&b, 64, 0);
     for (i = 0; i < 64; i++) {
         put_sheet(&b, 37 * i % 64, 37 * (i + 1) % 64, i < 63 ? kinds : last);
-        slip[1 + 3 * i] = (uint8_t)(37 * i % 64);
-        slip[2 + 3 * i] = (uint8_t)(i < 63 ? kind : last_kind);
+        slip[1 + TRIPLE * i] = (uint8_t)(37 * i % 64);
+        slip[2 + TRIPLE * i] = (uint8_t)(i < 63 ? kind : last_kind);
     }
     expect_step(&b, 0, HARD_ON, 0, 0, last_kind != 0, "ring of 64");
     if (last_kind != 0)
@@ -3609,16 +3855,16 @@ static void expect_ties(struct buffers *b, unsigned kind,
                         const uint8_t others[][3], unsigned count,
                         const char *what)
 {
-    uint8_t slip[PLUNGEROWL_SLIP_SIZE(64)] = { 32 };
+    uint8_t slip[TRIPLES_SIZE(64)] = { 32 };
     unsigned i;
 
     for (i = 0; i < 32; i++) {
-        slip[1 + 3 * i] = (uint8_t)(2 * i);
-        slip[2 + 3 * i] = (uint8_t)kind;
+        slip[1 + TRIPLE * i] = (uint8_t)(2 * i);
+        slip[2 + TRIPLE * i] = (uint8_t)kind;
     }
     for (i = 0; i < count; i++) {
-        slip[1 + 3 * others[i][0]] = others[i][1];
-        slip[2 + 3 * others[i][0]] = others[i][2];
+        slip[1 + TRIPLE * others[i][0]] = others[i][1];
+        slip[2 + TRIPLE * others[i][0]] = others[i][2];
     }
     expect_step(b, 0, HARD_ON, 0, 0, 1, what);
     check_slip(b, slip, what);
@@ -3819,7 +4065,7 @@ static void test_shown_in_logs(void)
         const struct shown *s = &shown[i];
         uint64_t records;
 
-        if (s->into == NO_LOG || ends_r(s->slip[3 * s->slip[0] - 1]))
+        if (s->into == NO_LOG || ends_r(s->slip[TRIPLE * s->slip[0] - 1]))
             continue;
         logs++;
         log_shown(&log, s);
@@ -3844,11 +4090,11 @@ static void test_shown_in_logs(void)
 }
 
 /* All that could be a cycle of some number of dependencies, its first class the
- * lowest: the least of those that are one. */
+ * lowest: the least of those that are one. Both as triples. */
 struct all_tried {
     const struct buffers *b;
-    uint8_t slip[PLUNGEROWL_SLIP_SIZE(64)];
-    uint8_t least[PLUNGEROWL_SLIP_SIZE(64)]; /* with 0 for none */
+    uint8_t slip[TRIPLES_SIZE(64)];
+    uint8_t least[TRIPLES_SIZE(64)]; /* with 0 for none */
 };
 
 static int is_cycle(const struct all_tried *a)
@@ -3856,8 +4102,8 @@ static int is_cycle(const struct all_tried *a)
     unsigned i, j, n = a->slip[0];
 
     for (i = 0; i < n; i++) {
-        const uint8_t *entry = a->slip + 1 + 3 * i;
-        const uint8_t *next = a->slip + 1 + 3 * ((i + 1) % n);
+        const uint8_t *entry = a->slip + TRIPLES_SIZE(i);
+        const uint8_t *next = a->slip + TRIPLES_SIZE((i + 1) % n);
 
         if (!has_dependency(a->b, entry[0], next[0], entry[1], entry[2])
             || !is_strong(entry[1], next[1]))
@@ -3865,7 +4111,7 @@ static int is_cycle(const struct all_tried *a)
         if (i > 0 && entry[0] < a->slip[1])
             return 0;
         for (j = 0; j < i; j++)
-            if (a->slip[1 + 3 * j] == entry[0])
+            if (a->slip[TRIPLES_SIZE(j)] == entry[0])
                 return 0;
     }
     return 1;
@@ -3873,13 +4119,13 @@ static int is_cycle(const struct all_tried *a)
 
 static void try_all(struct all_tried *a, unsigned i)
 {
-    uint8_t *entry = a->slip + 1 + 3 * i;
+    uint8_t *entry = a->slip + TRIPLES_SIZE(i);
     unsigned class_, rank;
 
     if (i == a->slip[0]) {
         if (is_cycle(a) && (a->least[0] == 0
-                            || memcmp(a->slip, a->least, 1 + 3 * i) < 0))
-            memcpy(a->least, a->slip, 1 + 3 * i);
+                            || memcmp(a->slip, a->least, TRIPLES_SIZE(i)) < 0))
+            memcpy(a->least, a->slip, TRIPLES_SIZE(i));
         return;
     }
     for (class_ = 0; class_ < classes_of(a->b); class_++) {
@@ -3906,6 +4152,19 @@ static void put_random_marks(struct buffers *b)
     put_desk(b, MARKS_AT + class_, marks);
 }
 
+/* Random numbers for the pairs with kinds, up to a random count. */
+static void put_random_numbers(struct buffers *b)
+{
+    uint32_t count = 1 + below(below(2) == 0 ? 9 : 0x7FFFFFFF);
+    unsigned from, to;
+
+    put_count(b, count);
+    for (from = 0; from < b->k; from++)
+        for (to = 0; to < b->k; to++)
+            put_seen(b, from, to, b->sheet.bytes[from * b->k + to] == 0 ? 0
+                                  : 1 + below(count));
+}
+
 /* Small random graphs, against a search that tries all: the library, and the
  * copies' least cycle that the other tests use. */
 static void test_shown_all_tried(void)
@@ -3928,13 +4187,14 @@ static void test_shown_all_tried(void)
                                                        : PLUNGEROWL_SR);
         for (from = 0; from < k && below(2) == 0; from++)
             put_random_marks(&b);
+        put_random_numbers(&b);
         a.b = &b;
         memset(a.least, 0, sizeof a.least);
         for (a.slip[0] = 1; a.slip[0] <= k && a.least[0] == 0; a.slip[0]++)
             try_all(&a, 0);
         found[a.least[0]]++;
         check(memcmp(least_cycle(&b), a.least, a.least[0] == 0
-                     ? 1 : PLUNGEROWL_SLIP_SIZE(a.least[0])) == 0,
+                     ? 1 : TRIPLES_SIZE(a.least[0])) == 0,
               "all tried: least_cycle, graph %u", i);
         expect_step(&b, i % CORES, HARD_ON, 0, 0, a.least[0] != 0,
                     "all tried");
@@ -3972,6 +4232,7 @@ static void test_shown_layers(void)
         }
         for (j = below(4); j > 0; j--)
             put_random_marks(&b);
+        put_random_numbers(&b);
         expect_step(&b, i % CORES, HARD_ON, 0, 0, least_cycle(&b)[0] != 0,
                     "layers");
         if (b.slip.bytes[0] != FILL && b.slip.bytes[0] > longest)
@@ -4001,7 +4262,7 @@ static void test_shown_random_logs(void)
             unsigned mode = kind == ACQUIRE ? below(MODES) : 0;
             struct buffers after = b;
             uint8_t record[RECORD_SIZE] = { 0x4C, 0x4B };
-            uint8_t desk[PLUNGEROWL_DESK_SIZE], sheet[64];
+            uint8_t desk[PLUNGEROWL_DESK_SIZE], sheet[64], seen[4 * 64];
 
             if (kind != ACQUIRE && (next_state[state][kind - 2] < 0
                                     || depth > 0))
@@ -4018,8 +4279,10 @@ static void test_shown_random_logs(void)
             /* The answer that is due, on other copies. */
             memcpy(desk, b.want_desk.bytes, sizeof desk);
             memcpy(sheet, b.want_sheet.bytes, k * k);
+            memcpy(seen, b.want_seen.bytes, 4 * k * k);
             after.want_desk.bytes = desk;
             after.want_sheet.bytes = sheet;
+            after.want_seen.bytes = seen;
             want_accepted(&after, record);
             expect_bytes(&b, record, RECORD_SIZE, least_cycle(&after)[0] != 0,
                          "random log");
@@ -4050,8 +4313,8 @@ static int is_clash(unsigned mark)
     return 0;
 }
 
-/* The slip that is due if no other class has a cycle of one dependency. kinds:
- * the class's sheet byte for itself. */
+/* The triples that are due if no other class has a cycle of one dependency.
+ * kinds: the class's sheet byte for itself. */
 static void one_class_slip(uint8_t slip[4], unsigned class_, unsigned kinds,
                            unsigned mark)
 {
@@ -4084,17 +4347,19 @@ static void expect_one_slip(struct buffers *b, int fits, const uint8_t slip[4],
     static const uint8_t record[] = { 0x4C, 0x4B, 2, HARD_ON, 0, 0 };
     unsigned due = !fits ? 11 : slip[0], is;
 
+    if (due <= 1)
+        want_count(b);
     if (due == 1) {
         b->want_desk.bytes[CLOSED_AT] = 1;
-        memcpy(b->want_slip.bytes, slip, 4);
+        write_slip(b->want_slip.bytes, b, slip);
     }
-    is = call_step(b, b->desk.size, b->sheet.size, b->slip.size, record,
-                   sizeof record, what);
+    is = call_step(b, b->desk.size, b->sheet.size, b->seen.size, b->slip.size,
+                   record, sizeof record, what);
     check(is == due, "%s: step answers %u, not %u", what, is, due);
     check_buffers(b, what);
     put_desk(b, CLOSED_AT, 0);
-    memset(b->slip.bytes, FILL, 4);
-    memset(b->want_slip.bytes, FILL, 4);
+    memset(b->slip.bytes, FILL, 1 + ENTRY);
+    memset(b->want_slip.bytes, FILL, 1 + ENTRY);
 }
 
 /* Every mark byte on the lowest and on the highest class. */
@@ -4183,6 +4448,876 @@ static void test_clashes_of_two(void)
     free_buffers(&b);
 }
 
+/* --------------------------------------------------- the accepted records */
+
+/* A number of four bytes as it should stand, the low byte first. */
+static void check_number(const uint8_t *at, uint32_t number, const char *what)
+{
+    unsigned i;
+
+    for (i = 0; i < 4; i++)
+        check(at[i] == (number >> 8 * i & 255), "%s: byte %u of %" PRIu32
+              " is %02X", what, i, number, at[i]);
+}
+
+static void check_count(const struct buffers *b, uint32_t count,
+                        const char *what)
+{
+    check_number(b->desk.bytes + 638, count, what);
+}
+
+static void check_seen(const struct buffers *b, unsigned from, unsigned to,
+                       uint32_t number, const char *what)
+{
+    check_number(b->seen.bytes + 4 * (from * b->k + to), number, what);
+}
+
+/* The slip has these bytes, numbers and all, and FILL behind them. */
+static void check_whole_slip(const struct buffers *b, const uint8_t *slip,
+                             const char *what)
+{
+    size_t size = 1 + 7 * (size_t)slip[0], i;
+
+    for (i = 0; i < b->slip.size; i++)
+        check(b->slip.bytes[i] == (i < size ? slip[i] : FILL),
+              "%s: slip byte %lu is %u", what, (unsigned long)i,
+              b->slip.bytes[i]);
+}
+
+/* Each accepted record counts one, whatever it is, draws or not; a refused one
+ * counts nothing. */
+static void test_count(void)
+{
+    static const struct {
+        uint8_t core, kind, class_, mode, answer, count;
+    } rows[] = {
+        { 0, HARD_ON, 0, 0, 0, 1 },
+        { 0, ACQUIRE, 1, E, 0, 2 },
+        { 0, ACQUIRE, 2, E, 0, 3 },
+        { 0, ACQUIRE, 2, MODES, 3, 3 },
+        { 0, ACQUIRE, 8, E, 4, 3 },
+        { 0, RELEASE, 3, 0, 5, 3 },
+        { 0, EXIT_SOFT, 0, 0, 6, 3 },
+        { 0, RELEASE, 2, 0, 0, 4 },
+        { 0, ACQUIRE, 2, E, 0, 5 }, /* draws what is drawn */
+        { 0, ACQUIRE, 1, TRY + E, 0, 6 },
+        { 0, RELEASE, 1, 0, 0, 7 },
+        { 7, SOFT_ON, 0, 0, 0, 8 },
+        { 7, SOFT_OFF, 0, 0, 0, 9 },
+        { 7, HARD_OFF, 0, 0, 0, 10 },
+        { 7, HARD_ON, 0, 0, 0, 11 },
+        { 7, ENTER_HARD, 0, 0, 0, 12 },
+        { 7, EXIT_HARD, 0, 0, 0, 13 },
+        { 7, SOFT_ON, 0, 0, 0, 14 },
+        { 7, ENTER_SOFT, 0, 0, 0, 15 },
+        { 7, ACQUIRE, 7, R, 0, 16 },
+        { 7, EXIT_SOFT, 0, 0, 7, 16 },
+        { 7, RELEASE, 7, 0, 0, 17 },
+        { 7, EXIT_SOFT, 0, 0, 0, 18 },
+        { 1, ACQUIRE, 2, E, 0, 19 },
+        { 1, ACQUIRE, 1, E, 1, 20 }, /* a fault is accepted */
+        { 1, HARD_ON, 0, 0, 10, 20 }
+    };
+    struct buffers b;
+    size_t i;
+
+    open_buffers(&b, 8, 3);
+    check_count(&b, 0, "count, opened");
+    for (i = 0; i < sizeof rows / sizeof rows[0]; i++) {
+        expect_step(&b, rows[i].core, rows[i].kind, rows[i].class_,
+                    rows[i].mode, rows[i].answer, "count");
+        check_count(&b, rows[i].count, "count");
+    }
+    put_desk(&b, STATES_AT, 9);
+    expect_step(&b, 1, HARD_ON, 0, 0, 11, "count, unfit");
+    check_count(&b, 20, "count, unfit");
+    free_buffers(&b);
+
+    open_buffers(&b, 8, 0);
+    for (i = 1; i <= DEPTH + 3; i++) {
+        expect_step(&b, 0, ACQUIRE, 0, R, i <= DEPTH ? 0 : 8, "count, full");
+        check_count(&b, i <= DEPTH ? (uint32_t)i : DEPTH, "count, full");
+    }
+    free_buffers(&b);
+}
+
+/* Counts on both sides of each carry, and the highest to which one more may
+ * come. */
+static const uint32_t counts[] = {
+    0, 1, 2, 127, 128, 254, 255, 256, 257, 511, 512, 32767, 32768, 65534, 65535,
+    65536, 65537, 0xFFFFFE, 0xFFFFFF, 0x1000000, 0x1000001, 0x1FFFFFF,
+    0x7FFFFFFE, 0x7FFFFFFF, 0x80000000, 0x80000001, 0xFEFFFFFF, 0xFFFEFFFF,
+    0xFFFFFEFF, 0xFFFFFFFD, 0xFFFFFFFE
+};
+
+#define COUNTS (sizeof counts / sizeof counts[0])
+
+/* One more at each of these, on a desk that did not come from opening: on the
+ * desk, for a pair that is drawn, and in the slip. */
+static void test_count_carries(void)
+{
+    uint8_t slip[] = { 1, 2, 2, 0, 0, 0, 0, 0 };
+    struct buffers b;
+    size_t i;
+
+    for (i = 0; i < COUNTS; i++) {
+        open_buffers(&b, 3, 1);
+        put_count(&b, counts[i]);
+        expect_step(&b, 0, HARD_ON, 0, 0, 0, "one more, a hard on");
+        check_count(&b, counts[i] + 1, "one more, a hard on");
+
+        put_count(&b, counts[i] - (counts[i] > 0));
+        expect_step(&b, 0, ACQUIRE, 1, E, 0, "one more, an acquire");
+        put_count(&b, counts[i]);
+        expect_step(&b, 0, ACQUIRE, 2, E, 0, "one more, a dependency");
+        check_count(&b, counts[i] + 1, "one more, a dependency");
+        check_seen(&b, 1, 2, counts[i] + 1, "the number of a dependency");
+
+        put_sheet(&b, 1, 2, 0);
+        put_count(&b, counts[i]);
+        expect_step(&b, 0, RELEASE, 1, 0, 0, "one more, a release");
+        check_count(&b, counts[i] + 1, "one more, a release");
+        put_count(&b, counts[i]);
+        expect_step(&b, 0, ACQUIRE, 2, E, 1, "one more, a fault");
+        check_count(&b, counts[i] + 1, "one more, a fault");
+        check_seen(&b, 2, 2, counts[i] + 1, "the number of the fault");
+        set_low_first(slip + 4, counts[i] + 1);
+        check_whole_slip(&b, slip, "the number of the fault in the slip");
+        free_buffers(&b);
+    }
+}
+
+/* At the highest count every record that would else be accepted gets 9, and
+ * nothing is changed: in each state the events that are allowed, acquires of
+ * all modes over a held lock, and its release. One below, one more is
+ * accepted. */
+static void test_count_full(void)
+{
+    struct buffers b;
+    unsigned state, event, mode;
+
+    open_buffers(&b, 8, 2);
+    for (state = 0; state < 9; state++) {
+        unsigned frame = frame_of(4, state);
+
+        put_desk(&b, STATES_AT + 4, state);
+        put_count(&b, UINT32_MAX);
+        for (event = 0; event < 8; event++)
+            expect_step(&b, 4, event + 2, 0, 0,
+                        next_state[state][event] < 0 ? 6 : 9,
+                        "full count, an event");
+        for (mode = 0; mode < MODES; mode++)
+            expect_step(&b, 4, ACQUIRE, 3, mode, 9, "full count, an acquire");
+        put_desk(&b, DEPTHS_AT + frame, 1);
+        put_desk(&b, HELD_AT + DEPTH * frame, 3 + 64 * R);
+        for (mode = 0; mode < MODES; mode++) {
+            expect_step(&b, 4, ACQUIRE, 5, mode, 9, "full count, a dependency");
+            expect_step(&b, 4, ACQUIRE, 3, mode, 9, "full count, its class");
+        }
+        expect_step(&b, 4, RELEASE, 3, 0, 9, "full count, a release");
+        expect_no_reach(&b, 3, 0, "full count, ask");
+
+        put_count(&b, UINT32_MAX - 1);
+        expect_step(&b, 4, RELEASE, 3, 0, 0, "the last to be counted");
+        check_count(&b, UINT32_MAX, "the last to be counted");
+        expect_step(&b, 5, HARD_ON, 0, 0, 9, "and no more");
+        expect_step(&b, 4, ACQUIRE, 3, R, 9, "and no more");
+        check_count(&b, UINT32_MAX, "and no more");
+        put_desk(&b, STATES_AT + 4, 0);
+        put_desk(&b, MARKS_AT + 3, 0);
+    }
+    free_buffers(&b);
+}
+
+/* 9 for a fault too: one that the record would draw, one that stands, and one
+ * by marks. The desk stays open, and with a lower count the fault comes. */
+static void test_count_full_fault(void)
+{
+    struct buffers b;
+
+    open_buffers(&b, 8, 0);
+    expect_step(&b, 0, ACQUIRE, 1, E, 0, "full count, 1E");
+    put_count(&b, UINT32_MAX);
+    expect_step(&b, 0, ACQUIRE, 1, E, 9, "full count, a fault to be drawn");
+    put_count(&b, 41);
+    expect_step(&b, 0, ACQUIRE, 1, E, 1, "a fault drawn");
+    check_seen(&b, 1, 1, 42, "a fault drawn");
+    put_desk(&b, CLOSED_AT, 0);
+    put_count(&b, UINT32_MAX);
+    expect_step(&b, 3, HARD_ON, 0, 0, 9, "full count, a fault that stands");
+    expect_reach(&b, 1, BIT(1), 1, "full count, ask");
+    put_count(&b, UINT32_MAX - 1);
+    expect_step(&b, 3, HARD_ON, 0, 0, 1, "the last to be counted, a fault");
+    check_count(&b, UINT32_MAX, "the last to be counted, a fault");
+    expect_step(&b, 3, HARD_ON, 0, 0, 10, "full count, closed");
+    free_buffers(&b);
+
+    open_buffers(&b, 8, 0);
+    put_desk(&b, MARKS_AT + 6, 5);
+    put_count(&b, UINT32_MAX);
+    expect_step(&b, 2, SOFT_OFF, 0, 0, 9, "full count, a fault by marks");
+    put_count(&b, 0);
+    expect_step(&b, 2, SOFT_OFF, 0, 0, 1, "a fault by marks");
+    free_buffers(&b);
+}
+
+/* Every other refusal is before 9. */
+static void test_count_order(void)
+{
+    static const uint8_t good[LONGEST_RECORD] = { 0x4C, 0x4B, 0, HARD_ON };
+    struct buffers b;
+    unsigned i;
+
+    open_buffers(&b, 8, 0);
+    for (i = 0; i < DEPTH; i++)
+        expect_step(&b, 3, ACQUIRE, 0, R, 0, "fill the frame");
+    expect_step(&b, 4, ENTER_HARD, 0, 0, 0, "enter hard");
+    expect_step(&b, 4, ACQUIRE, 1, TRY + E, 0, "a try in the handler");
+    put_count(&b, UINT32_MAX);
+
+    for (i = 0; i <= sizeof good; i++)
+        expect_bytes(&b, good, i, i == RECORD_SIZE ? 9 : 3, "3 before 9");
+    expect_step(&b, 8, HARD_ON, 0, 0, 3, "3 before 9, core 8");
+    expect_step(&b, 0, 10, 0, 0, 3, "3 before 9, kind 10");
+    expect_step(&b, 0, ACQUIRE, 1, MODES, 3, "3 before 9, mode 6");
+    expect_step(&b, 0, HARD_ON, 1, 0, 3, "3 before 9, class of an event");
+    expect_step(&b, 0, ACQUIRE, 8, E, 4, "4 before 9");
+    expect_step(&b, 0, ACQUIRE, 255, TRY + E, 4, "4 before 9, a try");
+    expect_step(&b, 0, RELEASE, 8, 0, 4, "4 before 9, a release");
+    expect_step(&b, 0, EXIT_HARD, 0, 0, 6, "6 before 9");
+    expect_step(&b, 4, ENTER_SOFT, 0, 0, 6, "6 before 9, in a handler");
+    expect_step(&b, 4, EXIT_HARD, 0, 0, 7, "7 before 9");
+    expect_step(&b, 0, RELEASE, 0, 0, 5, "5 before 9");
+    for (i = 0; i < MODES; i++)
+        expect_step(&b, 3, ACQUIRE, 2, i, 8, "8 before 9");
+    expect_step(&b, 3, RELEASE, 0, 0, 9, "9");
+
+    put_desk(&b, CLOSED_AT, 1);
+    expect_step(&b, 0, HARD_ON, 0, 0, 10, "10 before 9");
+    expect_step(&b, 3, ACQUIRE, 2, E, 10, "10 before 8 and 9");
+    put_desk(&b, STATES_AT + 7, 9);
+    expect_step(&b, 0, HARD_ON, 0, 0, 11, "11 before 10 and 9");
+    put_desk(&b, CLOSED_AT, 0);
+    expect_step(&b, 0, HARD_ON, 0, 0, 11, "11 before 9");
+    put_desk(&b, STATES_AT + 7, 0);
+    put_seen(&b, 7, 7, 1);
+    expect_step(&b, 0, HARD_ON, 0, 0, 11, "11 before 9, by a number");
+    put_seen(&b, 7, 7, 0);
+    expect_step(&b, 0, HARD_ON, 0, 0, 9, "9 again");
+    free_buffers(&b);
+}
+
+/* ------------------------------------------------------- the second sheet */
+
+/* Every pair has its own four bytes; of 63 and 64 classes the corners only. */
+static void test_seen_places(void)
+{
+    static const unsigned sizes[] = { 1, 2, 3, 8, 63, 64 };
+    static const uint8_t number[] = { 2, 2, 3, 4 };
+    struct buffers b;
+    unsigned i, from, to;
+    size_t at;
+
+    for (i = 0; i < sizeof sizes / sizeof sizes[0]; i++) {
+        unsigned k = sizes[i], by = k > 8 ? k - 1 : 1;
+
+        for (from = 0; from < k; from += by) {
+            for (to = 0; to < k; to += by) {
+                open_buffers(&b, k, 5);
+                put_count(&b, 0x04030200);
+                expect_step(&b, 6, ACQUIRE, from, R, 0, "a pair, the first");
+                expect_step(&b, 6, ACQUIRE, to, R, 0, "a pair, the second");
+                for (at = 0; at < 4 * k * k; at++)
+                    check(b.seen.bytes[at]
+                          == (at / 4 == from * k + to ? number[at % 4] : 0),
+                          "pair %u, %u of %u: byte %lu is %u", from, to, k,
+                          (unsigned long)at, b.seen.bytes[at]);
+                free_buffers(&b);
+            }
+        }
+    }
+}
+
+/* One acquire draws from every lock of its frame: all these pairs get its
+ * number, also that of the class with itself; pairs of other frames none. */
+static void test_seen_by_one(void)
+{
+    struct buffers b;
+
+    open_buffers(&b, 8, 0);
+    expect_step(&b, 0, ACQUIRE, 6, E, 0, "by one, task, 6E");
+    expect_step(&b, 0, ENTER_SOFT, 0, 0, 0, "by one, enter soft");
+    expect_step(&b, 0, ACQUIRE, 1, TRY + E, 0, "by one, try 1E");
+    expect_step(&b, 0, ACQUIRE, 2, TRY + r, 0, "by one, try 2r");
+    expect_step(&b, 0, ACQUIRE, 2, TRY + R, 0, "by one, try 2R");
+    expect_step(&b, 0, ACQUIRE, 4, TRY + R, 0, "by one, try 4R");
+    expect_step(&b, 0, ACQUIRE, 4, R, 0, "by one, 4R");
+    check_seen(&b, 1, 4, 7, "from the oldest");
+    check_seen(&b, 2, 4, 7, "from a class held twice");
+    check_seen(&b, 4, 4, 7, "from its own class");
+    check_seen(&b, 6, 4, 0, "from another frame");
+    check_seen(&b, 4, 1, 0, "back");
+    expect_step(&b, 0, ACQUIRE, 5, R, 0, "by one, 5R");
+    check_seen(&b, 1, 5, 8, "the next, from the oldest");
+    check_seen(&b, 4, 5, 8, "the next, from the newest");
+    check_seen(&b, 1, 4, 7, "the first is as it was");
+    free_buffers(&b);
+}
+
+/* The number is the pair's: a dependency drawn again keeps it, and a second
+ * kind keeps it too. The slip has it for the kind that came later. */
+static void test_seen_later_kind(void)
+{
+    static const uint8_t slip[] = { 2, 1, 1, 0, 2, 0, 0, 0,
+                                    2, 2, 0, 14, 0, 0, 0 };
+    struct buffers b;
+
+    open_buffers(&b, 8, 1);
+    expect_step(&b, 0, ACQUIRE, 1, R, 0, "later kind, 1R");
+    expect_step(&b, 0, ACQUIRE, 2, E, 0, "later kind, 2E: 1 SN 2");
+    check_seen(&b, 1, 2, 2, "the first kind");
+    expect_step(&b, 0, RELEASE, 2, 0, 0, "later kind, release 2");
+    expect_step(&b, 0, ACQUIRE, 2, E, 0, "later kind, 2E again");
+    check_seen(&b, 1, 2, 2, "the same kind again");
+    expect_step(&b, 0, RELEASE, 2, 0, 0, "later kind, release 2 again");
+    expect_step(&b, 0, RELEASE, 1, 0, 0, "later kind, release 1");
+    expect_step(&b, 5, ACQUIRE, 1, E, 0, "later kind, core 5, 1E");
+    expect_step(&b, 5, ACQUIRE, 2, R, 0, "later kind, core 5, 2R: 1 ER 2");
+    check_seen(&b, 1, 2, 2, "a second kind");
+    check(b.sheet.bytes[8 + 2] == 9, "later kind: both kinds");
+    expect_step(&b, 5, ACQUIRE, 3, E, 0, "later kind, core 5, 3E");
+    check_seen(&b, 1, 3, 9, "another pair");
+    expect_step(&b, 5, RELEASE, 2, 0, 0, "later kind, core 5, release 2");
+    expect_step(&b, 5, ACQUIRE, 2, TRY + E, 0, "later kind, core 5, try 2E");
+    check_seen(&b, 1, 2, 2, "after a try");
+    expect_step(&b, 6, HARD_ON, 0, 0, 0, "later kind, a hard on");
+    expect_step(&b, 6, ACQUIRE, 2, E, 0, "later kind, core 6, 2E");
+    expect_step(&b, 6, ACQUIRE, 1, E, 1, "later kind, core 6, 1E: 2 EN 1");
+    check_whole_slip(&b, slip, "later kind");
+    check_seen(&b, 1, 2, 2, "after the fault");
+    free_buffers(&b);
+}
+
+/* A try draws nothing, so its pair has no number until an acquire draws one. */
+static void test_seen_try(void)
+{
+    struct buffers b;
+
+    open_buffers(&b, 8, 0);
+    expect_step(&b, 0, ACQUIRE, 1, E, 0, "numbers and tries, 1E");
+    expect_step(&b, 0, ACQUIRE, 2, TRY + E, 0, "numbers and tries, try 2E");
+    check_seen(&b, 1, 2, 0, "a try");
+    expect_step(&b, 0, ACQUIRE, 1, TRY + R, 0, "numbers and tries, try 1R");
+    check_seen(&b, 1, 1, 0, "a try of its class");
+    check_seen(&b, 2, 1, 0, "a try over a try");
+    expect_step(&b, 0, RELEASE, 2, 0, 0, "numbers and tries, release 2");
+    expect_step(&b, 0, ACQUIRE, 2, E, 0, "numbers and tries, 2E");
+    check_seen(&b, 1, 2, 5, "an acquire after a try");
+    free_buffers(&b);
+}
+
+/* Refused records are not counted: numbers are those of accepted records. */
+static void test_seen_refused(void)
+{
+    static const uint8_t slip[] = { 2, 1, 2, 0, 2, 0, 0, 0,
+                                    2, 2, 0, 4, 0, 0, 0 };
+    struct buffers b;
+    unsigned i;
+
+    open_buffers(&b, 8, 0);
+    expect_step(&b, 0, ACQUIRE, 1, E, 0, "between refusals, 1E");
+    for (i = 0; i < 300; i++) {
+        expect_step(&b, 0, RELEASE, 2, 0, 5, "a refused release");
+        expect_step(&b, 9, RELEASE, 2, 0, 3, "a malformed record");
+        expect_step(&b, 0, ACQUIRE, 9, E, 4, "a refused acquire");
+        expect_step(&b, 0, EXIT_HARD, 0, 0, 6, "a refused event");
+    }
+    expect_step(&b, 0, ACQUIRE, 2, E, 0, "between refusals, 2E");
+    check_seen(&b, 1, 2, 2, "between refusals");
+    expect_step(&b, 1, ACQUIRE, 2, E, 0, "between refusals, core 1, 2E");
+    expect_step(&b, 1, RELEASE, 7, 0, 5, "between refusals, one more");
+    expect_step(&b, 1, ACQUIRE, 1, E, 1, "between refusals, core 1, 1E");
+    check_whole_slip(&b, slip, "between refusals");
+    free_buffers(&b);
+}
+
+/* A dependency by marks has number 0 in the slip, also where a lock dependency
+ * of its pair has one: at both levels, and of a class with itself. */
+static void test_seen_by_marks(void)
+{
+    static const uint8_t hard[] = { 2, 0, 1, 1, 0, 0, 0, 0,
+                                    1, 2, 0, 12, 0, 0, 0 };
+    static const uint8_t soft[] = { 2, 0, 1, 2, 0, 0, 0, 0,
+                                    1, 2, 0, 12, 0, 0, 0 };
+    static const uint8_t own[] = { 1, 3, 1, 1, 0, 0, 0, 0 };
+    struct buffers b;
+    unsigned level;
+
+    for (level = 0; level < 2; level++) {
+        unsigned off = level == 0 ? HARD_OFF : SOFT_OFF;
+        unsigned enter = level == 0 ? ENTER_HARD : ENTER_SOFT;
+
+        open_buffers(&b, 8, 0);
+        expect_step(&b, 0, enter, 0, 0, 0, "by marks, enter");
+        expect_step(&b, 0, ACQUIRE, 1, R, 0, "by marks, 1R in the handler");
+        expect_step(&b, 0, RELEASE, 1, 0, 0, "by marks, release 1");
+        expect_step(&b, 0, enter + 1, 0, 0, 0, "by marks, exit");
+        expect_step(&b, 0, ACQUIRE, 0, E, 0, "by marks, 0E");
+        expect_step(&b, 0, off, 0, 0, 0, "by marks, off");
+        expect_step(&b, 0, ACQUIRE, 1, E, 0, "by marks, 1E: 0 EN 1");
+        expect_step(&b, 0, RELEASE, 1, 0, 0, "by marks, release 1 again");
+        expect_step(&b, 0, RELEASE, 0, 0, 0, "by marks, release 0");
+        expect_step(&b, 1, off, 0, 0, 0, "by marks, core 1, off");
+        expect_step(&b, 1, ACQUIRE, 1, E, 0, "by marks, core 1, 1E");
+        expect_step(&b, 1, ACQUIRE, 0, E, 1, "by marks, core 1, 0E: 1 EN 0");
+        check_seen(&b, 0, 1, 7, "by marks");
+        check_whole_slip(&b, level == 0 ? hard : soft, "by marks");
+        free_buffers(&b);
+    }
+
+    open_buffers(&b, 8, 0);
+    expect_step(&b, 0, ENTER_HARD, 0, 0, 0, "by its marks, enter hard");
+    expect_step(&b, 0, ACQUIRE, 3, R, 0, "by its marks, 3R");
+    expect_step(&b, 0, RELEASE, 3, 0, 0, "by its marks, release 3");
+    expect_step(&b, 0, EXIT_HARD, 0, 0, 0, "by its marks, exit hard");
+    expect_step(&b, 0, ACQUIRE, 3, R, 0, "by its marks, task, 3R");
+    expect_step(&b, 0, ACQUIRE, 3, E, 1, "by its marks, 3E: 3 SN 3");
+    check_seen(&b, 3, 3, 6, "by its marks");
+    check_whole_slip(&b, own, "by its marks");
+    free_buffers(&b);
+}
+
+/* The record of the fault has its number in the slip; with one class, over
+ * several held locks, and where only some of its dependencies are new. */
+static void test_seen_of_the_fault(void)
+{
+    static const uint8_t one[] = { 1, 0, 2, 0, 2, 0, 0, 0 };
+    static const uint8_t two[] = { 2, 0, 2, 0, 2, 0, 0, 0,
+                                   1, 2, 0, 7, 0, 0, 0 };
+    static const uint8_t old[] = { 2, 0, 2, 0, 7, 0, 0, 0,
+                                   1, 4, 0, 2, 0, 0, 0 };
+    struct buffers b;
+
+    open_buffers(&b, 1, 0);
+    expect_step(&b, 0, ACQUIRE, 0, E, 0, "the fault, K = 1, 0E");
+    expect_step(&b, 0, ACQUIRE, 0, E, 1, "the fault, K = 1, 0E again");
+    check_whole_slip(&b, one, "the fault, K = 1");
+    free_buffers(&b);
+
+    open_buffers(&b, 3, 0);
+    expect_step(&b, 0, ACQUIRE, 0, E, 0, "the fault, 0E");
+    expect_step(&b, 0, ACQUIRE, 1, E, 0, "the fault, 1E: 0 EN 1");
+    expect_step(&b, 0, RELEASE, 1, 0, 0, "the fault, release 1");
+    expect_step(&b, 0, RELEASE, 0, 0, 0, "the fault, release 0");
+    expect_step(&b, 1, ACQUIRE, 1, E, 0, "the fault, core 1, 1E");
+    expect_step(&b, 1, ACQUIRE, 2, E, 0, "the fault, core 1, 2E");
+    expect_step(&b, 1, ACQUIRE, 0, E, 1, "the fault, core 1, 0E");
+    check_seen(&b, 2, 0, 7, "the fault, beside the cycle");
+    check_whole_slip(&b, two, "the fault");
+    free_buffers(&b);
+
+    /* 1 SR 0 closes the cycle only with 0 EN 1, which is drawn last. */
+    open_buffers(&b, 3, 0);
+    expect_step(&b, 0, ACQUIRE, 1, R, 0, "an old one, 1R");
+    expect_step(&b, 0, ACQUIRE, 0, R, 0, "an old one, 0R: 1 SR 0");
+    expect_step(&b, 0, RELEASE, 0, 0, 0, "an old one, release 0");
+    expect_step(&b, 0, RELEASE, 1, 0, 0, "an old one, release 1");
+    expect_step(&b, 7, SOFT_OFF, 0, 0, 0, "an old one, soft off");
+    expect_step(&b, 1, ACQUIRE, 0, E, 0, "an old one, core 1, 0E");
+    expect_step(&b, 1, ACQUIRE, 1, E, 1, "an old one, core 1, 1E: 0 EN 1");
+    check_whole_slip(&b, old, "an old one");
+    free_buffers(&b);
+}
+
+/* Numbers of two and of three bytes, by as many records. */
+static void test_seen_long(void)
+{
+    static const uint8_t slip[] = { 2, 0, 2, 0, 0x2E, 0x01, 0, 0,
+                                    1, 2, 0, 0x74, 0x11, 0x01, 0 };
+    struct buffers b;
+    unsigned i;
+
+    open_buffers(&b, 2, 0);
+    for (i = 0; i < 300; i += 2) {
+        expect_step(&b, 0, ACQUIRE, 1, E, 0, "a long log, 1E");
+        expect_step(&b, 0, RELEASE, 1, 0, 0, "a long log, release 1");
+    }
+    expect_step(&b, 0, ACQUIRE, 0, E, 0, "a long log, 0E");
+    expect_step(&b, 0, ACQUIRE, 1, E, 0, "a long log, 1E: 0 EN 1");
+    check_seen(&b, 0, 1, 302, "a long log");
+    for (i = 0; i < 69700; i += 2) {
+        expect_step(&b, 0, RELEASE, 1, 0, 0, "a long log, release 1 again");
+        expect_step(&b, 0, ACQUIRE, 1, E, 0, "a long log, 1E again");
+    }
+    check_count(&b, 70002, "a long log");
+    expect_step(&b, 1, ACQUIRE, 1, E, 0, "a long log, core 1, 1E");
+    expect_step(&b, 1, ACQUIRE, 0, E, 1, "a long log, core 1, 0E: 1 EN 0");
+    check_seen(&b, 0, 1, 302, "a long log, the fault");
+    check_seen(&b, 1, 0, 70004, "a long log, the fault");
+    check_whole_slip(&b, slip, "a long log");
+    free_buffers(&b);
+}
+
+/* On a desk from elsewhere: numbers that stand stay, and new ones go on from
+ * the count. */
+static void test_seen_from_elsewhere(void)
+{
+    struct buffers b;
+    size_t i;
+
+    for (i = 3; i < COUNTS; i++) {
+        open_buffers(&b, 8, 0);
+        put_kinds(&b, 1, 2, PLUNGEROWL_EN);
+        put_seen(&b, 1, 2, counts[i]);
+        put_kinds(&b, 1, 3, PLUNGEROWL_SR);
+        put_seen(&b, 1, 3, 1);
+        put_count(&b, counts[i]);
+        put_desk(&b, DEPTHS_AT, 1);
+        put_desk(&b, HELD_AT, 1);
+        expect_step(&b, 0, ACQUIRE, 2, R, 0, "from elsewhere, 2R");
+        check_seen(&b, 1, 2, counts[i], "from elsewhere, as the count");
+        put_count(&b, counts[i]);
+        expect_step(&b, 0, ACQUIRE, 3, E, 0, "from elsewhere, 3E");
+        check_seen(&b, 1, 3, 1, "from elsewhere, as the first");
+        check_seen(&b, 2, 3, counts[i] + 1, "from elsewhere, a new one");
+        free_buffers(&b);
+    }
+}
+
+/* Two cycles 0, 1 and 0, 2 of the same kinds and sources: the first is shown,
+ * whatever the numbers are. Compared byte by byte, or as numbers, they would
+ * say the other. */
+static void test_seen_not_compared(void)
+{
+    static const uint32_t numbers[][2] = { /* of 0 EN 1 and of 0 EN 2 */
+        { 2, 1 }, { 1, 2 }, { 256, 255 }, { 255, 256 }, { 257, 1 }, { 1, 257 },
+        { 65536, 2 }, { 2, 65536 }, { 65537, 65536 }, { 1 << 24, 65535 },
+        { 255, 1 << 24 }, { UINT32_MAX - 1, 1 }, { 7, 7 } };
+    static const uint8_t lowest[] = { 2, 0, 2, 0, 1, 2, 0 };
+    static const uint8_t least_kind[] = { 2, 0, 1, 0, 2, 2, 0 };
+    static const uint8_t least_source[] = { 2, 0, 2, 0, 2, 2, 0 };
+    static const uint8_t later[] = { 3, 0, 2, 0, 1, 2, 0, 2, 2, 0 };
+    struct buffers b;
+    size_t i;
+    unsigned shape;
+
+    for (i = 0; i < sizeof numbers / sizeof numbers[0]; i++) {
+        for (shape = 0; shape < 5; shape++) {
+            unsigned from = shape == 4 ? 1 : 0, low = from + 1;
+            uint32_t number = numbers[i][0], other = numbers[i][1];
+
+            open_buffers(&b, FEW, 0);
+            put_sheet(&b, from, low, shape == 3 ? 0 : PLUNGEROWL_EN);
+            put_sheet(&b, from, low + 1, shape == 2 ? PLUNGEROWL_ER
+                                                    : PLUNGEROWL_EN);
+            put_sheet(&b, low, 0, PLUNGEROWL_EN);
+            put_sheet(&b, low + 1, 0, PLUNGEROWL_EN);
+            if (shape == 4)
+                put_sheet(&b, 0, 1, PLUNGEROWL_EN);
+            put_count(&b, UINT32_MAX - 1);
+            if (shape == 1) { /* those of the way back */
+                put_seen(&b, 1, 0, number);
+                put_seen(&b, 2, 0, other);
+            } else if (shape == 3) { /* 0 EN 1 by marks, and so 0 */
+                put_desk(&b, MARKS_AT, 4);
+                put_desk(&b, MARKS_AT + 1, 1);
+                put_seen(&b, 0, 2, number);
+            } else if (shape == 2) { /* ER is drawn last */
+                put_seen(&b, 0, 1, other);
+                put_seen(&b, 0, 2, number);
+            } else {
+                put_seen(&b, from, low, number);
+                put_seen(&b, from, low + 1, other);
+            }
+            expect_step(&b, 7, HARD_ON, 0, 0, 1, "not compared");
+            check_slip(&b, shape == 2 ? least_kind : shape == 3 ? least_source
+                       : shape == 4 ? later : lowest, "not compared");
+            free_buffers(&b);
+        }
+    }
+}
+
+/* The same by a log: 0 EN 2 is older than 0 EN 1. */
+static void test_seen_older_not_shown(void)
+{
+    static const uint8_t slip[] = { 2, 0, 2, 0, 4, 0, 0, 0,
+                                    1, 2, 0, 9, 0, 0, 0 };
+    static struct log log;
+    struct buffers b;
+    struct feeding f;
+    size_t at;
+
+    log_header(&log, 8);
+    log_record(&log, 0, ACQUIRE, 0, E);
+    log_record(&log, 0, ACQUIRE, 2, E);
+    log_record(&log, 0, RELEASE, 2, 0);
+    log_record(&log, 0, ACQUIRE, 1, E);
+    log_record(&log, 0, RELEASE, 1, 0);
+    log_record(&log, 0, RELEASE, 0, 0);
+    log_record(&log, 1, ACQUIRE, 2, E);
+    log_record(&log, 1, ACQUIRE, 1, E);
+    log_record(&log, 1, ACQUIRE, 0, E);
+    open_buffers(&b, 8, 0);
+    for (at = HEADER_SIZE; at < log.size; at += RECORD_SIZE)
+        expect_bytes(&b, log.bytes + at, RECORD_SIZE,
+                     at + RECORD_SIZE == log.size, "the older");
+    check_seen(&b, 0, 2, 2, "the older");
+    check_seen(&b, 0, 1, 4, "the younger");
+    check_whole_slip(&b, slip, "the older");
+    free_buffers(&b);
+    start_feed(&f, 8, 0);
+    expect_feed(&f, log.bytes, log.size, 1, 9, "the older, fed");
+    check_whole_slip(&f.b, slip, "the older, fed");
+    free_feed(&f);
+}
+
+/* With buffers for more classes: bytes past those of K are not looked at and
+ * not changed, whatever they are. */
+static void test_seen_past(void)
+{
+    static const uint8_t past[] = { 0, 1, 15, 16, 90, 255 };
+    struct buffers b;
+    size_t i, j;
+
+    for (i = 0; i < sizeof past; i++) {
+        for (j = 0; j < sizeof past; j++) {
+            make_buffers(&b, 64, 0);
+            b.k = 3;
+            memset(b.sheet.bytes, past[i], b.sheet.size);
+            memset(b.want_sheet.bytes, past[i], b.sheet.size);
+            memset(b.seen.bytes, past[j], b.seen.size);
+            memset(b.want_seen.bytes, past[j], b.seen.size);
+            expect_open(&b, 3, 0, "past K x K, opening");
+            expect_step(&b, 0, ACQUIRE, 1, E, 0, "past K x K, 1E");
+            expect_step(&b, 0, ACQUIRE, 2, E, 0, "past K x K, 2E");
+            expect_reach(&b, 1, BIT(2), 1, "past K x K, ask");
+            expect_step(&b, 1, ACQUIRE, 2, E, 0, "past K x K, core 1, 2E");
+            expect_step(&b, 1, ACQUIRE, 1, E, 1, "past K x K, core 1, 1E");
+            check_seen(&b, 1, 2, 2, "past K x K");
+            check_seen(&b, 2, 1, 4, "past K x K");
+            free_buffers(&b);
+        }
+    }
+}
+
+/* --------------------------------------------------- fit and unfit numbers */
+
+/* The buffers are fit: a question is answered, and a step refuses a malformed
+ * record for what it is. */
+static void expect_fit(struct buffers *b, const char *what)
+{
+    uint64_t word = 0;
+    uint32_t count = 0;
+    unsigned is = plungerowl_ask(b->desk.bytes, b->desk.size,
+                                 b->sheet.bytes, b->sheet.size,
+                                 b->seen.bytes, b->seen.size, 0, &word, &count);
+
+    check(is == 0, "%s: ask answers %u, not 0", what, is);
+    expect_step(b, 255, 255, 255, 255, 3, what);
+}
+
+static void expect_number(struct buffers *b, unsigned from, unsigned to,
+                          uint32_t number, int fits, const char *what)
+{
+    put_seen(b, from, to, number);
+    if (fits)
+        expect_fit(b, what);
+    else
+        expect_unfit(b, what);
+}
+
+/* In every pair: kinds without a number, a number without kinds, a number above
+ * the count; and fit ones up to the count. */
+static void test_unfit_numbers(void)
+{
+    const uint32_t count = 0x04030201;
+    struct buffers b;
+    unsigned from, to, i, kinds;
+
+    open_buffers(&b, 8, 9);
+    put_count(&b, count);
+    expect_fit(&b, "no numbers");
+    for (from = 0; from < 8; from++) {
+        for (to = 0; to < 8; to++) {
+            expect_number(&b, from, to, 1, 0, "a number without kinds");
+            expect_number(&b, from, to, count, 0, "the count without kinds");
+            for (i = 0; i < 32; i++)
+                expect_number(&b, from, to, (uint32_t)1 << i, 0,
+                              "one bit without kinds");
+            for (kinds = 1; kinds < 16; kinds++) {
+                put_kinds(&b, from, to, kinds);
+                expect_number(&b, from, to, 0, 0, "kinds without a number");
+                expect_number(&b, from, to, 1, 1, "the first number");
+                expect_number(&b, from, to, count, 1, "as the count");
+                expect_number(&b, from, to, count + 1, 0, "above the count");
+            }
+            for (i = 0; i < 32; i++) {
+                uint32_t bit = (uint32_t)1 << i;
+
+                expect_number(&b, from, to, bit, bit <= count, "one bit");
+                expect_number(&b, from, to, count | bit, (count & bit) != 0,
+                              "a bit above the count");
+                expect_number(&b, from, to, count & ~bit, 1,
+                              "a bit less than the count");
+            }
+            expect_number(&b, from, to, UINT32_MAX, 0, "the highest number");
+            put_kinds(&b, from, to, 0);
+            put_seen(&b, from, to, 0);
+        }
+    }
+    expect_fit(&b, "no numbers again");
+    free_buffers(&b);
+}
+
+/* By every count: one less, as many, one more. */
+static void test_unfit_counts(void)
+{
+    struct buffers b;
+    size_t i;
+
+    open_buffers(&b, 2, 0);
+    for (i = 0; i < COUNTS; i++) {
+        uint32_t count = counts[i];
+
+        put_count(&b, count);
+        put_kinds(&b, 1, 0, 0);
+        expect_number(&b, 1, 0, 0, 1, "no dependency");
+        expect_number(&b, 1, 0, count + 1, 0, "above the count, no kinds");
+        put_kinds(&b, 1, 0, PLUNGEROWL_SR);
+        expect_number(&b, 1, 0, count + 1, 0, "above the count");
+        expect_number(&b, 1, 0, count, count > 0, "as the count");
+        expect_number(&b, 1, 0, count - 1, count > 1, "below the count");
+        expect_number(&b, 1, 0, UINT32_MAX, 0, "the highest number");
+    }
+    put_count(&b, UINT32_MAX);
+    expect_number(&b, 1, 0, UINT32_MAX, 1, "all as high as can be");
+    expect_number(&b, 1, 0, 0, 0, "the highest count, no number");
+    free_buffers(&b);
+}
+
+/* The pairs of K classes and no others, for every K: the last pair is looked
+ * at, and what would be the next is not. */
+static void test_unfit_last_pair(void)
+{
+    struct buffers b;
+    unsigned k, i;
+
+    for (k = 1; k <= 64; k++) {
+        size_t last = (size_t)k * k - 1;
+
+        open_buffers(&b, k, 8);
+        put_count(&b, 5);
+        for (i = 0; i < 2; i++) { /* in the last pair, behind it */
+            size_t pair = last + i;
+            uint8_t *kinds[] = { b.sheet.bytes + pair,
+                                 b.want_sheet.bytes + pair };
+            uint8_t *seen[] = { b.seen.bytes + 4 * pair,
+                                b.want_seen.bytes + 4 * pair };
+            static const struct {
+                uint8_t kinds;
+                uint32_t number;
+            } cases[] = { { 1, 0 }, { 0, 1 }, { 8, 6 }, { 15, UINT32_MAX } };
+            size_t c, side;
+
+            for (c = 0; c < sizeof cases / sizeof cases[0]; c++) {
+                for (side = 0; side < 2; side++) {
+                    *kinds[side] = cases[c].kinds;
+                    set_low_first(seen[side], cases[c].number);
+                }
+                if (i == 0)
+                    expect_unfit(&b, "the last pair");
+                else
+                    expect_fit(&b, "behind the last pair");
+            }
+            for (side = 0; side < 2; side++) {
+                *kinds[side] = PLUNGEROWL_SR;
+                set_low_first(seen[side], 5);
+            }
+            expect_fit(&b, "a fit pair");
+        }
+        free_buffers(&b);
+    }
+}
+
+/* ------------------------------------------------------ numbers in a feed */
+
+/* P2 in pieces of each size, in longer buffers: count, numbers and slip. */
+static void test_feed_seen(void)
+{
+    static const uint8_t slip[] = { 2, 1, 2, 0, 2, 0, 0, 0,
+                                    2, 2, 0, 6, 0, 0, 0 };
+    static struct log log;
+    struct feeding f;
+    size_t size, at;
+
+    make_p2(&log);
+    for (size = 1; size <= log.size; size++) {
+        start_feed(&f, 3, size % 3);
+        for (at = 0; at < log.size; at += size)
+            feed_or_end(&f, log.bytes + at, log.size - at < size
+                        ? log.size - at : size, "numbers in pieces");
+        expect_end(&f, 1, 6, "numbers in pieces, end");
+        check_count(&f.b, 6, "numbers in pieces");
+        check_seen(&f.b, 1, 2, 2, "numbers in pieces");
+        check_seen(&f.b, 2, 1, 6, "numbers in pieces");
+        check_whole_slip(&f.b, slip, "numbers in pieces");
+        free_feed(&f);
+    }
+
+    /* The feed's number is another than the desk's. */
+    start_feed(&f, 3, 0);
+    expect_open(&f.b, 3, 0, "another number, opening");
+    put_whole_feed(&f, 0, 1, 0, 1000);
+    expect_feed(&f, log.bytes + 4, log.size - 4, 1, 1006, "another number");
+    check_count(&f.b, 6, "another number");
+    check_whole_slip(&f.b, slip, "another number");
+    free_feed(&f);
+}
+
+/* 9 in a feed: the record is named, the answer stands and is repeated, also
+ * when somebody lowers the count. */
+static void test_feed_count_full(void)
+{
+    static const uint8_t stopped[FEED_SIZE] = { 9, 1, 0, 0, 0, 0, 0, 0, 3 };
+    static struct log log;
+    struct feeding f;
+
+    log_header(&log, 8);
+    log_record(&log, 0, ACQUIRE, 1, E);
+    log_record(&log, 0, ACQUIRE, 2, E);
+    log_record(&log, 0, RELEASE, 2, 0);
+    log_record(&log, 0, RELEASE, 1, 0);
+    log_loose(&log, 2);
+    start_feed(&f, 8, 4);
+    expect_feed(&f, log.bytes, 10, 0, 1, "full count, the first record");
+    put_count(&f.b, UINT32_MAX - 1);
+    expect_feed(&f, log.bytes + 10, log.size - 10, 9, 3, "full count, fed");
+    check_count(&f.b, UINT32_MAX, "full count, fed");
+    check_seen(&f.b, 1, 2, UINT32_MAX, "full count, fed");
+    check_feed(&f, stopped, "full count, fed");
+    expect_stopped(&f, 9, 3, "full count, fed");
+    put_count(&f.b, UINT32_MAX - 9);
+    put_seen(&f.b, 1, 2, 1);
+    expect_stopped(&f, 9, 3, "no longer full");
+    check_feed(&f, stopped, "no longer full");
+
+    /* Cut within the record; a malformed one is refused for that. */
+    start_again(&f);
+    expect_feed(&f, log.bytes, 12, 0, 1, "full count, part of a record");
+    put_count(&f.b, UINT32_MAX);
+    expect_feed(&f, log.bytes + 12, 3, 0, 1, "full count, more of it");
+    expect_feed(&f, log.bytes + 15, 1, 9, 2, "full count, its last byte");
+    expect_end(&f, 9, 2, "full count, end");
+    start_again(&f);
+    expect_feed(&f, log.bytes, 10, 0, 1, "full count, one record");
+    put_count(&f.b, UINT32_MAX);
+    expect_end(&f, 0, 1, "full count, end between records");
+    log_header(&log, 8);
+    log_record(&log, 9, ACQUIRE, 1, E);
+    expect_feed(&f, log.bytes + 4, 6, 3, 2, "full count, malformed");
+    free_feed(&f);
+}
+
 /* ------------------------------------------------------------------- main */
 
 /* A call gave each of these answers, and no other. */
@@ -4216,7 +5351,7 @@ static const struct test tests[] = {
     TEST(try_dependencies), TEST(try_crosswise), TEST(try_marks),
     TEST(try_in_handlers), TEST(try_over_hard_on), TEST(try_same_class),
     TEST(try_other_frame), TEST(try_release), TEST(try_full),
-    TEST(unfit_lengths), TEST(short_buffers), TEST(unfit_heads),
+    TEST(unfit_lengths), TEST(short_buffers), TEST(old_slip), TEST(unfit_heads),
     TEST(unfit_held), TEST(unfit_origins), TEST(unfit_frames),
     TEST(unfit_marks), TEST(fullest), TEST(unfit_sheet),
     TEST(ask_refused), TEST(ask_arrivals), TEST(ask_back), TEST(ask_marks),
@@ -4231,7 +5366,15 @@ static const struct test tests[] = {
     TEST(shown_ring), TEST(shown_ties), TEST(shown_by_any_record),
     TEST(shown_in_logs), TEST(shown_all_tried), TEST(shown_layers),
     TEST(shown_random_logs),
-    TEST(clashes), TEST(clashes_and_locks), TEST(clashes_of_two)
+    TEST(clashes), TEST(clashes_and_locks), TEST(clashes_of_two),
+    TEST(count), TEST(count_carries), TEST(count_full), TEST(count_full_fault),
+    TEST(count_order), TEST(seen_places), TEST(seen_by_one),
+    TEST(seen_later_kind), TEST(seen_try), TEST(seen_refused),
+    TEST(seen_by_marks), TEST(seen_of_the_fault), TEST(seen_long),
+    TEST(seen_from_elsewhere), TEST(seen_not_compared),
+    TEST(seen_older_not_shown), TEST(seen_past),
+    TEST(unfit_numbers), TEST(unfit_counts), TEST(unfit_last_pair),
+    TEST(feed_seen), TEST(feed_count_full)
 };
 
 /* Run the test of the name, or all for NULL; how many were run. */
@@ -4263,11 +5406,11 @@ int main(int argc, char **argv)
     if (name == NULL) {
         /* The answers from 0 on: x given, - not. */
         check_met("open", open_met, "x-x");
-        check_met("step", step_met, "xx-xxxxxx-xx");
+        check_met("step", step_met, "xx-xxxxxxxxx");
         check_met("ask", ask_met, "x---x------x");
         check_met("start", start_met, "x-x");
-        check_met("feed", feed_met, "xxxxxxxxx-xx");
-        check_met("end", end_met, "xxxxxxxxx-xx");
+        check_met("feed", feed_met, "xxxxxxxxxxxx");
+        check_met("end", end_met, "xxxxxxxxxxxx");
     }
     printf("selftest: %lu checks, %lu wrong\n", checks, failures);
     return failures == 0 ? 0 : 1;

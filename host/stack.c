@@ -81,6 +81,7 @@ struct input {
     uint8_t feed[PLUNGEROWL_FEED_SIZE];
     uint8_t desk[PLUNGEROWL_DESK_SIZE];
     uint8_t sheet[PLUNGEROWL_SHEET_SIZE(PLUNGEROWL_MAX_CLASSES)];
+    uint8_t seen[PLUNGEROWL_SEEN_SIZE(PLUNGEROWL_MAX_CLASSES)];
 };
 
 /* What the call on the other stack is given, and its answer. */
@@ -97,29 +98,33 @@ static uint8_t *caller_stack;
     (caller_stack = (uint8_t *)__builtin_frame_address(0) + 2 * sizeof(void *))
 
 static uint8_t empty_open(uint64_t classes, uint8_t *desk, size_t desk_len,
-                          uint8_t *sheet, size_t sheet_len)
+                          uint8_t *sheet, size_t sheet_len, uint8_t *seen,
+                          size_t seen_len)
 {
     (void)classes, (void)desk, (void)desk_len, (void)sheet, (void)sheet_len;
+    (void)seen, (void)seen_len;
     NOTE_CALLER();
     return 0;
 }
 
 static uint8_t empty_step(uint8_t *desk, size_t desk_len, uint8_t *sheet,
-                          size_t sheet_len, uint8_t *slip_, size_t slip_len,
+                          size_t sheet_len, uint8_t *seen, size_t seen_len,
+                          uint8_t *slip_, size_t slip_len,
                           const uint8_t *record, size_t record_len)
 {
-    (void)desk, (void)desk_len, (void)sheet, (void)sheet_len;
-    (void)slip_, (void)slip_len, (void)record, (void)record_len;
+    (void)desk, (void)desk_len, (void)sheet, (void)sheet_len, (void)seen;
+    (void)seen_len, (void)slip_, (void)slip_len, (void)record, (void)record_len;
     NOTE_CALLER();
     return 0;
 }
 
 static uint8_t empty_ask(const uint8_t *desk, size_t desk_len,
                          const uint8_t *sheet, size_t sheet_len,
+                         const uint8_t *seen, size_t seen_len,
                          uint64_t class_, uint64_t *word_, uint32_t *count_)
 {
     (void)desk, (void)desk_len, (void)sheet, (void)sheet_len;
-    (void)class_, (void)word_, (void)count_;
+    (void)seen, (void)seen_len, (void)class_, (void)word_, (void)count_;
     NOTE_CALLER();
     return 0;
 }
@@ -133,41 +138,46 @@ static uint8_t empty_start(uint8_t *feed, size_t feed_len)
 
 static uint8_t empty_feed(uint8_t *feed, size_t feed_len, uint8_t *desk,
                           size_t desk_len, uint8_t *sheet, size_t sheet_len,
-                          uint8_t *slip_, size_t slip_len,
-                          const uint8_t *piece, size_t piece_len,
-                          uint64_t *record)
+                          uint8_t *seen, size_t seen_len, uint8_t *slip_,
+                          size_t slip_len, const uint8_t *piece,
+                          size_t piece_len, uint64_t *record)
 {
     (void)feed, (void)feed_len, (void)desk, (void)desk_len, (void)sheet;
-    (void)sheet_len, (void)slip_, (void)slip_len, (void)piece, (void)piece_len;
-    (void)record;
+    (void)sheet_len, (void)seen, (void)seen_len, (void)slip_, (void)slip_len;
+    (void)piece, (void)piece_len, (void)record;
     NOTE_CALLER();
     return 0;
 }
 
 static uint8_t empty_end(uint8_t *feed, size_t feed_len, uint8_t *desk,
                          size_t desk_len, uint8_t *sheet, size_t sheet_len,
-                         uint8_t *slip_, size_t slip_len, uint64_t *record)
+                         uint8_t *seen, size_t seen_len, uint8_t *slip_,
+                         size_t slip_len, uint64_t *record)
 {
     (void)feed, (void)feed_len, (void)desk, (void)desk_len, (void)sheet;
-    (void)sheet_len, (void)slip_, (void)slip_len, (void)record;
+    (void)sheet_len, (void)seen, (void)seen_len, (void)slip_, (void)slip_len;
+    (void)record;
     NOTE_CALLER();
     return 0;
 }
 
 /* volatile: the compiler must call what they point to, as it points there. */
 static uint8_t (*volatile to_open)(uint64_t, uint8_t *, size_t, uint8_t *,
-                                   size_t);
+                                   size_t, uint8_t *, size_t);
 static uint8_t (*volatile to_step)(uint8_t *, size_t, uint8_t *, size_t,
-                                   uint8_t *, size_t, const uint8_t *, size_t);
+                                   uint8_t *, size_t, uint8_t *, size_t,
+                                   const uint8_t *, size_t);
 static uint8_t (*volatile to_ask)(const uint8_t *, size_t, const uint8_t *,
-                                  size_t, uint64_t, uint64_t *, uint32_t *);
+                                  size_t, const uint8_t *, size_t, uint64_t,
+                                  uint64_t *, uint32_t *);
 static uint8_t (*volatile to_start)(uint8_t *, size_t);
 static uint8_t (*volatile to_feed)(uint8_t *, size_t, uint8_t *, size_t,
                                    uint8_t *, size_t, uint8_t *, size_t,
-                                   const uint8_t *, size_t, uint64_t *);
+                                   uint8_t *, size_t, const uint8_t *, size_t,
+                                   uint64_t *);
 static uint8_t (*volatile to_end)(uint8_t *, size_t, uint8_t *, size_t,
                                   uint8_t *, size_t, uint8_t *, size_t,
-                                  uint64_t *);
+                                  uint8_t *, size_t, uint64_t *);
 
 static void point_to_library(void)
 {
@@ -192,19 +202,21 @@ static void point_to_empty(void)
 static void run_open(void)
 {
     answer = to_open(lent.k, lent.desk, sizeof lent.desk,
-                     lent.sheet, sizeof lent.sheet);
+                     lent.sheet, sizeof lent.sheet,
+                     lent.seen, sizeof lent.seen);
 }
 
 static void run_step(void)
 {
     answer = to_step(lent.desk, sizeof lent.desk, lent.sheet, sizeof lent.sheet,
-                     slip, sizeof slip, lent.record, sizeof lent.record);
+                     lent.seen, sizeof lent.seen, slip, sizeof slip,
+                     lent.record, sizeof lent.record);
 }
 
 static void run_ask(void)
 {
     answer = to_ask(lent.desk, sizeof lent.desk, lent.sheet, sizeof lent.sheet,
-                    lent.class_, &word, &count);
+                    lent.seen, sizeof lent.seen, lent.class_, &word, &count);
 }
 
 static void run_start(void)
@@ -215,21 +227,24 @@ static void run_start(void)
 static void run_feed(void)
 {
     answer = to_feed(lent.feed, sizeof lent.feed, lent.desk, sizeof lent.desk,
-                     lent.sheet, sizeof lent.sheet, slip, sizeof slip,
-                     lent.record, sizeof lent.record, &number);
+                     lent.sheet, sizeof lent.sheet, lent.seen, sizeof lent.seen,
+                     slip, sizeof slip, lent.record, sizeof lent.record,
+                     &number);
 }
 
 static void run_feed_last(void)
 {
     answer = to_feed(lent.feed, sizeof lent.feed, lent.desk, sizeof lent.desk,
-                     lent.sheet, sizeof lent.sheet, slip, sizeof slip,
-                     lent.record + PLUNGEROWL_MOST_LOOSE, 1, &number);
+                     lent.sheet, sizeof lent.sheet, lent.seen, sizeof lent.seen,
+                     slip, sizeof slip, lent.record + PLUNGEROWL_MOST_LOOSE, 1,
+                     &number);
 }
 
 static void run_end(void)
 {
     answer = to_end(lent.feed, sizeof lent.feed, lent.desk, sizeof lent.desk,
-                    lent.sheet, sizeof lent.sheet, slip, sizeof slip, &number);
+                    lent.sheet, sizeof lent.sheet, lent.seen, sizeof lent.seen,
+                    slip, sizeof slip, &number);
 }
 
 static void (*const runs[CALLS])(void) = {
@@ -439,6 +454,16 @@ static void put_marks(struct input *in, unsigned mark)
     memset(in->desk + PLUNGEROWL_MARKS_AT, (int)mark, in->k);
 }
 
+/* The numbers that the pairs with kinds need. */
+static void put_numbers(struct input *in)
+{
+    unsigned i;
+
+    in->desk[PLUNGEROWL_ACCEPTED_AT] = 1;
+    for (i = 0; i < in->k * in->k; i++)
+        in->seen[PLUNGEROWL_NUMBER_SIZE * i] = in->sheet[i] != 0;
+}
+
 static void put_random(struct input *in)
 {
     unsigned from, to, density = 1 + below(8);
@@ -514,6 +539,7 @@ static void make_input(struct input *in, unsigned k, unsigned shape)
                       put_order(in, 15); put_marks(in, 255); break;
     default: put_random(in); break;
     }
+    put_numbers(in);
     in->class_ = below(k);
 }
 

@@ -8,8 +8,10 @@
  * them to the calls:
  *
  *   desk   PLUNGEROWL_DESK_SIZE bytes       cores, held locks, usage marks,
- *                                           origin bits
+ *                                           origin bits, records accepted
  *   sheet  PLUNGEROWL_SHEET_SIZE(K) bytes   lock dependencies seen
+ *   seen   PLUNGEROWL_SEEN_SIZE(K) bytes    the second sheet: which record
+ *                                           first drew one between two classes
  *   slip   PLUNGEROWL_SLIP_SIZE(K) bytes    the cycle reported on a fault
  *   feed   PLUNGEROWL_FEED_SIZE bytes       how far a log in pieces has come
  *
@@ -18,7 +20,7 @@
  * There are two ways to hand over a log: record by record, by plungerowl_open
  * and plungerowl_step, or as it comes, in pieces that are cut anywhere, by
  * plungerowl_feed_start, plungerowl_feed and plungerowl_feed_end. The second
- * needs a feed, and K is then the header's: sheet and slip for
+ * needs a feed, and K is then the header's: sheet, seen and slip for
  * PLUNGEROWL_MAX_CLASSES do for every log. Questions may be asked in both.
  *
  * Rules for callers, for every call:
@@ -27,10 +29,10 @@
  *     readable, and writable where it is not const. Lengths longer than the
  *     stated sizes are allowed; bytes past the stated sizes are never touched.
  *   - No pointer is null, not even with length 0: pass any valid pointer.
- *   - The buffers of one call do not overlap: feed, desk, sheet, slip, the
- *     record of a step, the piece of a feed, and the numbers that are written:
- *     *word and *count, and *record of a feed. Pointers to numbers are aligned
- *     for their types; the others need no alignment.
+ *   - The buffers of one call do not overlap: feed, desk, sheet, seen, slip,
+ *     the record of a step, the piece of a feed, and the numbers that are
+ *     written: *word and *count, and *record of a feed. Pointers to numbers are
+ *     aligned for their types; the others need no alignment.
  *   - One caller at a time: while a call runs, nobody else reads or writes the
  *     buffers it was given. Calls on separate buffers do not affect each other.
  *   - The stack has room for the call: PLUNGEROWL_STACK_OPEN and so on, below.
@@ -65,7 +67,7 @@ extern "C" {
  * Where the parts of a desk begin; docs/FORMATS.md says what they have. A core
  * has three frames: task, soft handler, hard handler. The places for held locks
  * are PLUNGEROWL_MAX_DEPTH in each frame; every place has a byte and, further
- * on, an origin bit.
+ * on, an origin bit. The count of accepted records comes last, low byte first.
  */
 #define PLUNGEROWL_FRAMES (3 * PLUNGEROWL_CORES)
 #define PLUNGEROWL_PLACES (PLUNGEROWL_FRAMES * PLUNGEROWL_MAX_DEPTH)
@@ -75,11 +77,21 @@ extern "C" {
 #define PLUNGEROWL_MARKS_AT (PLUNGEROWL_DEPTHS_AT + PLUNGEROWL_FRAMES)
 #define PLUNGEROWL_HELD_AT (PLUNGEROWL_MARKS_AT + PLUNGEROWL_MAX_CLASSES)
 #define PLUNGEROWL_ORIGINS_AT (PLUNGEROWL_HELD_AT + PLUNGEROWL_PLACES)
+#define PLUNGEROWL_ACCEPTED_AT (PLUNGEROWL_ORIGINS_AT + PLUNGEROWL_PLACES / 8)
 
-/* Sizes in bytes; k is the number of classes, 1 to 64. A desk has 638. */
-#define PLUNGEROWL_DESK_SIZE (PLUNGEROWL_ORIGINS_AT + PLUNGEROWL_PLACES / 8)
+/*
+ * Sizes in bytes; k is the number of classes, 1 to 64. A number is that of an
+ * accepted record, low byte first. An entry is one dependency in a slip: class,
+ * kind, source, number. A desk has 642 bytes.
+ */
+#define PLUNGEROWL_NUMBER_SIZE 4
+#define PLUNGEROWL_ENTRY_SIZE (3 + PLUNGEROWL_NUMBER_SIZE)
+#define PLUNGEROWL_DESK_SIZE (PLUNGEROWL_ACCEPTED_AT + PLUNGEROWL_NUMBER_SIZE)
 #define PLUNGEROWL_SHEET_SIZE(k) ((size_t)(k) * (size_t)(k))
-#define PLUNGEROWL_SLIP_SIZE(k) ((size_t)1 + (size_t)3 * (size_t)(k))
+#define PLUNGEROWL_SEEN_SIZE(k) \
+    (PLUNGEROWL_NUMBER_SIZE * PLUNGEROWL_SHEET_SIZE(k))
+#define PLUNGEROWL_SLIP_SIZE(k) \
+    ((size_t)1 + PLUNGEROWL_ENTRY_SIZE * (size_t)(k))
 #define PLUNGEROWL_RECORD_SIZE 6
 
 /* A log is the header 4C 48 01 K and then records. */
@@ -112,7 +124,7 @@ extern "C" {
  * functions that call each other, with a class at most twice on the path and 64
  * bytes each time. The cycle in the slip is found without recursion.
  */
-#define PLUNGEROWL_STACK_OPEN 64
+#define PLUNGEROWL_STACK_OPEN 96
 #define PLUNGEROWL_STACK_STEP 13312
 #define PLUNGEROWL_STACK_ASK 4608
 #define PLUNGEROWL_STACK_FEED_START 16
@@ -122,9 +134,9 @@ extern "C" {
 /*
  * Answers. "frame" is the current frame of the core named by the record.
  * 0 and 1 accept the record; a header or record with another answer changes no
- * byte of desk, sheet and slip. There is no answer 9. plungerowl_feed and
- * plungerowl_feed_end give what opening and the steps inside them answered, so
- * what is said of step holds of them too.
+ * byte of desk, sheet, seen and slip. plungerowl_feed and plungerowl_feed_end
+ * give what opening and the steps inside them answered, so what is said of step
+ * holds of them too.
  */
 enum plungerowl_answer {
     /* open: opened; ask: answered; feed_start: started;
@@ -133,9 +145,9 @@ enum plungerowl_answer {
     PLUNGEROWL_OK = 0,
     /* step: accepted, a closed strong path exists; desk closed, slip written */
     PLUNGEROWL_FAULT = 1,
-    /* open: K not 1 to 64, desk under PLUNGEROWL_DESK_SIZE bytes, or sheet
-     * under K x K bytes; feed: so with the header's K, or another header than
-     * 4C 48 01 K; feed_end: the header is missing or short;
+    /* open: K not 1 to 64, desk under PLUNGEROWL_DESK_SIZE bytes, sheet under
+     * K x K bytes, or seen under 4 x K x K; feed: so with the header's K, or
+     * another header than 4C 48 01 K; feed_end: the header is missing or short;
      * feed_start: feed under PLUNGEROWL_FEED_SIZE bytes */
     PLUNGEROWL_BAD_OPENING = 2,
     /* step: not six bytes, wrong signature, core over 7, kind over 9, mode over
@@ -151,10 +163,13 @@ enum plungerowl_answer {
     PLUNGEROWL_STILL_HELD = 7,
     /* step: acquire, but the frame has PLUNGEROWL_MAX_DEPTH held locks */
     PLUNGEROWL_FRAME_FULL = 8,
+    /* step: a record that would be accepted, but the count of accepted records
+     * stands at 4,294,967,295 */
+    PLUNGEROWL_COUNT_FULL = 9,
     /* step: desk closed by an earlier fault */
     PLUNGEROWL_CLOSED = 10,
-    /* step: desk, sheet or slip unfit; ask: desk or sheet unfit; feed and
-     * feed_end: so in a step, or, with *record 0, feed unfit
+    /* step: desk, sheet, seen or slip unfit; ask: desk, sheet or seen unfit;
+     * feed and feed_end: so in a step, or, with *record 0, feed unfit
      * (too short, or contents that the fit tests of FORMATS.md rule out) */
     PLUNGEROWL_UNFIT = 11
 };
@@ -211,34 +226,45 @@ enum plungerowl_source {
 };
 
 /*
- * Open: prepare desk and sheet for a new log with the given number of classes.
+ * Open: prepare desk, sheet and seen for a new log with the given number of
+ * classes.
  *
  * Answers 0 or 2. On 0 desk byte 0 is K, the other PLUNGEROWL_DESK_SIZE - 1
- * desk bytes are zero and the K x K sheet bytes are zero. On 2 nothing is
- * changed. The slip is not needed here and needs no preparation.
+ * desk bytes are zero, and so are the K x K bytes of the sheet and the
+ * 4 x K x K of seen. On 2 nothing is changed. The slip is not needed here and
+ * needs no preparation.
  */
 uint8_t plungerowl_open(uint64_t classes,
                         uint8_t *desk, size_t desk_len,
-                        uint8_t *sheet, size_t sheet_len);
+                        uint8_t *sheet, size_t sheet_len,
+                        uint8_t *seen, size_t seen_len);
 
 /*
  * Step: validate one record of the log (without the log's header).
  *
- * Answers 0, 1, 3, 4, 5, 6, 7, 8, 10 or 11. Where several refusals apply, the
- * first in the order 11, 10, 3, 4, 6, 7, 5, 8 is given. A record may be any
- * bytes of any length.
+ * Answers 0, 1 or 3 to 11. Where several refusals apply, the first in the order
+ * 11, 10, 3, 4, 6, 7, 5, 8, 9 is given. A record may be any bytes of any
+ * length.
+ *
+ * Accepted records are numbered from 1 on, since opening; refused ones are not
+ * counted. seen has for two classes, from and to, the number of the record that
+ * first drew a lock dependency there, of whatever kind, in the four bytes from
+ * 4 x (from x K + to) on, low byte first; 0 for none.
  *
  * On 1 the slip has the cycle: n in byte 0 and then, for each of its n
- * dependencies, class, kind, source; its bytes past 1 + 3n are unchanged. Each
- * goes to the class of the next one, the last to the first; no class comes
- * twice, and the lowest comes first. Of all such cycles it is the one with the
- * fewest dependencies, and among those the least, with the bytes compared from
- * left to right: class, kind, source, class .. (as memcmp compares two slips).
- * It follows from the marks and the sheet that the record leaves, and from
- * nothing else.
+ * dependencies, an entry: class, kind, source, and the number that seen has for
+ * its two classes, low byte first, or 0 where the source is not a hold. The
+ * bytes past 1 + 7n are unchanged. Each dependency goes to the class of the
+ * next one, the last to the first; no class comes twice, and the lowest comes
+ * first. Of all such cycles it is the one with the fewest dependencies, and
+ * among those the least, with class, kind, source, class .. compared from left
+ * to right. The numbers are not compared, so memcmp of two slips does not tell.
+ * Which cycle it is follows from the marks and the sheet that the record
+ * leaves, and from nothing else.
  */
 uint8_t plungerowl_step(uint8_t *desk, size_t desk_len,
                         uint8_t *sheet, size_t sheet_len,
+                        uint8_t *seen, size_t seen_len,
                         uint8_t *slip, size_t slip_len,
                         const uint8_t *record, size_t record_len);
 
@@ -247,20 +273,22 @@ uint8_t plungerowl_step(uint8_t *desk, size_t desk_len,
  *
  * Answers 0, or 11 before 4. On 0 bit i of *word is set for each such class i
  * and *count is the number of bits set; on a refusal both are 0. A closed desk
- * may be asked. Desk and sheet are only read.
+ * may be asked. Desk, sheet and seen are only read, and of seen no more than
+ * whether it is fit.
  */
 uint8_t plungerowl_ask(const uint8_t *desk, size_t desk_len,
                        const uint8_t *sheet, size_t sheet_len,
+                       const uint8_t *seen, size_t seen_len,
                        uint64_t class_, uint64_t *word, uint32_t *count);
 
 /*
  * A log in pieces: start a feed, feed the pieces in order, end. Each call needs
- * the same four buffers as the last one left them. With any cuts the first
- * answer but 0, its number and the bytes of desk, sheet and slip are those of
- * opening with the header's K and a step for each record.
+ * the same five buffers as the last one left them. With any cuts the first
+ * answer but 0, its number and the bytes of desk, sheet, seen and slip are
+ * those of opening with the header's K and a step for each record.
  *
  * Start: a fresh feed, all PLUNGEROWL_FEED_SIZE bytes 0, before each log.
- * Answers 0, or 2 and nothing is changed. Desk, sheet and slip need no
+ * Answers 0, or 2 and nothing is changed. Desk, sheet, seen and slip need no
  * preparation.
  */
 uint8_t plungerowl_feed_start(uint8_t *feed, size_t feed_len);
@@ -268,11 +296,11 @@ uint8_t plungerowl_feed_start(uint8_t *feed, size_t feed_len);
 /*
  * Feed: take the next piece of the log, of any length, also 0.
  *
- * Answers 0 to 8, 10 or 11. The header and each record get their answer when
- * they are complete and not before: the header opens desk and sheet, a record
- * is a step. At the first answer but 0 the feed stops: what follows in the
- * piece is not looked at, and every later call repeats the answer and its
- * number and changes nothing.
+ * Answers 0 to 11. The header and each record get their answer when they are
+ * complete and not before: the header opens desk, sheet and seen, a record is a
+ * step. At the first answer but 0 the feed stops: what follows in the piece is
+ * not looked at, and every later call repeats the answer and its number and
+ * changes nothing.
  *
  * *record is always written: with answer 0 how many records were validated so
  * far, else the number of the record that got the answer, where the first is 1
@@ -282,6 +310,7 @@ uint8_t plungerowl_feed_start(uint8_t *feed, size_t feed_len);
 uint8_t plungerowl_feed(uint8_t *feed, size_t feed_len,
                         uint8_t *desk, size_t desk_len,
                         uint8_t *sheet, size_t sheet_len,
+                        uint8_t *seen, size_t seen_len,
                         uint8_t *slip, size_t slip_len,
                         const uint8_t *piece, size_t piece_len,
                         uint64_t *record);
@@ -293,11 +322,12 @@ uint8_t plungerowl_feed(uint8_t *feed, size_t feed_len,
  * of a record are a step with a short record: 11, 10 or else 3, with the number
  * of the next record. Both stop the feed. Otherwise as plungerowl_feed with an
  * empty piece: with answer 0 the log may go on, so the call may come between
- * any two records. Desk, sheet and slip are never changed here.
+ * any two records. Desk, sheet, seen and slip are never changed here.
  */
 uint8_t plungerowl_feed_end(uint8_t *feed, size_t feed_len,
                             uint8_t *desk, size_t desk_len,
                             uint8_t *sheet, size_t sheet_len,
+                            uint8_t *seen, size_t seen_len,
                             uint8_t *slip, size_t slip_len,
                             uint64_t *record);
 

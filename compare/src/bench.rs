@@ -4,8 +4,9 @@
 //! not be, or the other way round.
 
 use crate::feeds;
-use crate::gen::{clean_style, try_style, Shadow, Style};
+use crate::gen::{clean_style, try_style, Buffers, Style};
 use crate::judges::{library, Feed};
+use crate::numbers;
 use crate::rng::Rng;
 use crate::run::Rec;
 use crate::fast;
@@ -13,16 +14,16 @@ use reference::{DEEPEST, DEPTHS, FEED, HOLDS, MARKS, STATES};
 use std::hint::black_box;
 use std::time::Instant;
 
-type StepFn = fn(&mut [u8], &mut [u8], &mut [u8], &[u8]) -> u8;
-type AskFn = fn(&[u8], &[u8], u64, &mut u64, &mut u32) -> u8;
+type StepFn = fn(&mut [u8], &mut [u8], &mut [u8], &mut [u8], &[u8]) -> u8;
+type AskFn = fn(&[u8], &[u8], &[u8], u64, &mut u64, &mut u32) -> u8;
 
 const ROUNDS: usize = 15;
 
 /// A clean drawing: arrows only upwards, unsafe marks below and safe marks above.
 /// Sparse: each class to the next, no marks. Dense: each class to all higher ones by
 /// every kind, every mark on its half; three full frames.
-fn drawing(k: usize, dense: bool) -> Shadow {
-    let mut s = Shadow::opened(k);
+fn drawing(k: usize, dense: bool) -> Buffers {
+    let mut s = Buffers::opened(k);
     for from in 0..k {
         for to in from + 1..k {
             if dense {
@@ -50,16 +51,23 @@ fn drawing(k: usize, dense: bool) -> Shadow {
             }
         }
     }
+    numbers::usual(&mut s);
     s
 }
 
+/// A step in the buffers.
+fn on(step: StepFn, s: &mut Buffers, record: &Rec) -> u8 {
+    step(black_box(&mut s.desk), black_box(&mut s.sheet), black_box(&mut s.seen), &mut s.slip, record.slice())
+}
+
 /// Drawings of 64 classes with a cycle: from, to, kinds.
-fn faults() -> Vec<(&'static str, Shadow)> {
+fn faults() -> Vec<(&'static str, Buffers)> {
     let drawn = |kinds: &dyn Fn(usize, usize) -> u8| {
-        let mut s = Shadow::opened(64);
+        let mut s = Buffers::opened(64);
         for (at, byte) in s.sheet.iter_mut().enumerate() {
             *byte = kinds(at / 64, at % 64);
         }
+        numbers::usual(&mut s);
         s
     };
     let on = |there: bool, kind: u8| if there { kind } else { 0 };
@@ -99,9 +107,9 @@ fn fault_rows() -> bool {
         let time = |step: StepFn, left: &mut Vec<u8>| {
             let mut s = drawing.clone();
             let started = Instant::now();
-            let answer = step(black_box(&mut s.desk), black_box(&mut s.sheet), &mut s.slip, record.slice());
+            let answer = on(step, &mut s, &record);
             let t = started.elapsed().as_secs_f64();
-            *left = [vec![answer], s.desk, s.sheet, s.slip].concat();
+            *left = [vec![answer], s.desk, s.sheet, s.seen, s.slip].concat();
             t
         };
         let [a, b] = &mut left;
@@ -119,7 +127,7 @@ fn fault_rows() -> bool {
 
 /// A clean drawing as above, or the same with its classes the other way round so that arrows go downwards; and a record
 /// whose mark makes a clash of the highest class.
-fn clash(k: usize, dense: bool, up: bool) -> (Shadow, Rec) {
+fn clash(k: usize, dense: bool, up: bool) -> (Buffers, Rec) {
     let mut s = drawing(k, dense);
     let top = MARKS + k - 1;
     if up {
@@ -128,6 +136,7 @@ fn clash(k: usize, dense: bool, up: bool) -> (Shadow, Rec) {
     } else {
         // Unsafe above; a take in a hard handler makes it safe.
         s.sheet.reverse();
+        numbers::usual(&mut s);
         s.desk[MARKS..MARKS + k].reverse();
         s.desk[top] |= 68;
         s.desk[STATES + 4] = 6;
@@ -148,10 +157,10 @@ fn clash_rows() -> bool {
                 let mut sum = 0;
                 let started = Instant::now();
                 for s in &mut copies {
-                    sum += step(black_box(&mut s.desk), black_box(&mut s.sheet), &mut s.slip, record.slice());
+                    sum += on(step, s, &record);
                 }
                 let t = started.elapsed().as_secs_f64();
-                *left = copies.iter().fold(vec![sum], |all, s| [&all[..], &s.desk, &s.sheet, &s.slip].concat());
+                *left = copies.iter().fold(vec![sum], |all, s| [&all[..], &s.desk, &s.sheet, &s.seen, &s.slip].concat());
                 t
             };
             let [a, b] = &mut left;
@@ -183,25 +192,25 @@ fn best(mut a: impl FnMut() -> f64, mut b: impl FnMut() -> f64, rounds: usize) -
 fn feed_rows(k: usize, log: &[Rec], what: &str) -> bool {
     let bytes = feeds::log_of(k as u8, log);
     let feed = |feed: Feed, size: usize, left: &mut Vec<u8>| {
-        let mut s = Shadow::opened(k);
+        let mut s = Buffers::opened(k);
         let (mut own, mut sum, mut number) = ([0; FEED], 0u64, 0);
         let started = Instant::now();
         for piece in bytes.chunks(size) {
-            sum += u64::from(feed(&mut own, &mut s.desk, &mut s.sheet, &mut s.slip, piece, &mut number));
+            sum += u64::from(feed(&mut own, &mut s.desk, &mut s.sheet, &mut s.seen, &mut s.slip, piece, &mut number));
         }
         let t = started.elapsed().as_secs_f64();
-        *left = [s.desk, s.sheet, vec![sum.min(255) as u8, u8::from(number == log.len() as u64)]].concat();
+        *left = [s.desk, s.sheet, s.seen, vec![sum.min(255) as u8, u8::from(number == log.len() as u64)]].concat();
         t
     };
     let steps = |step: StepFn, left: &mut Vec<u8>| {
-        let mut s = Shadow::opened(k);
+        let mut s = Buffers::opened(k);
         let mut sum = 0u64;
         let started = Instant::now();
         for record in log {
-            sum += u64::from(step(&mut s.desk, &mut s.sheet, &mut s.slip, record.slice()));
+            sum += u64::from(on(step, &mut s, record));
         }
         let t = started.elapsed().as_secs_f64();
-        *left = [s.desk, s.sheet, vec![sum.min(255) as u8, 1]].concat();
+        *left = [s.desk, s.sheet, s.seen, vec![sum.min(255) as u8, 1]].concat();
         t
     };
     let (mut best, mut left) = ([f64::MAX; 6], [const { Vec::new() }; 6]);
@@ -251,10 +260,10 @@ pub fn run() -> bool {
                 let mut sum = 0u64;
                 let started = Instant::now();
                 for i in 0..n {
-                    sum += u64::from(step(black_box(&mut s.desk), black_box(&mut s.sheet), &mut s.slip, pair[i % 2].slice()));
+                    sum += u64::from(on(step, &mut s, &pair[i % 2]));
                 }
                 let t = started.elapsed().as_secs_f64();
-                *result = sum + s.sheet.iter().chain(&s.desk).fold(0, |a, &b| a * 33 % 1_000_003 + u64::from(b));
+                *result = sum + s.sheet.iter().chain(&s.desk).chain(&s.seen).fold(0, |a, &b| a * 33 % 1_000_003 + u64::from(b));
                 if sum != 0 {
                     *result = u64::MAX;
                 }
@@ -285,7 +294,8 @@ pub fn run() -> bool {
                 let started = Instant::now();
                 for i in 0..n {
                     let (mut word, mut count) = (0, 0);
-                    sum += u64::from(ask(black_box(&s.desk), black_box(&s.sheet), (i % k) as u64, &mut word, &mut count)) << 40;
+                    let (desk, sheet, seen) = (black_box(&s.desk), black_box(&s.sheet), black_box(&s.seen));
+                    sum += u64::from(ask(desk, sheet, seen, (i % k) as u64, &mut word, &mut count)) << 40;
                     sum = sum.wrapping_add(word ^ u64::from(count));
                 }
                 let t = started.elapsed().as_secs_f64();
@@ -307,7 +317,7 @@ pub fn run() -> bool {
         let n = 200_000;
         let rng = &mut Rng::new(9);
         let style = style(k);
-        let mut shadow = Shadow::opened(k);
+        let mut shadow = Buffers::opened(k);
         let mut log = Vec::with_capacity(n);
         while log.len() < n {
             let (record, answer) = shadow.next(rng, &style);
@@ -323,14 +333,14 @@ pub fn run() -> bool {
         let arrows = shadow.sheet.iter().map(|b| b.count_ones()).sum::<u32>();
         let mut ends = [Vec::new(), Vec::new()];
         let time = |step: StepFn, end: &mut Vec<u8>| {
-            let mut s = Shadow::opened(k);
+            let mut s = Buffers::opened(k);
             let mut sum = 0u64;
             let started = Instant::now();
             for r in &log {
-                sum += u64::from(step(&mut s.desk, &mut s.sheet, &mut s.slip, r.slice()));
+                sum += u64::from(on(step, &mut s, r));
             }
             let t = started.elapsed().as_secs_f64();
-            *end = [s.desk, s.sheet, vec![sum.min(255) as u8]].concat();
+            *end = [s.desk, s.sheet, s.seen, vec![sum.min(255) as u8]].concat();
             t
         };
         let [e0, e1] = &mut ends;

@@ -1,7 +1,9 @@
 //! Demand 3: one claim about two lists of records, the second being the first with records put in that name no core of
-//! the first. It is told from the answers and from each list's own drawing, not from another judge.
+//! the first. It is told from the answers and from each list's own drawing, not from another judge. It says nothing of the
+//! count and of first-seen numbers, which are others in the two lists; each list's are held to its own records alone (see
+//! src/run.rs).
 
-use crate::drawing;
+use crate::drawing::Drawing;
 use crate::run::Rec;
 
 /// The parts of the claim. The second says all of the first and more; the first stands before it so that it is named.
@@ -13,17 +15,24 @@ pub const PARTS: [&str; 5] = [
     "a closed strong path only with a fault",
 ];
 
-/// A list as it was run: records, their answers, and their places in the second list.
+/// A list as it was run: records, their answers, and their places in the second list; its drawing, and where that first has
+/// a closed strong path.
 pub struct Run<'a> {
     pub name: &'static str,
     pub records: Vec<&'a Rec>,
     pub answers: &'a [u8],
     pub places: Vec<usize>,
+    pub drawing: Drawing,
+    pub drawn: Option<usize>,
 }
 
 impl Run<'_> {
     pub fn fault(&self) -> Option<usize> {
         self.answers.iter().position(|&a| a == 1)
+    }
+    /// Demand 3 holds "if neither run meets 9".
+    fn meets_9(&self) -> bool {
+        self.answers.contains(&9)
     }
 }
 
@@ -34,13 +43,15 @@ pub type Broken = (&'static str, usize, String);
 pub fn applies(first: &Run, second: &Run) -> bool {
     let named: Vec<u8> = first.records.iter().filter_map(|r| r.names()).collect();
     let put_in = second.records.iter().enumerate().filter(|(at, _)| !first.places.contains(at));
-    first.records.iter().zip(&first.places).all(|(r, &at)| *r == second.records[at])
+    !first.meets_9()
+        && !second.meets_9()
+        && first.records.iter().zip(&first.places).all(|(r, &at)| *r == second.records[at])
         && first.places.windows(2).all(|w| w[0] < w[1])
         && put_in.filter_map(|(_, r)| r.names()).all(|core| !named.contains(&core))
 }
 
 /// The first part that is broken, in the order of PARTS.
-pub fn broken(k: usize, first: &Run, second: &Run) -> Option<Broken> {
+pub fn broken(first: &Run, second: &Run) -> Option<Broken> {
     // Whether an event at this place comes too late, or never, for one at that place.
     let later = |event: Option<usize>, at: usize| event.is_none_or(|e| e > at);
     let (fault, mut found) = (second.fault(), Vec::new());
@@ -64,7 +75,7 @@ pub fn broken(k: usize, first: &Run, second: &Run) -> Option<Broken> {
                 found.push((PARTS[2], run.places[at], format!("{answer} {side} a fault in the {} list", run.name)));
             }
         }
-        let drawn = drawing::first_closed(k, run.records.iter().copied());
+        let drawn = run.drawn;
         if let Some(f) = fault.filter(|&f| later(drawn, f)) {
             found.push((PARTS[3], run.places[f], format!("a fault in the {} list without one", run.name)));
         }

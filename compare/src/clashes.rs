@@ -3,11 +3,12 @@
 //! here from the documents; no judge is asked.
 
 use crate::drawing::{FRAME, NEXT, X};
-use crate::gen::{any_buffers, case, may_hold, push, Kind};
+use crate::gen::{any_buffers, case, may_hold, push, Buffers, Kind};
+use crate::numbers;
 use crate::rng::Rng;
 use crate::run::{Call, Case, Meant, Rec};
 use crate::ties::{kinds, Sketch, EN, ER, SN, SR};
-use reference::{DEEPEST, DESK, MARKS, STATES};
+use reference::{DEEPEST, MARKS, STATES};
 use std::ops::Range;
 
 // ----------------------------------------------------------------------- marks
@@ -49,13 +50,20 @@ fn any_marks(rng: &mut Rng) -> u8 {
     if rng.mille(400) { rng.pick(&SOME) } else { rng.pick(&fit_marks().collect::<Vec<_>>()) }
 }
 
+/// A dependency in the slip, with the usual numbers.
+fn entry(s: &Sketch, from: usize, to: usize, kind: u8, source: u8) -> Vec<u8> {
+    let number = if source == 0 { numbers::usual_number(from * s.k + to) } else { 0 };
+    numbers::entry(from as u8, kind, source, number)
+}
+
 /// How the slip begins with the least cycle of one dependency, by lock or interrupt; None where there is no such cycle.
 fn of_one(s: &Sketch) -> Option<Vec<u8>> {
     (0..s.k).find_map(|class| {
         let own = s.sheet[class * s.k + class];
         let lock = [ER, EN, SN].into_iter().find(|kind| own & kind != 0).map(|kind| (kind, 0));
         let by_marks = by_level(s.marks[class]).into_iter().flatten();
-        lock.into_iter().chain(by_marks).min().map(|(kind, source)| vec![1, class as u8, kind, source])
+        let least = lock.into_iter().chain(by_marks).min();
+        least.map(|(kind, source)| [vec![1], entry(s, class, class, kind, source)].concat())
     })
 }
 
@@ -150,7 +158,7 @@ fn nothing(turn: usize, k: usize, desk: &mut [u8]) -> Rec {
 }
 
 /// A record that is refused with this number on a core in a task with all off, and what it needs on the desk.
-fn refused(answer: u8, core: usize, desk: &mut [u8]) -> Rec {
+pub fn refused(answer: u8, core: usize, desk: &mut [u8]) -> Rec {
     let named = core as u8;
     match answer {
         3 => Rec::new(named, 0, 0, 6),
@@ -219,19 +227,20 @@ fn any(rng: &mut Rng) -> (Sketch, usize) {
 
 /// Such a drawing on a desk in buffers full of anything, and an accepted record: one that marks and draws nothing, or one
 /// that sets the last marks.
-pub fn with_record(rng: &mut Rng) -> ((Vec<u8>, Vec<u8>, Vec<u8>), Rec) {
+pub fn with_record(rng: &mut Rng) -> (Buffers, Rec) {
     let (s, class) = any(rng);
-    let (mut desk, mut sheet, slip) = any_buffers(rng, s.k);
-    desk[..DESK].copy_from_slice(&s.desk().0);
-    sheet[..s.k * s.k].copy_from_slice(&s.sheet);
+    let mut buffers = any_buffers(rng, s.k);
+    s.fill(&mut buffers);
+    numbers::scatter(rng, &mut buffers);
+    let desk = &mut buffers.desk;
     let ways = match rng.under(5) {
         0 | 1 => Vec::new(),
         2 => last_marks(s.marks[class], 0..1),
         _ => last_marks(s.marks[class], 1..10),
     };
     if ways.is_empty() {
-        let record = nothing(rng.under(1000), s.k, &mut desk);
-        return ((desk, sheet, slip), record);
+        let record = nothing(rng.under(1000), s.k, desk);
+        return (buffers, record);
     }
     // Each kind of record as often.
     let mut kinds: Vec<u8> = ways.iter().map(|(way, _)| way.kind).collect();
@@ -239,15 +248,15 @@ pub fn with_record(rng: &mut Rng) -> ((Vec<u8>, Vec<u8>, Vec<u8>), Rec) {
     let kind = rng.pick(&kinds);
     let (way, before) = rng.pick(&ways.into_iter().filter(|(way, _)| way.kind == kind).collect::<Vec<_>>());
     desk[MARKS + class] = before;
-    let record = way.record(rng.under(8), class, &mut desk);
-    ((desk, sheet, slip), record)
+    let record = way.record(rng.under(8), class, desk);
+    (buffers, record)
 }
 
 /// One step; perhaps a refused one before it, a question or a step after it, or the desk is closed.
 fn on_desk(rng: &mut Rng) -> Case {
     let (mut buffers, record) = with_record(rng);
-    let desk = &mut buffers.0;
-    let k = usize::from(desk[0]);
+    let k = buffers.k();
+    let desk = &mut buffers.desk;
     let mut calls = vec![Call::Step(record)];
     if record.names() != Some(7) && rng.mille(300) {
         calls.insert(0, Call::Step(refused(rng.between(3, 8) as u8, 7, desk)));
@@ -335,9 +344,11 @@ const CLEAN: Option<Vec<u8>> = Some(Vec::new());
 /// class alone is a cycle this slip, if it is known.
 fn meant(s: &Sketch, slip: Option<Vec<u8>>, desk: Vec<u8>, records: &[Rec], before: &[u8]) -> Case {
     let slip = of_one(s).or(slip);
-    let meant = slip.map(|slip| Meant { answers: [before, &[u8::from(!slip.is_empty())]].concat(), slip });
+    let meant = slip.map(|slip| Meant { answers: [before, &[u8::from(!slip.is_empty())]].concat(), slip, numbers: None });
     let calls = records.iter().map(|record| Call::Step(*record)).collect();
-    Case { meant, ..case((desk, s.sheet.clone(), vec![7; 1 + 3 * s.k]), calls) }
+    let mut buffers = Buffers { desk, ..s.buffers() };
+    buffers.slip.fill(7);
+    Case { meant, ..case(buffers, calls) }
 }
 
 /// The cases, until one is answered with false.
@@ -378,7 +389,7 @@ impl Fixed<'_> {
     /// The drawing stands, and a record marks and draws nothing.
     fn stands(&mut self, name: &'static str, s: &Sketch, slip: Option<Vec<u8>>) -> Option<()> {
         self.turn += 1;
-        let mut desk = s.desk().0;
+        let mut desk = s.buffers().desk;
         let record = nothing(self.turn, s.k, &mut desk);
         self.put(name, meant(s, slip, desk, &[record], &[]))
     }
@@ -399,7 +410,7 @@ impl Fixed<'_> {
                     for ways in ways.iter().take(of_these).filter(|ways| !ways.is_empty()) {
                         // In each space another way.
                         let (way, before) = ways[(spaces + usize::from(*marks)) % ways.len()];
-                        let mut desk = s.desk().0;
+                        let mut desk = s.buffers().desk;
                         desk[MARKS + class] = before;
                         let record = way.record(usize::from(*marks) % 8, class, &mut desk);
                         self.put(BY_RECORD, meant(&s, CLEAN, desk, &[record], &[]))?;
@@ -416,7 +427,7 @@ impl Fixed<'_> {
             let mut s = Sketch::new(2);
             s.marks[turn % 2] = marks;
             for closed in [false, true] {
-                let mut desk = s.desk().0;
+                let mut desk = s.buffers().desk;
                 let answers = [3, 4, 5, 6, 7 + turn as u8 % 2];
                 let mut records = answers.map(|answer| refused(answer, if answer < 7 { 7 } else { 6 }, &mut desk)).to_vec();
                 records.push(nothing(turn, 2, &mut desk));
@@ -425,7 +436,7 @@ impl Fixed<'_> {
                 if closed {
                     // All but the malformed one.
                     case.calls.remove(0);
-                    case.meant = Some(Meant { answers: vec![10; 5], slip: Vec::new() });
+                    case.meant = Some(Meant { answers: vec![10; 5], ..Meant::default() });
                 }
                 self.put(REFUSED, case)?;
             }
@@ -469,7 +480,7 @@ impl Fixed<'_> {
                 };
                 // Without other marks it is known whether the two are a cycle.
                 let strong = |one: u8, next: u8| one == EN || one == SN || next < SR;
-                let two = vec![2, low as u8, kind, source, high as u8, back, 0];
+                let two = [vec![2], entry(&s, low, high, kind, source), entry(&s, high, low, back, 0)].concat();
                 let slip = (marks == 0).then(|| if strong(kind, back) && strong(back, kind) { two } else { Vec::new() });
                 self.stands(BESIDE_TWO, &s, slip)?;
             }

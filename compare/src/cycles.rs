@@ -1,6 +1,7 @@
 //! The cycle that a slip shows, and what wrong choices among the cycles would show instead: for the sights. No judge is
 //! asked, and no code is shared with one.
 
+use crate::numbers;
 use reference::MARKS;
 
 /// A dependency as a slip shows it: class, kind (1, 2, 4, 8), source (0 hold, 1 hard, 2 soft).
@@ -24,12 +25,16 @@ pub enum Choice {
     ClosedByN,
     /// Among those also that are not strong at the closing joint.
     ClosingIgnored,
+    /// The seven bytes that the slip has, from left to right.
+    NumberBytes,
+    /// The number after the source.
+    NumberValues,
     Greatest,
 }
 
 impl Choice {
     /// What is compared of a dependency.
-    fn key(self, class: usize, kind: usize, source: usize, next: usize) -> u32 {
+    fn key(self, class: usize, kind: usize, source: usize, next: usize, number: u32) -> u64 {
         let parts = match self {
             Choice::NextBeforeKind => [class, next, kind, source],
             Choice::NextBeforeSource => [class, kind, next, source],
@@ -38,8 +43,13 @@ impl Choice {
             Choice::SourcesBackwards => [class, kind, 2 - source, 0],
             _ => [class, kind, source, 0],
         };
-        let key = parts.iter().fold(0, |key, &part| key << 6 | part as u32);
-        if self == Choice::Greatest { !key } else { key }
+        let key = parts.iter().fold(0, |key, &part| key << 6 | part as u64) << 32;
+        match self {
+            Choice::Greatest => !key,
+            Choice::NumberBytes => key | u64::from(number.swap_bytes()),
+            Choice::NumberValues => key | u64::from(number),
+            _ => key,
+        }
     }
 }
 
@@ -58,11 +68,14 @@ fn members(mut set: Set) -> impl Iterator<Item = usize> {
 pub struct Drawing {
     leads: [[[u64; 3]; 4]; 64],
     next: [Set; 128],
+    k: usize,
+    /// The number of each pair.
+    numbers: Vec<u32>,
 }
 
 impl Drawing {
-    /// Of a fit desk and sheet.
-    pub fn of(desk: &[u8], sheet: &[u8]) -> Drawing {
+    /// Of a fit desk and its sheets.
+    pub fn of(desk: &[u8], sheet: &[u8], seen: &[u8]) -> Drawing {
         let k = usize::from(desk[0]);
         let marks = &desk[MARKS..MARKS + k];
         let mut safe = [[0u64; 2]; 2];
@@ -72,7 +85,8 @@ impl Drawing {
                 safe[1] |= u64::from(m >> (4 * level + 1) & 1) << class;
             }
         }
-        let mut drawing = Drawing { leads: [[[0; 3]; 4]; 64], next: [0; 128] };
+        let numbers = (0..k * k).map(|pair| numbers::number(seen, pair)).collect();
+        let mut drawing = Drawing { leads: [[[0; 3]; 4]; 64], next: [0; 128], k, numbers };
         for (from, row) in sheet[..k * k].chunks_exact(k).enumerate() {
             let leads = &mut drawing.leads[from];
             for (to, kinds) in row.iter().enumerate().filter(|(_, kinds)| **kinds != 0) {
@@ -137,7 +151,7 @@ impl Drawing {
     }
 
     /// The walk that a choice takes, with its keys.
-    fn walk(&self, choice: Choice, start: usize, goal: Set, n: usize) -> Option<(Vec<u32>, Vec<Triple>)> {
+    fn walk(&self, choice: Choice, start: usize, goal: Set, n: usize) -> Option<(Vec<u64>, Vec<Triple>)> {
         // The arrivals after each dependency that lie on such a walk.
         let mut on = vec![1 << start];
         for i in 0..n {
@@ -152,18 +166,19 @@ impl Drawing {
         }
         // By rank: the place of the walk up to an arrival among those up to the others.
         let mut rank = [0u32; 128];
-        let mut from: Vec<Vec<(u64, u8, u32, Triple)>> = Vec::with_capacity(n);
+        let mut from: Vec<Vec<(u128, u8, u64, Triple)>> = Vec::with_capacity(n);
         for i in 0..n {
-            let mut best = vec![(u64::MAX, 0u8, 0u32, [0u8; 3]); 128];
+            let mut best = vec![(u128::MAX, 0u8, 0u64, [0u8; 3]); 128];
             for here in members(on[i]) {
                 let class = here % 64;
                 for (kind, leads) in self.leads[class].iter().enumerate().take(if here < 64 { 4 } else { 2 }) {
                     let letter = 1 - kind % 2;
                     for (source, &leads) in leads.iter().enumerate() {
                         for there in members((Set::from(leads) << (64 * letter)) & on[i + 1]) {
-                            let key = choice.key(class, kind, source, there % 64);
+                            let number = if source == 0 { self.numbers[class * self.k + there % 64] } else { 0 };
+                            let key = choice.key(class, kind, source, there % 64, number);
                             let by = if choice == Choice::Parents { here as u32 } else { rank[here] };
-                            let all = u64::from(by) << 32 | u64::from(key);
+                            let all = u128::from(by) << 64 | u128::from(key);
                             if all < best[there].0 {
                                 best[there] = (all, here as u8, key, [class as u8, 1 << kind, source as u8]);
                             }
@@ -171,7 +186,7 @@ impl Drawing {
                     }
                 }
             }
-            let mut order: Vec<u64> = members(on[i + 1]).map(|there| best[there].0).collect();
+            let mut order: Vec<u128> = members(on[i + 1]).map(|there| best[there].0).collect();
             order.sort_unstable();
             order.dedup();
             for there in members(on[i + 1]) {
@@ -203,15 +218,15 @@ pub struct Shown {
 
 impl Shown {
     /// None where the slip shows no cycle of one to K dependencies.
-    pub fn of(desk: &[u8], sheet: &[u8], slip: &[u8]) -> Option<Shown> {
+    pub fn of(desk: &[u8], sheet: &[u8], seen: &[u8], slip: &[u8]) -> Option<Shown> {
         let n = usize::from(*slip.first()?);
         if n < 1 || n > usize::from(desk[0]) {
             return None;
         }
-        let cycle: Vec<Triple> = slip[1..].chunks_exact(3).take(n).map(|t| [t[0], t[1], t[2]]).collect();
+        let cycle: Vec<Triple> = slip[1..].chunks_exact(7).take(n).map(|t| [t[0], t[1], t[2]]).collect();
         let well = cycle.len() == n && cycle.iter().all(|t| t[0] < desk[0] && [1, 2, 4, 8].contains(&t[1]) && t[2] < 3);
         well.then(|| {
-            let mut shown = Shown { drawing: Drawing::of(desk, sheet), cycle, several: true };
+            let mut shown = Shown { drawing: Drawing::of(desk, sheet, seen), cycle, several: true };
             shown.several = shown.chooses(Choice::Greatest);
             shown
         })
@@ -232,7 +247,7 @@ impl Shown {
     }
 
     /// The class after each dependency.
-    fn to(&self, i: usize) -> usize {
+    pub fn to(&self, i: usize) -> usize {
         usize::from(self.cycle[(i + 1) % self.n()][0])
     }
 

@@ -1,8 +1,9 @@
 //! The drawing of a list of records, as document 01 has it under "Two desks, one claim": it starts from zero and is worked
-//! out from K and the records, never from a desk or a sheet. No code is shared with a judge, the depth's number alone.
+//! out from K and the records, never from a desk or a sheet. With it the count of accepted records and the first-seen
+//! numbers. No code is shared with a judge, the depth's number and the places on a desk alone.
 
 use crate::run::Rec;
-use reference::DEEPEST;
+use reference::{COUNT, DEEPEST, DESK, HOLDS, MARKS};
 
 /// No next state.
 pub const X: u8 = 255;
@@ -50,9 +51,15 @@ struct Core {
 /// A set of arrivals, bit by bit.
 type Set = u128;
 
-struct Drawing {
+pub struct Drawing {
     k: usize,
     cores: [Core; 8],
+    /// How many records were accepted.
+    accepted: u32,
+    /// Whether one of them faulted.
+    pub closed: bool,
+    /// By pair: the number of the accepted record that first drew a lock dependency there, as four bytes from the lowest.
+    first_seen: Vec<[u8; 4]>,
     /// By class and first letter: where its lock dependencies lead.
     leads: [[Set; 2]; 64],
     /// By level (hard, soft) and first letter: the classes with that unsafe mark.
@@ -62,9 +69,23 @@ struct Drawing {
 }
 
 impl Drawing {
-    /// Takes a record in; a refused one draws nothing.
-    fn take_in(&mut self, record: &Rec) {
-        let Some(named) = record.names() else { return };
+    /// Of no records.
+    pub fn opened(k: usize) -> Drawing {
+        Drawing {
+            k,
+            cores: Default::default(),
+            accepted: 0,
+            closed: false,
+            first_seen: vec![[0; 4]; k * k],
+            leads: [[0; 2]; 64],
+            is_unsafe: [[0; 2]; 2],
+            safe: [0; 2],
+        }
+    }
+
+    /// Takes a record in; a refused one draws nothing and is not counted.
+    pub fn take_in(&mut self, record: &Rec) {
+        let Some(named) = record.names().filter(|_| !self.closed && self.accepted < u32::MAX) else { return };
         let [_, _, _, kind, class, mode, ..] = record.bytes;
         let lock = HeldLock { class: usize::from(class), mode: mode % 3, tried: mode > 2 };
         let core = &mut self.cores[usize::from(named)];
@@ -76,6 +97,10 @@ impl Drawing {
                 if !lock.tried {
                     for older in held.iter() {
                         self.leads[older.class][older.first()] |= 1 << lock.arrival();
+                        let number = &mut self.first_seen[older.class * self.k + lock.class];
+                        if *number == [0; 4] {
+                            *number = (self.accepted + 1).to_le_bytes();
+                        }
                     }
                 }
                 held.push(lock);
@@ -90,6 +115,7 @@ impl Drawing {
                 next => core.state = next,
             },
         }
+        self.accepted += 1;
         for held in &core.frames[FRAME[usize::from(core.state)]] {
             for (level, safe_in, unsafe_in) in [(0, &[6, 7, 8][..], &[0, 1, 4][..]), (1, &[4, 5], &[0])] {
                 if safe_in.contains(&core.state) && !held.tried {
@@ -131,12 +157,57 @@ impl Drawing {
     }
 }
 
-/// The place of the record at which the list's drawing first has a closed strong path.
-pub fn first_closed<'a>(k: usize, list: impl Iterator<Item = &'a Rec>) -> Option<usize> {
-    let mut drawing =
-        Drawing { k, cores: Default::default(), leads: [[0; 2]; 64], is_unsafe: [[0; 2]; 2], safe: [0; 2] };
-    list.enumerate().find_map(|(at, record)| {
+/// What a desk and its sheets have instead.
+impl Drawing {
+    /// The count, or a number.
+    pub fn numbers_differ(&self, desk: &[u8], seen: &[u8]) -> Option<String> {
+        let (count, want) = (&desk[COUNT..DESK], self.accepted.to_le_bytes());
+        if *count != want {
+            return Some(format!("count {count:?}, and {want:?} by the records"));
+        }
+        if seen.starts_with(self.first_seen.as_flattened()) {
+            return None;
+        }
+        let numbers = seen.chunks_exact(4).take(self.k * self.k);
+        let (pair, (number, want)) = numbers.zip(&self.first_seen).enumerate().find(|(_, (a, b))| a[..] != b[..])?;
+        let (from, to) = (pair / self.k, pair % self.k);
+        Some(format!("number {number:?} from {from} to {to}, and {want:?} by the records"))
+    }
+
+    /// A pair's kinds, or a class's marks.
+    pub fn kinds_differ(&self, desk: &[u8], sheet: &[u8]) -> Option<String> {
+        let pairs = (0..self.k).flat_map(|from| (0..self.k).map(move |to| (from, to)));
+        let kinds = |(from, to): (usize, usize)| {
+            let [by_e, by_s] = self.leads[from].map(|by| (by >> (64 + to) & 1 | (by >> to & 1) << 1) as u8);
+            by_e | by_s << 2
+        };
+        let pair = pairs.zip(sheet).find(|&(pair, &byte)| byte != kinds(pair));
+        if let Some(((from, to), byte)) = pair {
+            return Some(format!("kinds {byte} from {from} to {to}, and {} by the records", kinds((from, to))));
+        }
+        let marks = |class: usize| {
+            let of_level = |level: usize| {
+                let (safe, [e, s]) = (self.safe[level], self.is_unsafe[level]);
+                let there = [safe >> class, safe >> (64 + class), Set::from(e >> class), Set::from(s >> class)];
+                there.iter().rev().fold(0, |marks, there| marks << 1 | (there & 1) as u8)
+            };
+            of_level(0) | of_level(1) << 4
+        };
+        let (class, byte) = desk[MARKS..HOLDS].iter().enumerate().find(|&(class, &byte)| byte != marks(class))?;
+        Some(format!("marks {byte} of {class}, and {} by the records", marks(class)))
+    }
+}
+
+/// A list of records from opening: the place of the record at which its drawing first has a closed strong path, and the
+/// drawing then, or at its end. What comes behind draws nothing.
+pub fn first_closed<'a>(k: usize, list: impl Iterator<Item = &'a Rec>) -> (Option<usize>, Drawing) {
+    let mut drawing = Drawing::opened(k);
+    for (at, record) in list.enumerate() {
         drawing.take_in(record);
-        drawing.has_closed_strong_path().then_some(at)
-    })
+        if drawing.has_closed_strong_path() {
+            drawing.closed = true;
+            return (Some(at), drawing);
+        }
+    }
+    (None, drawing)
 }

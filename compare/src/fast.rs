@@ -1,13 +1,13 @@
 //! An ordinary Rust judge written for speed, for the benchmark, by the same documents.
-//! Fit test at each step, a frame's origins as one word, successor words built once per
-//! step, a list of the marks by which one class alone is a cycle, one depth-first walk
+//! Fit test at each step, sixteen pairs of both sheets at a time, a frame's origins as
+//! one word, successor words built once per step, a list of the marks by which one class alone is a cycle, one depth-first walk
 //! over (class, arrival) with done and on-stack words where no class is. Only with a
 //! fault: breadth-first waves for the fewest dependencies, and the least cycle taken from
 //! the waves, one dependency after the other. It is compared with the reference in every
 //! run of the comparer. No unsafe code.
 #![forbid(unsafe_code)]
 
-use reference::{DEEPEST, DEPTHS, DESK, HOLDS, MARKS, ORIGINS, STATES};
+use reference::{COUNT, DEEPEST, DEPTHS, DESK, HOLDS, MARKS, ORIGINS, STATES};
 
 const X: u8 = 255;
 /// All unsafe mark bits.
@@ -51,18 +51,53 @@ static CLASH: [bool; 256] = {
     list
 };
 
-pub fn open(k: u64, desk: &mut [u8], sheet: &mut [u8]) -> u8 {
+pub fn open(k: u64, desk: &mut [u8], sheet: &mut [u8], seen: &mut [u8]) -> u8 {
     if k.wrapping_sub(1) > 63 {
         return 2;
     }
     let size = (k * k) as usize;
-    if desk.len() < DESK || sheet.len() < size {
+    if desk.len() < DESK || sheet.len() < size || seen.len() < 4 * size {
         return 2;
     }
     desk[..DESK].fill(0);
     desk[0] = k as u8;
     sheet[..size].fill(0);
+    seen[..4 * size].fill(0);
     0
+}
+
+#[inline]
+fn count(desk: &[u8; DESK]) -> u32 {
+    u32::from_le_bytes(desk[COUNT..].try_into().unwrap())
+}
+
+#[inline]
+fn number(four: &[u8]) -> u32 {
+    u32::from_le_bytes(four.try_into().unwrap())
+}
+
+/// Whether every pair has kinds and a number up to the count, or neither. Sixteen pairs at a time, each question in a loop
+/// of its own, which the compiler makes whole vectors of.
+fn numbers_fit(sheet: &[u8], seen: &[u8], count: u32) -> bool {
+    let all_if = |there: bool| if there { 255u8 } else { 0 };
+    let (kinds, last_kinds) = sheet.as_chunks::<16>();
+    let (numbers, last_numbers) = seen.as_chunks::<64>();
+    let mut wrong = [0; 16];
+    for (kinds, numbers) in kinds.iter().zip(numbers) {
+        let number = |i: usize| number(&numbers[4 * i..4 * i + 4]);
+        let (mut none, mut above) = ([0; 16], [0; 16]);
+        for i in 0..16 {
+            none[i] = all_if(number(i) == 0);
+        }
+        for i in 0..16 {
+            above[i] = all_if(number(i) > count);
+        }
+        for i in 0..16 {
+            wrong[i] |= none[i] ^ all_if(kinds[i] == 0) | above[i];
+        }
+    }
+    let mut last = last_kinds.iter().zip(last_numbers.chunks_exact(4).map(number));
+    wrong == [0; 16] && last.all(|(&kinds, n)| (kinds == 0) == (n == 0) && n <= count)
 }
 
 /// Where a frame's origin bits lie: the start of eight bytes within the region that hold all of them, and the first
@@ -71,7 +106,7 @@ pub fn open(k: u64, desk: &mut [u8], sheet: &mut [u8]) -> u8 {
 fn origins_at(frame: usize) -> (usize, usize) {
     const { assert!(DEEPEST + 7 <= 64) };
     let bit = DEEPEST * frame;
-    let start = (bit / 8).min(DESK - ORIGINS - 8);
+    let start = (bit / 8).min(COUNT - ORIGINS - 8);
     (ORIGINS + start, bit - 8 * start)
 }
 
@@ -91,7 +126,7 @@ fn flip_origins(desk: &mut [u8; DESK], frame: usize, bits: u64) {
 }
 
 /// All of "Unfit" but the buffers' sizes and K.
-fn fits(desk: &[u8; DESK], sheet: &[u8], k: usize) -> bool {
+fn fits(desk: &[u8; DESK], sheet: &[u8], seen: &[u8], k: usize) -> bool {
     let mut bad = desk[1] > 1;
     for core in 0..8 {
         let state = desk[STATES + core];
@@ -115,7 +150,7 @@ fn fits(desk: &[u8; DESK], sheet: &[u8], k: usize) -> bool {
             }
         }
     }
-    if desk[ORIGINS..].iter().fold(0, |all, &b| all | b) != 0 {
+    if desk[ORIGINS..COUNT].iter().fold(0, |all, &b| all | b) != 0 {
         for (frame, &depth) in desk[DEPTHS..MARKS].iter().enumerate() {
             bad |= origins(desk, frame) >> (depth & 63) != 0;
         }
@@ -127,7 +162,7 @@ fn fits(desk: &[u8; DESK], sheet: &[u8], k: usize) -> bool {
         wrong |= if (i as u8) >= k8 { m } else { 0 };
     }
     wrong |= sheet.iter().fold(0, |all, &b| all | b) & 0xF0;
-    !bad && wrong == 0
+    !bad && wrong == 0 && numbers_fit(sheet, seen, count(desk))
 }
 
 /// Successor words: [0] arrivals by N, [1] arrivals by R; the first 64 rows after an
@@ -330,7 +365,7 @@ fn shortest(words: &Words, arrival: usize, among: u64, under: usize) -> Option<u
 /// Writes the least of the cycles with the fewest dependencies. There is a cycle with at most so many.
 #[cold]
 #[inline(never)]
-fn show(desk: &[u8; DESK], sheet: &[u8], k: usize, words: &Words, most: usize, slip: &mut [u8]) {
+fn show(desk: &[u8; DESK], sheet: &[u8], seen: &[u8], k: usize, words: &Words, most: usize, slip: &mut [u8]) {
     // The fewest, and the lowest class of such a cycle: one that is shorter than those through lower classes passes none.
     let (mut n, mut first) = (most + 1, 0);
     for class in 0..k {
@@ -356,12 +391,12 @@ fn show(desk: &[u8; DESK], sheet: &[u8], k: usize, words: &Words, most: usize, s
     let mut waves = [[0; 2]; 64];
     for (kinds, start, home) in [(0..2, by_e, [home; 2]), (2..4, by_any, [home, 0])] {
         // The arrivals after so many dependencies and one. None comes twice in a shortest cycle.
-        let mut seen = [0; 2];
+        let mut passed = [0; 2];
         waves[0] = start;
         for i in 1..n {
-            seen = [seen[0] | waves[i - 1][0], seen[1] | waves[i - 1][1]];
+            passed = [passed[0] | waves[i - 1][0], passed[1] | waves[i - 1][1]];
             let [by_n, by_r] = further(words, waves[i - 1]);
-            waves[i] = [by_n & !seen[0], by_r & !seen[1]];
+            waves[i] = [by_n & !passed[0], by_r & !passed[1]];
         }
         waves[n - 1] = [waves[n - 1][0] & home[0], waves[n - 1][1] & home[1]];
         if waves[n - 1] == [0; 2] {
@@ -384,14 +419,17 @@ fn show(desk: &[u8; DESK], sheet: &[u8], k: usize, words: &Words, most: usize, s
         }
         slip[0] = n as u8;
         let (mut class, mut kinds) = (first, kinds);
-        for (goal, triple) in waves[..n].iter().zip(slip[1..].chunks_exact_mut(3)) {
+        for (goal, entry) in waves[..n].iter().zip(slip[1..].chunks_exact_mut(7)) {
             let leads = leads(class);
             let mut choices = kinds.clone().flat_map(|kind| (0..3).map(move |source| (kind, source)));
             let Some((kind, source)) = choices.find(|&(kind, source)| leads[kind][source] & goal[1 - kind % 2] != 0) else {
                 return;
             };
-            triple.copy_from_slice(&[class as u8, 1 << kind, source as u8]);
-            class = (leads[kind][source] & goal[1 - kind % 2]).trailing_zeros() as usize & 63;
+            entry[..3].copy_from_slice(&[class as u8, 1 << kind, source as u8]);
+            let to = (leads[kind][source] & goal[1 - kind % 2]).trailing_zeros() as usize & 63;
+            let pair = 4 * (class * k + to);
+            entry[3..].copy_from_slice(if source == 0 { &seen[pair..pair + 4] } else { &[0; 4] });
+            class = to;
             kinds = if kind % 2 == 0 { 0..2 } else { 0..4 };
         }
         return;
@@ -399,25 +437,27 @@ fn show(desk: &[u8; DESK], sheet: &[u8], k: usize, words: &Words, most: usize, s
 }
 
 #[inline(never)]
-pub fn step(desk: &mut [u8], sheet: &mut [u8], slip: &mut [u8], record: &[u8]) -> u8 {
-    step_with::<false>(desk, sheet, slip, record)
+pub fn step(desk: &mut [u8], sheet: &mut [u8], seen: &mut [u8], slip: &mut [u8], record: &[u8]) -> u8 {
+    step_with::<false>(desk, sheet, seen, slip, record)
 }
 
 /// The same step with successor words made by plain loops, a byte at a time.
 #[inline(never)]
-pub fn step_plain(desk: &mut [u8], sheet: &mut [u8], slip: &mut [u8], record: &[u8]) -> u8 {
-    step_with::<true>(desk, sheet, slip, record)
+pub fn step_plain(desk: &mut [u8], sheet: &mut [u8], seen: &mut [u8], slip: &mut [u8], record: &[u8]) -> u8 {
+    step_with::<true>(desk, sheet, seen, slip, record)
 }
 
 #[inline(always)]
-fn step_with<const PLAIN: bool>(desk: &mut [u8], sheet: &mut [u8], slip: &mut [u8], record: &[u8]) -> u8 {
+fn step_with<const PLAIN: bool>(
+    desk: &mut [u8], sheet: &mut [u8], seen: &mut [u8], slip: &mut [u8], record: &[u8],
+) -> u8 {
     let Some(desk) = desk.first_chunk_mut::<DESK>() else { return 11 };
     let k = usize::from(desk[0]);
-    if k.wrapping_sub(1) > 63 || sheet.len() < k * k || slip.len() < 1 + 3 * k {
+    if k.wrapping_sub(1) > 63 || sheet.len() < k * k || seen.len() < 4 * k * k || slip.len() < 1 + 7 * k {
         return 11;
     }
-    let sheet = &mut sheet[..k * k];
-    if !fits(desk, sheet, k) {
+    let (sheet, seen) = (&mut sheet[..k * k], &mut seen[..4 * k * k]);
+    if !fits(desk, sheet, seen, k) {
         return 11;
     }
     if desk[1] == 1 {
@@ -432,6 +472,7 @@ fn step_with<const PLAIN: bool>(desk: &mut [u8], sheet: &mut [u8], slip: &mut [u
     let here = 3 * core + usize::from(FRAME[state]);
     let depth = usize::from(desk[DEPTHS + here]);
     let first = HOLDS + DEEPEST * here;
+    let count = count(desk);
     match kind {
         0 => {
             let to = usize::from(class);
@@ -441,11 +482,18 @@ fn step_with<const PLAIN: bool>(desk: &mut [u8], sheet: &mut [u8], slip: &mut [u
             if depth == DEEPEST {
                 return 8;
             }
+            if count == u32::MAX {
+                return 9;
+            }
             if mode < 3 {
                 let second = if mode == 2 { 1 } else { 2 };
                 for &hold in &desk[first..first + depth] {
                     let kind = if hold < 64 { second } else { 4 * second };
-                    sheet[usize::from(hold & 63) * k + to] |= kind;
+                    let pair = usize::from(hold & 63) * k + to;
+                    if sheet[pair] == 0 {
+                        seen[4 * pair..4 * pair + 4].copy_from_slice(&(count + 1).to_le_bytes());
+                    }
+                    sheet[pair] |= kind;
                 }
                 desk[first + depth] = class + 64 * mode;
             } else {
@@ -461,6 +509,9 @@ fn step_with<const PLAIN: bool>(desk: &mut [u8], sheet: &mut [u8], slip: &mut [u
             let Some(at) = desk[first..first + depth].iter().rposition(|&h| h & 63 == class) else {
                 return 5;
             };
+            if count == u32::MAX {
+                return 9;
+            }
             desk.copy_within(first + at + 1..first + depth, first + at);
             desk[first + depth - 1] = 0;
             desk[DEPTHS + here] -= 1;
@@ -477,10 +528,14 @@ fn step_with<const PLAIN: bool>(desk: &mut [u8], sheet: &mut [u8], slip: &mut [u
             if (kind == 7 || kind == 9) && depth > 0 {
                 return 7;
             }
+            if count == u32::MAX {
+                return 9;
+            }
             state = usize::from(after);
             desk[STATES + core] = after;
         }
     }
+    desk[COUNT..].copy_from_slice(&(count + 1).to_le_bytes());
     let here = 3 * core + usize::from(FRAME[state]);
     let first = HOLDS + DEEPEST * here;
     let mut origins = origins(desk, here);
@@ -496,21 +551,21 @@ fn step_with<const PLAIN: bool>(desk: &mut [u8], sheet: &mut [u8], slip: &mut [u
         return 0;
     }
     desk[1] = 1;
-    show(desk, sheet, k, &words, if clash { 1 } else { k }, slip);
+    show(desk, sheet, seen, k, &words, if clash { 1 } else { k }, slip);
     1
 }
 
 #[inline(never)]
-pub fn ask(desk: &[u8], sheet: &[u8], class: u64, word: &mut u64, count: &mut u32) -> u8 {
+pub fn ask(desk: &[u8], sheet: &[u8], seen: &[u8], class: u64, word: &mut u64, count: &mut u32) -> u8 {
     *word = 0;
     *count = 0;
     let Some(desk) = desk.first_chunk::<DESK>() else { return 11 };
     let k = usize::from(desk[0]);
-    if k.wrapping_sub(1) > 63 || sheet.len() < k * k {
+    if k.wrapping_sub(1) > 63 || sheet.len() < k * k || seen.len() < 4 * k * k {
         return 11;
     }
     let sheet = &sheet[..k * k];
-    if !fits(desk, sheet, k) {
+    if !fits(desk, sheet, &seen[..4 * k * k], k) {
         return 11;
     }
     if class >= k as u64 {
@@ -545,19 +600,19 @@ const FEED: usize = 16;
 
 fn feed_fits(feed: &[u8; FEED]) -> bool {
     let &[answer, opened, kept, ref loose @ .., _, _, _, _, _, _, _, _] = feed;
-    let number = number(feed);
+    let number = fed(feed);
     let unused = loose.iter().skip(usize::from(kept)).all(|&b| b == 0);
     unused
         && (answer == 0 || kept == 0)
         && match opened {
             0 => kept < 4 && matches!(answer, 0 | 2) && number == 0,
-            1 => kept < 6 && matches!(answer, 0 | 1 | 3..=8 | 10 | 11) && (answer == 0 || number > 0),
+            1 => kept < 6 && matches!(answer, 0 | 1 | 3..=11) && (answer == 0 || number > 0),
             _ => false,
         }
 }
 
 #[inline]
-fn number(feed: &[u8; FEED]) -> u64 {
+fn fed(feed: &[u8; FEED]) -> u64 {
     let &[.., a, b, c, d, e, f, g, h] = feed;
     u64::from_le_bytes([a, b, c, d, e, f, g, h])
 }
@@ -572,9 +627,9 @@ fn note(feed: &mut [u8; FEED], answer: u8, opened: bool, loose: &[u8], number: u
     feed[8..].copy_from_slice(&number.to_le_bytes());
 }
 
-fn open_by_header(header: &[u8], desk: &mut [u8], sheet: &mut [u8]) -> u8 {
+fn open_by_header(header: &[u8], desk: &mut [u8], sheet: &mut [u8], seen: &mut [u8]) -> u8 {
     match header {
-        &[0x4C, 0x48, 1, k] => open(u64::from(k), desk, sheet),
+        &[0x4C, 0x48, 1, k] => open(u64::from(k), desk, sheet, seen),
         _ => 2,
     }
 }
@@ -588,11 +643,11 @@ pub fn feed_start(feed: &mut [u8]) -> u8 {
 /// What was begun is filled up from the piece; then records are taken from the piece itself.
 #[inline(never)]
 pub fn feed(
-    feed: &mut [u8], desk: &mut [u8], sheet: &mut [u8], slip: &mut [u8], piece: &[u8], record: &mut u64,
+    feed: &mut [u8], desk: &mut [u8], sheet: &mut [u8], seen: &mut [u8], slip: &mut [u8], piece: &[u8], record: &mut u64,
 ) -> u8 {
     *record = 0;
     let Some(feed) = feed.first_chunk_mut::<FEED>().filter(|feed| feed_fits(feed)) else { return 11 };
-    let mut number = number(feed);
+    let mut number = fed(feed);
     *record = number;
     if feed[0] != 0 || piece.is_empty() {
         return feed[0];
@@ -612,9 +667,9 @@ pub fn feed(
         }
         let answer = if opened {
             number = number.saturating_add(1);
-            step(desk, sheet, slip, &begun)
+            step(desk, sheet, seen, slip, &begun)
         } else {
-            open_by_header(&begun[..4], desk, sheet)
+            open_by_header(&begun[..4], desk, sheet, seen)
         };
         opened |= answer == 0;
         *record = number;
@@ -626,7 +681,7 @@ pub fn feed(
     let mut records = rest.chunks_exact(6);
     for six in &mut records {
         number = number.saturating_add(1);
-        let answer = step(desk, sheet, slip, six);
+        let answer = step(desk, sheet, seen, slip, six);
         if answer != 0 {
             note(feed, answer, opened, &[], number);
             *record = number;
@@ -638,15 +693,17 @@ pub fn feed(
     0
 }
 
-pub fn feed_end(feed: &mut [u8], desk: &mut [u8], sheet: &mut [u8], slip: &mut [u8], record: &mut u64) -> u8 {
+pub fn feed_end(
+    feed: &mut [u8], desk: &mut [u8], sheet: &mut [u8], seen: &mut [u8], slip: &mut [u8], record: &mut u64,
+) -> u8 {
     *record = 0;
     let Some(feed) = feed.first_chunk_mut::<FEED>().filter(|feed| feed_fits(feed)) else { return 11 };
-    let (mut number, kept) = (number(feed), usize::from(feed[2]));
+    let (mut number, kept) = (fed(feed), usize::from(feed[2]));
     if feed[0] == 0 && feed[1] == 0 {
         note(feed, 2, false, &[], 0);
     } else if kept > 0 {
         number = number.saturating_add(1);
-        let answer = step(desk, sheet, slip, &feed[3..3 + kept]);
+        let answer = step(desk, sheet, seen, slip, &feed[3..3 + kept]);
         note(feed, answer, true, &[], number);
     }
     *record = number;

@@ -1,12 +1,14 @@
 //! Logs in pieces: the promise that a feed keeps, and the cases with feeds.
 
 use crate::gen::{
-    any_buffers, any_k, any_style, case, clean_style, damaged, fit_desk, hand_logs, try_style, violate, Kind, Shadow, BIG,
+    any_buffers, any_k, any_style, case, clean_style, damaged, fit_desk, hand_logs, sizes, try_style, violate, Buffers, Kind,
+    BIG,
 };
+use crate::numbers;
 use crate::rng::Rng;
-use crate::run::{Call, Case, Rec};
+use crate::run::{Call, Case, Meant, Rec};
 use crate::ties;
-use reference::{CLAUSES, DESK, FEED, FEED_CLAUSES, LOOSE};
+use reference::{CLAUSES, COUNT, DESK, FEED, FEED_CLAUSES, LOOSE};
 
 /// The parts of the promise. A wrong cutting breaks all of them; the first is named.
 pub const PROMISE: [&str; 3] = ["the same over another cut", "as the whole log", "as single steps"];
@@ -111,7 +113,7 @@ fn damage_header(rng: &mut Rng, log: &mut [u8]) {
 }
 
 /// A log from opening with its K and buffers for it. Most records are accepted; some come after the one that stops it.
-fn any_log(rng: &mut Rng) -> (Vec<u8>, (Vec<u8>, Vec<u8>, Vec<u8>)) {
+fn any_log(rng: &mut Rng) -> (Vec<u8>, Buffers) {
     if rng.mille(60) {
         let (records, k) = ties::closing(rng);
         return (log_of(k as u8, &records), any_buffers(rng, k));
@@ -128,7 +130,7 @@ fn any_log(rng: &mut Rng) -> (Vec<u8>, (Vec<u8>, Vec<u8>, Vec<u8>)) {
     }
     let refused = rng.pick(&[0, 0, 300, 1000]);
     let most = rng.pick(if faults { &[5, 20, 30] } else { &[0, 1, 2, 5, 20, 50][..] });
-    let (mut shadow, mut records, mut behind) = (Shadow::opened(k), Vec::new(), 0);
+    let (mut shadow, mut records, mut behind) = (Buffers::opened(k), Vec::new(), 0);
     for _ in 0..most {
         let (record, answer) = shadow.next(rng, &style);
         if answer < 2 || rng.mille(refused) {
@@ -149,12 +151,13 @@ fn any_log(rng: &mut Rng) -> (Vec<u8>, (Vec<u8>, Vec<u8>, Vec<u8>)) {
         _ => {}
     }
     let mut buffers = any_buffers(rng, k);
-    if rng.mille(200) {
-        let (desk, sheet, slip) = &mut buffers;
-        match rng.under(4) {
-            0 => desk.truncate(rng.pick(&[0, 1, DESK - 60, DESK - 1])),
+    if rng.mille(300) {
+        let Buffers { desk, sheet, seen, slip } = &mut buffers;
+        match rng.under(5) {
+            0 => desk.truncate(rng.pick(&[0, 1, COUNT, DESK - 1])),
             1 => sheet.truncate(rng.pick(&[0, k * k - 1])),
-            _ => slip.truncate(rng.pick(&[0, 3 * k])),
+            2 => seen.truncate(rng.pick(&[0, k * k, 4 * k * k - 1, 4 * k * k - 1])),
+            _ => slip.truncate(rng.pick(&[0, 3 * k, 1 + 3 * k, 7 * k])),
         }
     }
     (log, buffers)
@@ -204,7 +207,7 @@ pub fn cut_log(rng: &mut Rng) -> Case {
 fn long_log(rng: &mut Rng) -> (Vec<u8>, usize) {
     let k = rng.pick(&[4, 5, 8]);
     let style = if rng.mille(500) { clean_style(k) } else { try_style(k) };
-    let (mut shadow, mut log) = (Shadow::opened(k), header(k as u8));
+    let (mut shadow, mut log) = (Buffers::opened(k), header(k as u8));
     let length = rng.between(65_600, 70_000);
     while log.len() < length && shadow.desk[1] == 0 {
         let (record, answer) = shadow.next(rng, &style);
@@ -259,7 +262,7 @@ fn any_feed(rng: &mut Rng, opened: bool, item: &[u8]) -> Vec<u8> {
     let answer = match (stands, opened) {
         (false, _) => 0,
         (true, false) => 2,
-        (true, true) => rng.pick(&[1, 3, 4, 5, 6, 7, 8, 10, 11]),
+        (true, true) => rng.pick(&[1, 3, 4, 5, 6, 7, 8, 9, 10, 11]),
     };
     let kept = if stands { 0 } else { rng.under(if opened { 6 } else { 4 }) };
     let mut loose = item[..kept].to_vec();
@@ -305,10 +308,10 @@ fn violate_feed(rng: &mut Rng, clause: usize, feed: &mut Vec<u8>) {
         }
         "after opening, no answer of a step" => {
             let number = any_number(rng);
-            *feed = feed_of(rng.pick(&[2, 9, 12, 13, 255]), true, &[], number);
+            *feed = feed_of(rng.pick(&[2, 12, 13, 255]), true, &[], number);
         }
         "after opening, a standing answer at record 0" => {
-            *feed = feed_of(rng.pick(&[1, 3, 4, 5, 6, 7, 8, 10, 11]), true, &[], 0);
+            *feed = feed_of(rng.pick(&[1, 3, 4, 5, 6, 7, 8, 9, 10, 11]), true, &[], 0);
         }
         other => panic!("no way to violate {other}"),
     }
@@ -325,13 +328,15 @@ fn any_calls(rng: &mut Rng) -> Case {
     feed.extend(rng.bytes(extra));
     // An opened desk, one that no opening leads to, a closed one, or an unfit one.
     let mut buffers = fit_desk(rng, k);
-    match rng.under(5) {
-        0 => {
-            let s = Shadow::opened(k);
-            buffers = (s.desk, s.sheet, s.slip);
+    match rng.under(7) {
+        0 => buffers = Buffers::opened(k),
+        1 | 2 => buffers.desk[1] = 1,
+        // At the last count, or a few before it.
+        3 | 4 => {
+            buffers = Buffers::opened(k);
+            numbers::set_count(&mut buffers.desk, numbers::FULL - rng.pick(&[0, 0, 0, 1, 2]));
         }
-        1 | 2 => buffers.0[1] = 1,
-        3 => drop(violate(rng, rng.clone().under(CLAUSES.len()), &mut buffers)),
+        5 => drop(violate(rng, rng.clone().under(CLAUSES.len()), &mut buffers)),
         _ => {}
     }
     if rng.mille(500) {
@@ -383,15 +388,15 @@ fn end_over_loose(rng: &mut Rng) -> Case {
     let number = if opened && rng.mille(700) { any_number(rng) } else { 0 };
     let feed = match rng.mille(250) {
         false => feed_of(0, opened, &loose, number),
-        true if opened => feed_of(rng.pick(&[1, 3, 4, 5, 6, 7, 8, 10, 11]), true, &[], number.max(1)),
+        true if opened => feed_of(rng.pick(&[1, 3, 4, 5, 6, 7, 8, 9, 10, 11]), true, &[], number.max(1)),
         true => feed_of(2, false, &[], 0),
     };
-    let s = Shadow::opened(k);
-    let mut buffers = if rng.mille(800) { (s.desk, s.sheet, s.slip) } else { fit_desk(rng, k) };
+    let mut buffers = if rng.mille(800) { Buffers::opened(k) } else { fit_desk(rng, k) };
     match rng.under(3) {
-        0 => buffers.0[1] = 1,
-        1 if rng.mille(400) => buffers.2.truncate(rng.pick(&[0, 3 * k])),
+        0 => buffers.desk[1] = 1,
+        1 if rng.mille(400) => buffers.slip.truncate(rng.pick(&[0, 3 * k, 1 + 3 * k, 7 * k])),
         1 => drop(violate(rng, rng.clone().under(CLAUSES.len()), &mut buffers)),
+        _ if rng.mille(150) => numbers::set_count(&mut buffers.desk, numbers::FULL),
         _ => {}
     }
     let mut calls = vec![Call::FeedEnd, Call::Feed(item.slice()[kept..].to_vec()), Call::FeedEnd];
@@ -401,15 +406,44 @@ fn end_over_loose(rng: &mut Rng) -> Case {
     Case { feed, ..case(buffers, calls) }
 }
 
+/// A feed over a desk near the last count: records in pieces cut anywhere, with ends, and what comes after a 9.
+fn near_full(rng: &mut Rng) -> Case {
+    let k = any_k(rng);
+    let mut buffers = if rng.mille(700) { Buffers::opened(k) } else { fit_desk(rng, k) };
+    let count = numbers::FULL - rng.pick(&[0, 0, 1, 2, 3, 5]);
+    numbers::set_count(&mut buffers.desk, count);
+    let (mut log, mut shadow) = (Vec::new(), buffers.clone());
+    numbers::set_count(&mut shadow.desk, count - 10);
+    let style = any_style(rng, k);
+    for _ in 0..rng.between(1, 8) {
+        let (record, answer) = shadow.next(rng, &style);
+        if answer < 2 || rng.mille(100) {
+            log.extend_from_slice(record.slice());
+        }
+    }
+    let kept = rng.pick(&[0, 0, 1, 2, 3, 4, 5]).min(log.len());
+    let feed = feed_of(0, true, &log[..kept], any_number(rng).min(u64::MAX - 10));
+    let mut calls = Vec::new();
+    for piece in cut(rng, &log[kept..]) {
+        calls.push(Call::Feed(piece.to_vec()));
+        if rng.mille(60) {
+            calls.push(Call::FeedEnd);
+        }
+    }
+    calls.extend([Call::FeedEnd, Call::Feed(vec![0x4C, 0x4B]), Call::FeedEnd].into_iter().take(rng.under(4)));
+    Case { feed, ..case(buffers, calls) }
+}
+
 // ---------------------------------------------------------------------- random
 
 pub const CUT_LOG: &str = "log in pieces";
-pub const KINDS: [Kind; 5] = [
+pub const KINDS: [Kind; 6] = [
     Kind { name: CUT_LOG, weight: 150, make: cut_log },
     Kind { name: "long log in pieces", weight: 4, make: long_cut_log },
     Kind { name: "any feed", weight: 200, make: any_calls },
     Kind { name: "end over loose bytes", weight: 130, make: end_over_loose },
     Kind { name: "feed over ties", weight: 40, make: ties::in_feed },
+    Kind { name: "feed near the last count", weight: 50, make: near_full },
 ];
 
 // ----------------------------------------------------------------------- fixed
@@ -420,15 +454,48 @@ pub const EACH_FEED_BYTE: &str = "each feed byte";
 pub const EACH_FEED_SIZE: &str = "each feed size";
 pub const EACH_STAND: &str = "each feed over each desk";
 pub const LONG_PIECES: &str = "long pieces";
+pub const EACH_COUNT: &str = "counts in two pieces";
 
-/// Logs to be cut in all ways, with the lengths of sheet and slip.
-fn short_logs() -> Vec<(Vec<u8>, usize, usize)> {
+/// Records over a desk at several counts, with feeds at several numbers, cut at each place; what is to come of them is worked
+/// out here. Core 0 draws 0 to 1 by the second record, core 1 draws 1 to 0 by the fourth.
+fn counts() -> impl Iterator<Item = Case> {
+    let log = [Rec::new(0, 0, 0, 0), Rec::new(0, 0, 1, 0), Rec::new(1, 0, 1, 0), Rec::new(1, 0, 0, 0)];
+    let bytes = log.map(|record| record.slice().to_vec()).concat();
+    let counts = [0, 1, 254, 65_534, 16_777_214].into_iter().chain(numbers::FULL - 6..=numbers::FULL);
+    let all = counts.flat_map(|count| [0, 7, 255].map(|number| (count, number)));
+    all.flat_map(move |(count, number)| {
+        let bytes = bytes.clone();
+        (0..=bytes.len()).map(move |cut| {
+            let accepted = (numbers::FULL - count).min(4);
+            let after = |records: u32| match records {
+                _ if records > accepted => 9,
+                4 => 1,
+                _ => 0,
+            };
+            let at = |record: u32| if accepted < record { 0 } else { count + record };
+            let entries = [numbers::entry(0, ties::EN, 0, count.wrapping_add(2)), numbers::entry(1, ties::EN, 0, count.wrapping_add(4))];
+            let meant = Meant {
+                answers: vec![after(cut as u32 / 6), after(4), after(4)],
+                slip: if after(4) == 1 { [vec![2], entries.concat()].concat() } else { vec![0; 15] },
+                numbers: Some((count + accepted, vec![0, at(2), at(4), 0])),
+            };
+            let mut buffers = Buffers::opened(2);
+            numbers::set_count(&mut buffers.desk, count);
+            let feed = feed_of(0, true, &[], number);
+            let calls = vec![Call::Feed(bytes[..cut].to_vec()), Call::Feed(bytes[cut..].to_vec()), Call::FeedEnd];
+            Case { feed, meant: Some(meant), ..case(buffers, calls) }
+        })
+    })
+}
+
+/// Logs to be cut in all ways, with how much the sheets and the slip are too short.
+fn short_logs() -> Vec<(Vec<u8>, [usize; 3])> {
     let take = |class, mode| Rec::new(0, 0, class, mode);
     let (on, refused) = (Rec::new(1, 2, 0, 0), Rec::new(0, 9, 0, 0));
     let bad = |at: usize, byte| {
         let mut log = header(2);
         log[at] = byte;
-        (log, 4, 7)
+        (log, [0; 3])
     };
     let mut logs = vec![
         // A header that is refused by each of its bytes, or by a short sheet; a slip too short for the first record.
@@ -437,12 +504,13 @@ fn short_logs() -> Vec<(Vec<u8>, usize, usize)> {
         bad(2, 2),
         bad(3, 0),
         bad(3, 65),
-        (header(2), 3, 7),
-        (log_of(2, &[on]), 4, 6),
+        (header(2), [1, 0, 0]),
+        (header(2), [0, 1, 0]),
+        (log_of(2, &[on]), [0, 0, 1]),
         // Clean; a fault, and a record behind it; refused, and a record behind it.
-        (log_of(2, &[take(1, 0), on]), 4, 7),
-        (log_of(1, &[take(0, 0), take(0, 2), on]), 1, 4),
-        (log_of(1, &[refused, on]), 1, 4),
+        (log_of(2, &[take(1, 0), on]), [0; 3]),
+        (log_of(1, &[take(0, 0), take(0, 2), on]), [0; 3]),
+        (log_of(1, &[refused, on]), [0; 3]),
     ];
     for (log, ..) in &mut logs {
         log.extend([0x4C, 0x4B]);
@@ -453,7 +521,10 @@ fn short_logs() -> Vec<(Vec<u8>, usize, usize)> {
 /// Every cut of them into four pieces, empty ones too, and at each of the four places an end or none: those that have two
 /// pieces at most, or the others. False once a case is answered so.
 fn each_cut(in_two: bool, each: &mut dyn FnMut(&'static str, Vec<u8>, Case) -> bool) -> bool {
-    for (log, sheet, slip) in short_logs() {
+    for (log, short) in short_logs() {
+        // Those with a bad K have buffers for 2.
+        let [desk, sheet, seen, slip] = sizes(if log[3] == 1 { 1 } else { 2 });
+        let sizes = [desk, sheet - short[0], seen - short[1], slip - short[2]];
         for b in 0..=log.len() {
             let cuts = (0..=b).flat_map(|a| (b..=log.len()).map(move |c| (a, c)));
             for (a, c) in cuts.filter(|&(a, c)| in_two == (a == 0 && c == log.len())) {
@@ -466,7 +537,8 @@ fn each_cut(in_two: bool, each: &mut dyn FnMut(&'static str, Vec<u8>, Case) -> b
                             calls.push(Call::FeedEnd);
                         }
                     }
-                    let buffers = (vec![0xEE; DESK], vec![0xEE; sheet], vec![0xEE; slip]);
+                    let [desk, sheet, seen, slip] = sizes.map(|size| vec![0xEE; size]);
+                    let buffers = Buffers { desk, sheet, seen, slip };
                     if !each(EACH_CUT, vec![0xEE; FEED], case(buffers, calls)) {
                         return false;
                     }
@@ -498,17 +570,18 @@ pub fn fixed(each: &mut dyn FnMut(Case) -> bool) {
             }
         }
     }
-    // A feed with each number of loose bytes over a desk that is open, closed, and unfit by each clause alone; with
-    // small numbers and with those near the top.
+    // A feed with each number of loose bytes over a desk that is open, closed, at the last count and one before it, and unfit
+    // by each clause alone; with small numbers and with those near the top.
     for kept in 0..6 {
-        for stand in 0..CLAUSES.len() + 2 {
+        for stand in 0..CLAUSES.len() + 4 {
             for number in [0, 254, u64::MAX - 2, u64::MAX - 1, u64::MAX] {
-                let s = Shadow::opened(3);
-                let mut buffers = (s.desk, s.sheet, s.slip);
+                let mut buffers = Buffers::opened(3);
                 match stand {
                     0 => {}
-                    1 => buffers.0[1] = 1,
-                    _ => assert!(violate(rng, stand - 2, &mut buffers)),
+                    1 => buffers.desk[1] = 1,
+                    2 => numbers::set_count(&mut buffers.desk, numbers::FULL),
+                    3 => numbers::set_count(&mut buffers.desk, numbers::FULL - 1),
+                    _ => assert!(violate(rng, stand - 4, &mut buffers)),
                 }
                 let record = Rec::new(0, 2, 0, 0);
                 let feed = feed_of(0, true, &record.slice()[..kept], number);
@@ -526,6 +599,11 @@ pub fn fixed(each: &mut dyn FnMut(Case) -> bool) {
             }
         }
     }
+    for case in counts() {
+        if !each(EACH_COUNT, case.feed.clone(), case) {
+            return;
+        }
+    }
     // Each byte of a feed with each value, where it is of the loose bytes or of the number with some.
     for base in [
         feed_of(0, false, &[], 0),
@@ -534,15 +612,15 @@ pub fn fixed(each: &mut dyn FnMut(Case) -> bool) {
         feed_of(0, true, &[], 1),
         feed_of(0, true, &[0x4C, 0x4B, 0, 2, 0], 255),
         feed_of(7, true, &[], 1),
+        feed_of(9, true, &[], 1),
     ] {
         for at in 0..FEED {
             for value in (0..=255).filter(|value| at < KEEP || [0, 1, 2, 127, 128, 255].contains(value)) {
                 let mut feed = base.clone();
                 feed[at] = value;
-                let s = Shadow::opened(2);
                 let piece = if base[OPENED] == 1 { vec![0; 3] } else { vec![0x4C, 0x48, 1, 2] };
                 let calls = vec![Call::Feed(piece), Call::FeedEnd];
-                if !each(EACH_FEED_BYTE, feed, case((s.desk, s.sheet, s.slip), calls)) {
+                if !each(EACH_FEED_BYTE, feed, case(Buffers::opened(2), calls)) {
                     return;
                 }
             }

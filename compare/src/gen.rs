@@ -4,11 +4,12 @@ use crate::clashes;
 use crate::drawing::{FRAME, NEXT, X};
 use crate::fast;
 use crate::feeds;
+use crate::numbers;
 use crate::rng::Rng;
 use crate::run::{Call, Case, Rec};
 use crate::sights::ORIGIN;
 use crate::ties;
-use reference::{CLAUSES, DEEPEST, DEPTHS, DESK, FRAMES, HOLDS, MARKS, ORIGINS, STATES};
+use reference::{CLAUSES, COUNT, DEEPEST, DEPTHS, DESK, FRAMES, HOLDS, MARKS, ORIGINS, STATES};
 
 pub const BIG: [u64; 16] = [
     255, 256, 257, 264, 300, 320, 65536, 65544, 1 << 31, 1 << 32, (1 << 32) + 1, (1 << 32) + 8,
@@ -28,11 +29,41 @@ pub fn any_k(rng: &mut Rng) -> usize {
     }
 }
 
+/// The lent buffers, but for a feed's.
+#[derive(Clone)]
+pub struct Buffers {
+    pub desk: Vec<u8>,
+    pub sheet: Vec<u8>,
+    /// The second sheet: first-seen numbers.
+    pub seen: Vec<u8>,
+    pub slip: Vec<u8>,
+}
+
+impl Buffers {
+    /// So many bytes each, full of anything.
+    pub fn any(rng: &mut Rng, [desk, sheet, seen, slip]: [usize; 4]) -> Buffers {
+        Buffers { desk: rng.bytes(desk), sheet: rng.bytes(sheet), seen: rng.bytes(seen), slip: rng.bytes(slip) }
+    }
+    pub fn opened(k: usize) -> Buffers {
+        let [desk, sheet, seen, slip] = sizes(k).map(|size| vec![0; size]);
+        let mut b = Buffers { desk, sheet, seen, slip };
+        fast::open(k as u64, &mut b.desk, &mut b.sheet, &mut b.seen);
+        b
+    }
+    pub fn k(&self) -> usize {
+        usize::from(self.desk[0])
+    }
+}
+
+/// The stated sizes of desk, sheet, second sheet and slip.
+pub fn sizes(k: usize) -> [usize; 4] {
+    [DESK, k * k, 4 * k * k, 1 + 7 * k]
+}
+
 /// Buffers of the stated sizes or somewhat longer, full of anything.
-pub fn any_buffers(rng: &mut Rng, k: usize) -> (Vec<u8>, Vec<u8>, Vec<u8>) {
-    let mut extra = || if rng.mille(400) { rng.under(9) } else { 0 };
-    let (a, b, c) = (extra(), extra(), extra());
-    (rng.bytes(DESK + a), rng.bytes(k * k + b), rng.bytes(1 + 3 * k + c))
+pub fn any_buffers(rng: &mut Rng, k: usize) -> Buffers {
+    let sizes = sizes(k).map(|size| size + if rng.mille(400) { rng.under(9) } else { 0 });
+    Buffers::any(rng, sizes)
 }
 
 /// A place's hold byte.
@@ -73,8 +104,8 @@ pub fn may_hold(state: u8, frame: usize) -> bool {
 }
 
 /// A case yet without a name.
-pub fn case(buffers: (Vec<u8>, Vec<u8>, Vec<u8>), calls: Vec<Call>) -> Case {
-    Case { name: "", desk: buffers.0, sheet: buffers.1, slip: buffers.2, feed: Vec::new(), calls, pair: None, clause: None, meant: None }
+pub fn case(buffers: Buffers, calls: Vec<Call>) -> Case {
+    Case { name: "", buffers, feed: Vec::new(), calls, pair: None, clause: None, meant: None }
 }
 
 // ------------------------------------------------------------------ proposals
@@ -268,19 +299,10 @@ fn propose(rng: &mut Rng, s: &Style, desk: &[u8]) -> Rec {
     Rec::new(core, if allowed.is_empty() { 2 } else { rng.pick(&allowed) }, 0, 0)
 }
 
-/// Buffers that go along with the log while it is made.
-#[derive(Clone)]
-pub struct Shadow {
-    pub desk: Vec<u8>,
-    pub sheet: Vec<u8>,
-    pub slip: Vec<u8>,
-}
-
-impl Shadow {
-    pub fn opened(k: usize) -> Shadow {
-        let mut s = Shadow { desk: vec![0; DESK], sheet: vec![0; k * k], slip: vec![0; 1 + 3 * k] };
-        fast::open(k as u64, &mut s.desk, &mut s.sheet);
-        s
+/// Buffers go along with a log while it is made.
+impl Buffers {
+    pub fn step(&mut self, record: &Rec) -> u8 {
+        fast::step(&mut self.desk, &mut self.sheet, &mut self.seen, &mut self.slip, record.slice())
     }
     /// The next record and its answer.
     pub fn next(&mut self, rng: &mut Rng, style: &Style) -> (Rec, u8) {
@@ -288,14 +310,13 @@ impl Shadow {
         loop {
             let record = propose(rng, style, &self.desk);
             if style.avoid == 0 {
-                let answer = fast::step(&mut self.desk, &mut self.sheet, &mut self.slip, record.slice());
+                let answer = self.step(&record);
                 return (record, answer);
             }
-            let (desk, sheet) = (self.desk.clone(), self.sheet.clone());
-            let answer = fast::step(&mut self.desk, &mut self.sheet, &mut self.slip, record.slice());
+            let (desk, sheet, seen) = (self.desk.clone(), self.sheet.clone(), self.seen.clone());
+            let answer = self.step(&record);
             if answer == 1 && tries < 12 && rng.mille(style.avoid) {
-                self.desk = desk;
-                self.sheet = sheet;
+                (self.desk, self.sheet, self.seen) = (desk, sheet, seen);
                 tries += 1;
                 continue;
             }
@@ -304,7 +325,7 @@ impl Shadow {
     }
 }
 
-fn any_class(rng: &mut Rng, k: usize) -> u64 {
+pub fn any_class(rng: &mut Rng, k: usize) -> u64 {
     if rng.mille(150) {
         rng.pick(&[k as u64, k as u64 + 1, 63, 64, 255, 256, 256 + k as u64 - 1, 1 << 32, (1 << 32) + 1, 1 << 63, u64::MAX])
     } else {
@@ -317,8 +338,8 @@ fn ask_all(k: usize, calls: &mut Vec<Call>) {
     calls.extend([k as u64, 255, 256, 1 << 32, u64::MAX].map(Call::Ask));
 }
 
-/// Steps from where the shadow stands; some go on after the fault.
-fn steps(rng: &mut Rng, style: &Style, shadow: &mut Shadow, most: usize, calls: &mut Vec<Call>) {
+/// Steps from where the buffers stand; some go on after the fault.
+pub fn steps(rng: &mut Rng, style: &Style, shadow: &mut Buffers, most: usize, calls: &mut Vec<Call>) {
     let mut after = 0;
     for _ in 0..most {
         let (record, _) = shadow.next(rng, style);
@@ -340,12 +361,12 @@ fn steps(rng: &mut Rng, style: &Style, shadow: &mut Shadow, most: usize, calls: 
 
 // --------------------------------------------------------------------- random
 
-fn log(rng: &mut Rng) -> Case {
+pub fn log(rng: &mut Rng) -> Case {
     let k = any_k(rng);
     let style = any_style(rng, k);
     let mut calls = vec![Call::Open(k as u64)];
     let most = rng.pick(&[5, 20, 60, 150, 300]);
-    steps(rng, &style, &mut Shadow::opened(k), most, &mut calls);
+    steps(rng, &style, &mut Buffers::opened(k), most, &mut calls);
     case(any_buffers(rng, k), calls)
 }
 
@@ -363,7 +384,7 @@ fn deep_log(rng: &mut Rng) -> Case {
         style.unordered = 0;
     }
     let mut calls = vec![Call::Open(k as u64)];
-    steps(rng, &style, &mut Shadow::opened(k), 120, &mut calls);
+    steps(rng, &style, &mut Buffers::opened(k), 120, &mut calls);
     case(any_buffers(rng, k), calls)
 }
 
@@ -375,13 +396,14 @@ fn long_log(rng: &mut Rng) -> Case {
     style.asks = 5;
     style.unordered = rng.pick(&[0, 0, 3]);
     let mut calls = vec![Call::Open(k as u64)];
-    steps(rng, &style, &mut Shadow::opened(k), 3000, &mut calls);
+    steps(rng, &style, &mut Buffers::opened(k), 3000, &mut calls);
     case(any_buffers(rng, k), calls)
 }
 
 /// A fit desk and sheet that no opening need lead to.
-pub fn fit_desk(rng: &mut Rng, k: usize) -> (Vec<u8>, Vec<u8>, Vec<u8>) {
-    let (mut desk, mut sheet, slip) = any_buffers(rng, k);
+pub fn fit_desk(rng: &mut Rng, k: usize) -> Buffers {
+    let mut buffers = any_buffers(rng, k);
+    let Buffers { desk, sheet, .. } = &mut buffers;
     desk[..DESK].fill(0);
     desk[0] = k as u8;
     desk[1] = u8::from(rng.mille(60));
@@ -400,7 +422,7 @@ pub fn fit_desk(rng: &mut Rng, k: usize) -> (Vec<u8>, Vec<u8>, Vec<u8>) {
             };
             for _ in 0..depth {
                 let lock = (rng.under(k) + 64 * rng.under(3)) as u8;
-                push(&mut desk, 3 * core + frame, lock, rng.mille(tries));
+                push(desk, 3 * core + frame, lock, rng.mille(tries));
             }
         }
     }
@@ -489,13 +511,15 @@ pub fn fit_desk(rng: &mut Rng, k: usize) -> (Vec<u8>, Vec<u8>, Vec<u8>) {
             }
         }
     }
-    assert_eq!(reference::unfit(&desk, &sheet, Some(&slip)), None, "the made desk is unfit");
-    (desk, sheet, slip)
+    numbers::scatter(rng, &mut buffers);
+    let Buffers { desk, sheet, seen, slip } = &buffers;
+    assert_eq!(reference::unfit(desk, sheet, seen, Some(slip)), None, "the made desk is unfit");
+    buffers
 }
 
 fn drawn_desk(rng: &mut Rng) -> Case {
     let k = any_k(rng);
-    let (desk, sheet, slip) = fit_desk(rng, k);
+    let buffers = fit_desk(rng, k);
     let mut style = any_style(rng, k);
     style.random = rng.pick(&[10, 100, 300]);
     style.asks = style.asks.max(50);
@@ -506,16 +530,16 @@ fn drawn_desk(rng: &mut Rng) -> Case {
     if rng.mille(300) {
         calls.push(Call::Step(damaged(rng, k)));
     }
-    let mut shadow = Shadow { desk: desk.clone(), sheet: sheet.clone(), slip: slip.clone() };
     let most = rng.pick(&[2, 5, 15, 40]);
-    steps(rng, &style, &mut shadow, most, &mut calls);
-    case((desk, sheet, slip), calls)
+    steps(rng, &style, &mut buffers.clone(), most, &mut calls);
+    case(buffers, calls)
 }
 
 /// Desks that hold tries, with nothing drawn yet, and records that seldom fault: so the origins move for long.
 fn tries(rng: &mut Rng) -> Case {
     let k = rng.pick(&[3, 8, 12, 33, 64]);
-    let (mut desk, mut sheet, slip) = any_buffers(rng, k);
+    let mut buffers = any_buffers(rng, k);
+    let Buffers { desk, sheet, .. } = &mut buffers;
     desk[..DESK].fill(0);
     desk[0] = k as u8;
     sheet[..k * k].fill(0);
@@ -532,10 +556,11 @@ fn tries(rng: &mut Rng) -> Case {
             let (low, high) = classes_of(k, frame);
             for _ in 0..depth {
                 let lock = rng.between(low, high - 1) + 64 * rng.under(3);
-                push(&mut desk, 3 * core + frame, lock as u8, rng.mille(density));
+                push(desk, 3 * core + frame, lock as u8, rng.mille(density));
             }
         }
     }
+    numbers::scatter(rng, &mut buffers);
     let style = Style {
         weights: rng.pick(&[[2, 5, 3], [3, 3, 3], [1, 8, 1], [4, 2, 3]]),
         modes: rng.pick(&[[1, 1, 1, 1, 1, 1], [0, 0, 1, 1, 1, 1], [0, 0, 0, 1, 1, 1], [1, 1, 4, 2, 2, 2]]),
@@ -545,19 +570,18 @@ fn tries(rng: &mut Rng) -> Case {
         unordered: rng.pick(&[0, 0, 20]),
         ..clean_style(k)
     };
-    let mut shadow = Shadow { desk: desk.clone(), sheet: sheet.clone(), slip: slip.clone() };
     let mut calls = Vec::new();
     let most = rng.pick(&[5, 20, 60]);
-    steps(rng, &style, &mut shadow, most, &mut calls);
-    case((desk, sheet, slip), calls)
+    steps(rng, &style, &mut buffers.clone(), most, &mut calls);
+    case(buffers, calls)
 }
 
 /// Violates one clause of "Unfit" (by its place in CLAUSES); false if this desk can't.
-pub fn violate(rng: &mut Rng, clause: usize, b: &mut (Vec<u8>, Vec<u8>, Vec<u8>)) -> bool {
-    let (desk, sheet, slip) = b;
+pub fn violate(rng: &mut Rng, clause: usize, b: &mut Buffers) -> bool {
+    let Buffers { desk, sheet, seen, slip } = b;
     if clause == 0 {
-        let part = rng.clone().between(ORIGINS, DESK - 1);
-        let n = rng.pick(&[DESK - 1, DESK - 1, part, ORIGINS, ORIGINS - 1, rng.clone().under(ORIGINS)]);
+        let part = rng.clone().between(ORIGINS, COUNT - 1);
+        let n = rng.pick(&[DESK - 1, DESK - 1, DESK - 1, COUNT, COUNT, COUNT + 2, part, part, ORIGINS, ORIGINS - 1, ORIGINS - 1, rng.clone().under(ORIGINS)]);
         desk.truncate(n);
         rng.next();
         return true;
@@ -582,7 +606,7 @@ pub fn violate(rng: &mut Rng, clause: usize, b: &mut (Vec<u8>, Vec<u8>, Vec<u8>)
             sheet.truncate(n);
         }
         "slip too short" => {
-            let n = if rng.mille(500) { 3 * k } else { rng.under(1 + 3 * k) };
+            let n = [7 * k, 7 * k, 1 + 3 * k, 1 + 3 * k, rng.clone().under(1 + 7 * k)][rng.under(5)];
             slip.truncate(n);
         }
         "byte 1 over 1" => desk[1] = rng.pick(&[2, 3, 128, 255, rng.clone().between(2, 255) as u8]),
@@ -660,6 +684,17 @@ pub fn violate(rng: &mut Rng, clause: usize, b: &mut (Vec<u8>, Vec<u8>, Vec<u8>)
                 return false;
             }
             sheet[at] |= rng.pick(&[16, 32, 64, 128, 240]);
+            numbers::give(desk, seen, at);
+        }
+        "second sheet too short" => {
+            let n = [4 * k * k - 1, 4 * k * k - 1, k * k, k * k, rng.clone().under(4 * k * k)][rng.under(5)];
+            seen.truncate(n);
+        }
+        name @ ("kinds but number 0" | "number but no kinds" | "number above the count") => {
+            if sheet.len() < k * k || seen.len() < 4 * k * k {
+                return false;
+            }
+            return numbers::spoil(rng, name, desk, sheet, seen);
         }
         other => panic!("no way to violate {other}"),
     }
@@ -671,7 +706,7 @@ fn some_calls(rng: &mut Rng, k: usize, n: usize) -> Vec<Call> {
     let mut style = clean_style(k);
     style.random = 500;
     style.damaged = 150;
-    let desk = Shadow::opened(k).desk;
+    let desk = Buffers::opened(k).desk;
     (0..n)
         .map(|_| {
             if rng.mille(300) {
@@ -689,9 +724,13 @@ fn unfit_desk(rng: &mut Rng) -> Case {
     let n = rng.pick(&[1, 1, 1, 2, 3, 6]);
     for _ in 0..n {
         // Many by what can be wrong in many ways.
-        let often = rng.pick(&[ORIGIN, ORIGIN, "desk too short", "hold mode 3"]);
+        const OFTEN: [&str; 9] = [
+            ORIGIN, ORIGIN, ORIGIN, "desk too short", "desk too short", "hold mode 3", "hold mode 3", "slip too short",
+            "second sheet too short",
+        ];
+        let often = rng.pick(&OFTEN);
         let any = rng.under(CLAUSES.len());
-        let clause = if rng.mille(400) { CLAUSES.iter().position(|c| *c == often).unwrap_or(any) } else { any };
+        let clause = if rng.mille(500) { CLAUSES.iter().position(|c| *c == often).unwrap_or(any) } else { any };
         violate(rng, clause, &mut buffers);
     }
     let mut calls = some_calls(rng, k, 6);
@@ -708,15 +747,15 @@ fn changed_desk(rng: &mut Rng) -> Case {
     let mut buffers = if rng.mille(700) {
         fit_desk(rng, k)
     } else {
-        let s = Shadow::opened(k);
-        (s.desk, s.sheet, s.slip)
+        Buffers::opened(k)
     };
     for _ in 0..rng.between(1, 3) {
-        let at = match rng.under(7) {
+        let at = match rng.under(9) {
             0 => rng.under(DEPTHS),
             1 => rng.between(DEPTHS, MARKS - 1),
             2 => rng.between(MARKS, HOLDS - 1),
             3 => rng.between(ORIGINS, DESK - 1),
+            4 => rng.between(DESK + k * k, DESK + 5 * k * k - 1),
             _ => rng.under(DESK + k * k),
         };
         let value = match rng.under(3) {
@@ -724,10 +763,11 @@ fn changed_desk(rng: &mut Rng) -> Case {
             1 => rng.under(24) as u8,
             _ => 1 << rng.under(8),
         };
-        if at < DESK {
-            buffers.0[at] = value;
-        } else {
-            buffers.1[at - DESK] = value;
+        let Buffers { desk, sheet, seen, .. } = &mut buffers;
+        match at.checked_sub(DESK) {
+            None => desk[at] = value,
+            Some(at) if at < k * k => sheet[at] = value,
+            Some(at) => seen[at - k * k] = value,
         }
     }
     let calls = some_calls(rng, k, 4);
@@ -751,13 +791,17 @@ fn opening(rng: &mut Rng) -> Case {
         _ => n,
     };
     let size = k.min(64) as usize;
-    let (mut d, mut s, l) = (near(rng, DESK), near(rng, size * size), near(rng, 1 + 3 * size));
+    let mut lengths = sizes(size).map(|n| near(rng, n));
     if by_length {
-        d = rng.pick(&[ORIGINS - 1, ORIGINS, rng.clone().between(ORIGINS, DESK - 1), DESK - 1, DESK + 1]);
-        rng.next();
-        s = size * size;
+        lengths = sizes(size);
+        let (part, kk) = (rng.clone().between(ORIGINS, COUNT - 1), size * size);
+        match rng.under(3) {
+            0 => lengths[0] = rng.pick(&[ORIGINS - 1, ORIGINS, part, COUNT - 1, COUNT, COUNT, COUNT + 2, DESK - 1, DESK + 1]),
+            1 => lengths[0] = rng.pick(&[ORIGINS - 1, ORIGINS, part, part, DESK - 1, DESK + 1]),
+            _ => lengths[2] = rng.pick(&[4 * kk - 1, 4 * kk - 1, 4 * kk - 1, kk, 4 * kk - 4, 4 * kk + 1]),
+        }
     }
-    let buffers = (rng.bytes(d), rng.bytes(s), rng.bytes(l));
+    let buffers = Buffers::any(rng, lengths);
     let mut calls = vec![Call::Open(k)];
     calls.extend(some_calls(rng, size.max(1), 3));
     case(buffers, calls)
@@ -797,7 +841,7 @@ pub fn pair(rng: &mut Rng) -> Case {
     foreign.cores = own.cores.split_off(rng.between(1, 7));
     let most = rng.pick(&[4, 10, 40, 100]);
     let make = |rng: &mut Rng, style: &Style, most: usize, banned: &[u8]| {
-        let mut shadow = Shadow::opened(k);
+        let mut shadow = Buffers::opened(k);
         let mut list = Vec::new();
         let mut after = 0;
         while list.len() < most && after < 4 {
@@ -850,30 +894,35 @@ const KINDS: [Kind; 11] = [
     Kind { name: "desk with tries", weight: 80, make: tries },
     Kind { name: "unfit desk", weight: 190, make: unfit_desk },
     Kind { name: "changed desk", weight: 115, make: changed_desk },
-    Kind { name: "opening", weight: 80, make: opening },
-    Kind { name: PAIRS, weight: 90, make: pair },
+    Kind { name: "opening", weight: 120, make: opening },
+    Kind { name: PAIRS, weight: 110, make: pair },
     Kind { name: "ties", weight: 250, make: ties::on_desk },
     Kind { name: "log that closes several", weight: 60, make: ties::closing_log },
 ];
 
-/// A part of the random cases: those with feeds, the others, and of the others those with clashes.
+/// A part of the random cases: those with feeds, the others, and of the others those with clashes and those about numbers.
 #[derive(Clone, Copy, PartialEq, Eq)]
 pub enum Part {
     Feeds,
     Others,
     Clashes,
+    Numbers,
 }
 
 /// A random case, or None if it is not of the part that is wanted.
 pub fn random(rng: &mut Rng, only: Option<Part>) -> Option<Case> {
-    let kinds = || KINDS.iter().chain(&clashes::KINDS).chain(&feeds::KINDS);
-    let kind = rng.weighted(&kinds().map(|k| k.weight).collect::<Vec<_>>());
-    let Kind { name, make, .. } = kinds().nth(kind).unwrap();
+    let parts = [
+        (&KINDS[..], Part::Others),
+        (&numbers::KINDS, Part::Numbers),
+        (&clashes::KINDS, Part::Clashes),
+        (&feeds::KINDS, Part::Feeds),
+    ];
+    let kinds = || parts.iter().flat_map(|(kinds, part)| kinds.iter().map(move |kind| (kind, *part)));
+    let kind = rng.weighted(&kinds().map(|(kind, _)| kind.weight).collect::<Vec<_>>());
+    let (Kind { name, make, .. }, part) = kinds().nth(kind).unwrap();
     let wanted = match only {
-        None => true,
-        Some(Part::Feeds) => kind >= KINDS.len() + clashes::KINDS.len(),
-        Some(Part::Others) => kind < KINDS.len() + clashes::KINDS.len(),
-        Some(Part::Clashes) => (KINDS.len()..KINDS.len() + clashes::KINDS.len()).contains(&kind),
+        Some(Part::Others) => part != Part::Feeds,
+        _ => only.is_none_or(|only| only == part),
     };
     wanted.then(|| Case { name, ..make(rng) })
 }
@@ -881,8 +930,8 @@ pub fn random(rng: &mut Rng, only: Option<Part>) -> Option<Case> {
 // ---------------------------------------------------------------------- fixed
 
 /// Records in short: "c:w" on core c, w an acquire as 3E, 3r, 3R, a try as t3E, a release as -3, or an event:
-/// h+ h- s+ s- (hard or soft on or off), S+ S- H+ H- (enter or exit a handler).
-fn read(text: &str) -> Vec<Rec> {
+/// h+ h- s+ s- (hard or soft on or off), S+ S- H+ H- (enter or exit a handler); or ? for a malformed one.
+pub fn read(text: &str) -> Vec<Rec> {
     let mut core = 0;
     let mut list = Vec::new();
     for word in text.split_whitespace() {
@@ -896,6 +945,7 @@ fn read(text: &str) -> Vec<Rec> {
         let event = ["h+", "h-", "s+", "s-", "S+", "S-", "H+", "H-"].iter().position(|e| *e == word);
         list.push(match event {
             Some(i) => Rec::new(core, 2 + i as u8, 0, 0),
+            None if word == "?" => Rec::new(core, 0, 0, 6),
             None if word.starts_with('-') => Rec::new(core, 1, word[1..].parse().unwrap(), 0),
             None => {
                 let (lock, tried) = word.strip_prefix('t').map_or((word, 0), |lock| (lock, 3));
@@ -1017,19 +1067,25 @@ pub fn hand_logs() -> Vec<HandLog> {
 }
 
 /// The kinds of fixed cases, and how many there are of each.
-pub const FIXED: [(&str, u64); 24] = [
+pub const FIXED: [(&str, u64); 31] = [
     (HAND_LOGS, 84),
-    (HAND_DRAWINGS, 36),
+    (HAND_DRAWINGS, 48),
     (EACH_RING, 64 * ties::RINGS_OF_EACH),
     (SOME_TIES, 1200),
     (EACH_PLACE, 5040),
-    (EACH_OPENING, 3487),
-    (EACH_CLAUSE, 2400),
-    (EACH_DESK_BYTE, 29_839),
+    (EACH_OPENING, 5706),
+    (EACH_CLAUSE, 3000),
+    (EACH_DESK_BYTE, 29_805),
     (EACH_STATE, 21_600),
     (ALL_OF_1, 4352),
     (ALL_OF_2, 65_536),
     (ALL_MARKS_OF_2, 20_736),
+    (numbers::BY_HAND, 18),
+    (numbers::EACH_COUNT, 775),
+    (numbers::EACH_PAIR, 4926),
+    (numbers::EACH_BYTE, 12_288),
+    (numbers::KINDS_IN_TURN, 324),
+    (numbers::EACH_SIZE, 1920),
     (clashes::STANDING, 3600),
     (clashes::BY_RECORD, 7381),
     (clashes::REFUSED, 288),
@@ -1037,10 +1093,11 @@ pub const FIXED: [(&str, u64); 24] = [
     (clashes::BESIDE_TWO, 8064),
     (clashes::OF_TWO, 1440),
     (feeds::EACH_FEED_SIZE, 160),
-    (feeds::EACH_STAND, 1620),
-    (feeds::EACH_FEED_BYTE, 5076),
+    (feeds::EACH_STAND, 2160),
+    (feeds::EACH_COUNT, 900),
+    (feeds::EACH_FEED_BYTE, 5922),
     (feeds::HAND_LOGS, 3636),
-    (feeds::EACH_CUT, 39_460),
+    (feeds::EACH_CUT, 39_956),
     (feeds::LONG_PIECES, 7),
 ];
 const HAND_LOGS: &str = "hand logs";
@@ -1064,11 +1121,13 @@ pub fn fixed(each: &mut dyn FnMut(Case) -> bool) {
         going = each(case);
         going
     });
-    if going {
-        clashes::fixed(&mut |case| {
-            going = each(case);
-            going
-        });
+    for fixed in [numbers::fixed, clashes::fixed] {
+        if going {
+            fixed(&mut |case| {
+                going = each(case);
+                going
+            });
+        }
     }
     if going {
         feeds::fixed(each);
@@ -1095,10 +1154,9 @@ fn fixed_calls(each: &mut dyn FnMut(Case) -> bool) {
     let tick = Call::Step(Rec::new(0, 2, 0, 0));
     let own = &mut Rng::new(20_260_103);
     for drawing in ties::hand_drawings() {
-        let (desk, sheet) = drawing.sketch.desk();
-        let k = usize::from(desk[0]);
-        let c = case((desk, sheet, own.bytes(1 + 3 * k)), vec![tick.clone(), Call::Ask(0)]);
-        if !each(HAND_DRAWINGS, c) {
+        let mut buffers = drawing.sketch.buffers();
+        buffers.slip = own.bytes(buffers.slip.len());
+        if !each(HAND_DRAWINGS, case(buffers, vec![tick.clone(), Call::Ask(0)])) {
             return;
         }
     }
@@ -1118,19 +1176,20 @@ fn fixed_calls(each: &mut dyn FnMut(Case) -> bool) {
         let core = frame / 3;
         for depth in 1..=DEEPEST {
             for place in 0..depth {
-                let mut desk = Shadow::opened(DEEPEST).desk;
+                let mut buffers = Buffers::opened(DEEPEST);
+                let desk = &mut buffers.desk;
                 desk[STATES..STATES + 8].fill(8);
                 desk[STATES + core] = rng.pick([&[1, 2, 3][..], &[4, 5], &[6, 7, 8]][frame % 3]);
                 for other in 0..FRAMES {
                     let most = if other == frame { depth } else { DEEPEST };
                     for i in 0..if may_hold(desk[STATES + other / 3], other % 3) { most } else { 0 } {
                         // Recursive reads: whatever is drawn is clean.
-                        push(&mut desk, other, i as u8 + 64 * 2, rng.mille(600));
+                        push(desk, other, i as u8 + 64 * 2, rng.mille(600));
                     }
                 }
                 let calls = vec![Call::Step(Rec::new(core as u8, 1, place as u8, 0)), Call::Ask(0)];
-                let (sheet, slip) = (vec![0; DEEPEST * DEEPEST], vec![9; 1 + 3 * DEEPEST]);
-                if !each(EACH_PLACE, case((desk, sheet, slip), calls)) {
+                buffers.slip.fill(9);
+                if !each(EACH_PLACE, case(buffers, calls)) {
                     return;
                 }
             }
@@ -1140,14 +1199,17 @@ fn fixed_calls(each: &mut dyn FnMut(Case) -> bool) {
     // one byte short, and empty.
     for k in (0..=300).chain(BIG) {
         let size = k.min(64) as usize;
-        let short = (size * size).saturating_sub(1);
-        for (d, s) in [
-            (DESK, size * size), (DESK, 4096), (DESK - 1, size * size), (DESK, short), (DESK - 1, short), (0, 0),
-            (DESK + 22, 5000), (DESK, 0), (ORIGINS, size * size), (ORIGINS - 1, size * size), (DESK + 1, size * size),
+        let [_, sheet, seen, slip] = sizes(size);
+        let (short, seen_short) = (sheet.saturating_sub(1), seen.saturating_sub(1));
+        for (d, s, n) in [
+            (DESK, sheet, seen), (DESK, 4096, 16_384), (DESK - 1, sheet, seen), (DESK, short, seen), (DESK - 1, short, seen),
+            (0, 0, 0), (DESK + 22, 5000, 17_000), (DESK, 0, seen), (ORIGINS, sheet, seen), (ORIGINS - 1, sheet, seen),
+            (DESK + 1, sheet, seen), (COUNT, sheet, seen), (COUNT - 1, sheet, seen), (DESK, sheet, seen_short),
+            (DESK, sheet, sheet), (DESK, sheet, 0), (DESK, sheet, seen + 1), (DESK, short, seen_short),
         ] {
             let mut calls = vec![Call::Open(k)];
             calls.extend(some_calls(rng, size.max(1), 2));
-            if !each(EACH_OPENING, case((rng.bytes(d), rng.bytes(s), rng.bytes(1 + 3 * size)), calls)) {
+            if !each(EACH_OPENING, case(Buffers::any(rng, [d, s, n, slip]), calls)) {
                 return;
             }
         }
@@ -1160,13 +1222,12 @@ fn fixed_calls(each: &mut dyn FnMut(Case) -> bool) {
             let mut buffers = fit_desk(rng, k);
             if made % 2 == 0 {
                 // Fresh cores, so that nothing else is wrong.
-                let s = Shadow::opened(k);
-                buffers = (s.desk, s.sheet, s.slip);
+                buffers = Buffers::opened(k);
             }
             if !violate(rng, clause, &mut buffers) {
                 continue;
             }
-            let desk = &mut buffers.0;
+            let desk = &mut buffers.desk;
             if name == "depth over the limit" {
                 // An overlong depth in a handler frame would be wrong twice.
                 for core in 0..8 {
@@ -1199,7 +1260,7 @@ fn fixed_calls(each: &mut dyn FnMut(Case) -> bool) {
     // Each byte of the desk with each value, on an opened desk with some held locks.
     for at in 0..DESK {
         let k = [1, 3, 8, 64][at % 4];
-        let mut shadow = Shadow::opened(k);
+        let mut shadow = Buffers::opened(k);
         let style = try_style(k);
         for _ in 0..30 {
             shadow.next(rng, &style);
@@ -1208,10 +1269,10 @@ fn fixed_calls(each: &mut dyn FnMut(Case) -> bool) {
             if at >= MARKS && value > 4 && !value.is_power_of_two() && !rng.mille(100) {
                 continue;
             }
-            let mut desk = shadow.desk.clone();
-            desk[at] = value;
+            let mut buffers = shadow.clone();
+            buffers.desk[at] = value;
             let calls = some_calls(rng, k, 2);
-            if !each(EACH_DESK_BYTE, case((desk, shadow.sheet.clone(), shadow.slip.clone()), calls)) {
+            if !each(EACH_DESK_BYTE, case(buffers, calls)) {
                 return;
             }
         }
@@ -1219,12 +1280,13 @@ fn fixed_calls(each: &mut dyn FnMut(Case) -> bool) {
     // Each state with each kind, with empty and with standing frames, by waits and by tries.
     for state in 0..9u8 {
         for (held, tries) in [(0, false), (1, false), (1, true), (2, true), (DEEPEST, false), (DEEPEST, true)] {
-            let mut desk = Shadow::opened(3).desk;
-            desk[STATES + 4] = state;
+            let mut buffers = Buffers::opened(3);
+            buffers.slip.fill(9);
+            buffers.desk[STATES + 4] = state;
             let here = 12 + FRAME[usize::from(state)];
             for i in 0..held {
                 // Among tries every second lock is one: the oldest, and so on.
-                push(&mut desk, here, 1 + 64 * 2, tries && i % 2 == 0);
+                push(&mut buffers.desk, here, 1 + 64 * 2, tries && i % 2 == 0);
             }
             for kind in 0..10 {
                 for class in 0..5 {
@@ -1232,7 +1294,7 @@ fn fixed_calls(each: &mut dyn FnMut(Case) -> bool) {
                         let calls = vec![
                             Call::Step(Rec::new(4, kind, class, mode)), Call::Ask(1), Call::Step(Rec::new(4, 0, 2, 2)),
                         ];
-                        if !each(EACH_STATE, case((desk.clone(), vec![0; 9], vec![9; 10]), calls)) {
+                        if !each(EACH_STATE, case(buffers.clone(), calls)) {
                             return;
                         }
                     }
@@ -1241,34 +1303,35 @@ fn fixed_calls(each: &mut dyn FnMut(Case) -> bool) {
         }
     }
     // All drawings of one class; of two classes all sheets, and all marks with some sheets.
-    for mark in 0..=255u8 {
-        for kinds in 0..17u8 {
-            let mut desk = Shadow::opened(1).desk;
-            desk[MARKS] = mark;
-            let calls = vec![Call::Ask(0), tick.clone(), Call::Ask(0), Call::Ask(1)];
-            if !each(ALL_OF_1, case((desk, vec![kinds], vec![7; 4]), calls)) {
-                return;
-            }
+    let drawn = |k: usize, marks: &[u8], sheet: &[u8]| {
+        let mut buffers = Buffers::opened(k);
+        buffers.desk[MARKS..MARKS + marks.len()].copy_from_slice(marks);
+        buffers.sheet.copy_from_slice(sheet);
+        buffers.slip.fill(7);
+        numbers::usual(&mut buffers);
+        buffers
+    };
+    for (mark, kinds) in (0..=255u8).flat_map(|mark| (0..17u8).map(move |kinds| (mark, kinds))) {
+        let calls = vec![Call::Ask(0), tick.clone(), Call::Ask(0), Call::Ask(1)];
+        if !each(ALL_OF_1, case(drawn(1, &[mark], &[kinds]), calls)) {
+            return;
         }
     }
     for all in 0..65536usize {
-        let desk = Shadow::opened(2).desk;
-        let sheet = vec![all as u8 & 15, (all >> 4) as u8 & 15, (all >> 8) as u8 & 15, (all >> 12) as u8];
+        let sheet = [0, 4, 8, 12].map(|bit| (all >> bit) as u8 & 15);
         let calls = vec![tick.clone(), Call::Ask(0), Call::Ask(1)];
-        if !each(ALL_OF_2, case((desk, sheet, vec![7; 7]), calls)) {
+        if !each(ALL_OF_2, case(drawn(2, &[], &sheet), calls)) {
             return;
         }
     }
     let fit = |m: &u8| m >> 4 & 12 & !m == 0;
     for (a, b) in (0..=255).filter(fit).flat_map(|a| (0..=255).filter(fit).map(move |b| (a, b))) {
-        let mut desk = Shadow::opened(2).desk;
-        (desk[MARKS], desk[MARKS + 1]) = (a, b);
         let sheet = match own.under(3) {
             0 => vec![0; 4],
             1 => vec![0, 1 << own.under(4), 1 << own.under(4), 0],
             _ => own.bytes(4).iter().map(|b| b & 15).collect(),
         };
-        if !each(ALL_MARKS_OF_2, case((desk, sheet, vec![7; 7]), vec![tick.clone()])) {
+        if !each(ALL_MARKS_OF_2, case(drawn(2, &[a, b], &sheet), vec![tick.clone()])) {
             return;
         }
     }

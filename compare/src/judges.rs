@@ -5,15 +5,17 @@
 
 use crate::fast;
 
-pub type Open = fn(u64, &mut [u8], &mut [u8]) -> u8;
-pub type Step = fn(&mut [u8], &mut [u8], &mut [u8], &[u8]) -> u8;
-pub type Ask = fn(&[u8], &[u8], u64, &mut u64, &mut u32) -> u8;
+/// K, then desk, sheet and second sheet.
+pub type Open = fn(u64, &mut [u8], &mut [u8], &mut [u8]) -> u8;
+/// Desk, both sheets and slip, and the record.
+pub type Step = fn(&mut [u8], &mut [u8], &mut [u8], &mut [u8], &[u8]) -> u8;
+pub type Ask = fn(&[u8], &[u8], &[u8], u64, &mut u64, &mut u32) -> u8;
 pub type FeedStart = fn(&mut [u8]) -> u8;
-/// Feed, desk, sheet and slip, the piece, and the record number.
-pub type Feed = fn(&mut [u8], &mut [u8], &mut [u8], &mut [u8], &[u8], &mut u64) -> u8;
-pub type FeedEnd = fn(&mut [u8], &mut [u8], &mut [u8], &mut [u8], &mut u64) -> u8;
+/// Feed, desk, both sheets and slip, the piece, and the record number.
+pub type Feed = fn(&mut [u8], &mut [u8], &mut [u8], &mut [u8], &mut [u8], &[u8], &mut u64) -> u8;
+pub type FeedEnd = fn(&mut [u8], &mut [u8], &mut [u8], &mut [u8], &mut [u8], &mut u64) -> u8;
 /// A log in one piece, and whether it has ended; no call of the library.
-pub type WholeLog = fn(&[u8], &mut [u8], &mut [u8], &mut [u8], bool) -> (u8, u64);
+pub type WholeLog = fn(&[u8], &mut [u8], &mut [u8], &mut [u8], &mut [u8], bool) -> (u8, u64);
 
 /// A judge's calls.
 #[derive(Clone, Copy)]
@@ -64,23 +66,26 @@ impl Judges {
 }
 
 extern "C" {
-    fn plungerowl_open(k: u64, desk: *mut u8, desk_len: usize, sheet: *mut u8, sheet_len: usize) -> u8;
+    fn plungerowl_open(
+        k: u64, desk: *mut u8, desk_len: usize, sheet: *mut u8, sheet_len: usize, seen: *mut u8, seen_len: usize,
+    ) -> u8;
     fn plungerowl_step(
-        desk: *mut u8, desk_len: usize, sheet: *mut u8, sheet_len: usize,
+        desk: *mut u8, desk_len: usize, sheet: *mut u8, sheet_len: usize, seen: *mut u8, seen_len: usize,
         slip: *mut u8, slip_len: usize, record: *const u8, record_len: usize,
     ) -> u8;
     fn plungerowl_ask(
-        desk: *const u8, desk_len: usize, sheet: *const u8, sheet_len: usize,
+        desk: *const u8, desk_len: usize, sheet: *const u8, sheet_len: usize, seen: *const u8, seen_len: usize,
         class: u64, word: *mut u64, count: *mut u32,
     ) -> u8;
     fn plungerowl_feed_start(feed: *mut u8, feed_len: usize) -> u8;
     fn plungerowl_feed(
         feed: *mut u8, feed_len: usize, desk: *mut u8, desk_len: usize, sheet: *mut u8, sheet_len: usize,
-        slip: *mut u8, slip_len: usize, piece: *const u8, piece_len: usize, record: *mut u64,
+        seen: *mut u8, seen_len: usize, slip: *mut u8, slip_len: usize, piece: *const u8, piece_len: usize,
+        record: *mut u64,
     ) -> u8;
     fn plungerowl_feed_end(
         feed: *mut u8, feed_len: usize, desk: *mut u8, desk_len: usize, sheet: *mut u8, sheet_len: usize,
-        slip: *mut u8, slip_len: usize, record: *mut u64,
+        seen: *mut u8, seen_len: usize, slip: *mut u8, slip_len: usize, record: *mut u64,
     ) -> u8;
 
     // From the C library that std links anyway.
@@ -89,42 +94,53 @@ extern "C" {
 }
 
 pub mod library {
-    pub fn open(k: u64, desk: &mut [u8], sheet: &mut [u8]) -> u8 {
-        unsafe { super::plungerowl_open(k, desk.as_mut_ptr(), desk.len(), sheet.as_mut_ptr(), sheet.len()) }
+    pub fn open(k: u64, desk: &mut [u8], sheet: &mut [u8], seen: &mut [u8]) -> u8 {
+        unsafe {
+            super::plungerowl_open(
+                k, desk.as_mut_ptr(), desk.len(), sheet.as_mut_ptr(), sheet.len(), seen.as_mut_ptr(), seen.len(),
+            )
+        }
     }
     #[inline(never)]
-    pub fn step(desk: &mut [u8], sheet: &mut [u8], slip: &mut [u8], record: &[u8]) -> u8 {
+    pub fn step(desk: &mut [u8], sheet: &mut [u8], seen: &mut [u8], slip: &mut [u8], record: &[u8]) -> u8 {
         unsafe {
             super::plungerowl_step(
-                desk.as_mut_ptr(), desk.len(), sheet.as_mut_ptr(), sheet.len(),
+                desk.as_mut_ptr(), desk.len(), sheet.as_mut_ptr(), sheet.len(), seen.as_mut_ptr(), seen.len(),
                 slip.as_mut_ptr(), slip.len(), record.as_ptr(), record.len(),
             )
         }
     }
     #[inline(never)]
-    pub fn ask(desk: &[u8], sheet: &[u8], class: u64, word: &mut u64, count: &mut u32) -> u8 {
-        unsafe { super::plungerowl_ask(desk.as_ptr(), desk.len(), sheet.as_ptr(), sheet.len(), class, word, count) }
+    pub fn ask(desk: &[u8], sheet: &[u8], seen: &[u8], class: u64, word: &mut u64, count: &mut u32) -> u8 {
+        unsafe {
+            super::plungerowl_ask(
+                desk.as_ptr(), desk.len(), sheet.as_ptr(), sheet.len(), seen.as_ptr(), seen.len(), class, word, count,
+            )
+        }
     }
     pub fn feed_start(feed: &mut [u8]) -> u8 {
         unsafe { super::plungerowl_feed_start(feed.as_mut_ptr(), feed.len()) }
     }
     #[inline(never)]
     pub fn feed(
-        feed: &mut [u8], desk: &mut [u8], sheet: &mut [u8], slip: &mut [u8], piece: &[u8], record: &mut u64,
+        feed: &mut [u8], desk: &mut [u8], sheet: &mut [u8], seen: &mut [u8], slip: &mut [u8], piece: &[u8],
+        record: &mut u64,
     ) -> u8 {
         unsafe {
             super::plungerowl_feed(
                 feed.as_mut_ptr(), feed.len(), desk.as_mut_ptr(), desk.len(), sheet.as_mut_ptr(), sheet.len(),
-                slip.as_mut_ptr(), slip.len(), piece.as_ptr(), piece.len(), record,
+                seen.as_mut_ptr(), seen.len(), slip.as_mut_ptr(), slip.len(), piece.as_ptr(), piece.len(), record,
             )
         }
     }
     #[inline(never)]
-    pub fn feed_end(feed: &mut [u8], desk: &mut [u8], sheet: &mut [u8], slip: &mut [u8], record: &mut u64) -> u8 {
+    pub fn feed_end(
+        feed: &mut [u8], desk: &mut [u8], sheet: &mut [u8], seen: &mut [u8], slip: &mut [u8], record: &mut u64,
+    ) -> u8 {
         unsafe {
             super::plungerowl_feed_end(
                 feed.as_mut_ptr(), feed.len(), desk.as_mut_ptr(), desk.len(), sheet.as_mut_ptr(), sheet.len(),
-                slip.as_mut_ptr(), slip.len(), record,
+                seen.as_mut_ptr(), seen.len(), slip.as_mut_ptr(), slip.len(), record,
             )
         }
     }
@@ -164,7 +180,7 @@ pub enum Subject {
 }
 
 pub struct Edges {
-    edges: [Edge; 5],
+    edges: [Edge; 6],
     calls: u64,
 }
 
@@ -187,35 +203,37 @@ impl Subject {
         Subject::Library(Box::new(Edges { edges, calls: 0 }))
     }
 
-    pub fn open(&mut self, k: u64, desk: &mut [u8], sheet: &mut [u8]) -> u8 {
+    pub fn open(&mut self, k: u64, desk: &mut [u8], sheet: &mut [u8], seen: &mut [u8]) -> u8 {
         match self {
-            Subject::Planted(judge) => (judge.open)(k, desk, sheet),
+            Subject::Planted(judge) => (judge.open)(k, desk, sheet, seen),
             Subject::Library(e) => {
                 if !e.turn() {
-                    return library::open(k, desk, sheet);
+                    return library::open(k, desk, sheet, seen);
                 }
-                let [a, b, ..] = &mut e.edges;
-                let (d, s) = (a.copy(desk), b.copy(sheet));
-                let answer = library::open(k, d, s);
+                let [a, b, c, ..] = &mut e.edges;
+                let (d, s, n) = (a.copy(desk), b.copy(sheet), c.copy(seen));
+                let answer = library::open(k, d, s, n);
                 desk.copy_from_slice(d);
                 sheet.copy_from_slice(s);
+                seen.copy_from_slice(n);
                 answer
             }
         }
     }
 
-    pub fn step(&mut self, desk: &mut [u8], sheet: &mut [u8], slip: &mut [u8], record: &[u8]) -> u8 {
+    pub fn step(&mut self, desk: &mut [u8], sheet: &mut [u8], seen: &mut [u8], slip: &mut [u8], record: &[u8]) -> u8 {
         match self {
-            Subject::Planted(judge) => (judge.step)(desk, sheet, slip, record),
+            Subject::Planted(judge) => (judge.step)(desk, sheet, seen, slip, record),
             Subject::Library(e) => {
                 if !e.turn() {
-                    return library::step(desk, sheet, slip, record);
+                    return library::step(desk, sheet, seen, slip, record);
                 }
-                let [a, b, c, f, ..] = &mut e.edges;
-                let (d, s, l, r) = (a.copy(desk), b.copy(sheet), c.copy(slip), f.copy(record));
-                let answer = library::step(d, s, l, r);
+                let [a, b, c, f, g, ..] = &mut e.edges;
+                let (d, s, n, l, r) = (a.copy(desk), b.copy(sheet), c.copy(seen), f.copy(slip), g.copy(record));
+                let answer = library::step(d, s, n, l, r);
                 desk.copy_from_slice(d);
                 sheet.copy_from_slice(s);
+                seen.copy_from_slice(n);
                 slip.copy_from_slice(l);
                 assert_eq!(r, record, "the record was changed");
                 answer
@@ -223,17 +241,19 @@ impl Subject {
         }
     }
 
-    pub fn ask(&mut self, desk: &[u8], sheet: &[u8], class: u64, word: &mut u64, count: &mut u32) -> u8 {
+    pub fn ask(
+        &mut self, desk: &[u8], sheet: &[u8], seen: &[u8], class: u64, word: &mut u64, count: &mut u32,
+    ) -> u8 {
         match self {
-            Subject::Planted(judge) => (judge.ask)(desk, sheet, class, word, count),
+            Subject::Planted(judge) => (judge.ask)(desk, sheet, seen, class, word, count),
             Subject::Library(e) => {
                 if !e.turn() {
-                    return library::ask(desk, sheet, class, word, count);
+                    return library::ask(desk, sheet, seen, class, word, count);
                 }
-                let [a, b, ..] = &mut e.edges;
-                let (d, s) = (a.copy(desk), b.copy(sheet));
-                let answer = library::ask(d, s, class, word, count);
-                assert!(d == desk && s == sheet, "a question changed its buffers");
+                let [a, b, c, ..] = &mut e.edges;
+                let (d, s, n) = (a.copy(desk), b.copy(sheet), c.copy(seen));
+                let answer = library::ask(d, s, n, class, word, count);
+                assert!(d == desk && s == sheet && n == seen, "a question changed its buffers");
                 answer
             }
         }
@@ -255,20 +275,23 @@ impl Subject {
     }
 
     pub fn feed(
-        &mut self, feed: &mut [u8], desk: &mut [u8], sheet: &mut [u8], slip: &mut [u8], piece: &[u8], record: &mut u64,
+        &mut self, feed: &mut [u8], desk: &mut [u8], sheet: &mut [u8], seen: &mut [u8], slip: &mut [u8], piece: &[u8],
+        record: &mut u64,
     ) -> u8 {
         match self {
-            Subject::Planted(judge) => (judge.feed)(feed, desk, sheet, slip, piece, record),
+            Subject::Planted(judge) => (judge.feed)(feed, desk, sheet, seen, slip, piece, record),
             Subject::Library(e) => {
                 if !e.turn() {
-                    return library::feed(feed, desk, sheet, slip, piece, record);
+                    return library::feed(feed, desk, sheet, seen, slip, piece, record);
                 }
-                let [a, b, c, d, g] = &mut e.edges;
-                let (f, d, s, l, p) = (a.copy(feed), b.copy(desk), c.copy(sheet), d.copy(slip), g.copy(piece));
-                let answer = library::feed(f, d, s, l, p, record);
+                let [a, b, c, d, g, h] = &mut e.edges;
+                let (f, d, s, n) = (a.copy(feed), b.copy(desk), c.copy(sheet), d.copy(seen));
+                let (l, p) = (g.copy(slip), h.copy(piece));
+                let answer = library::feed(f, d, s, n, l, p, record);
                 feed.copy_from_slice(f);
                 desk.copy_from_slice(d);
                 sheet.copy_from_slice(s);
+                seen.copy_from_slice(n);
                 slip.copy_from_slice(l);
                 assert!(p == piece, "the piece was changed");
                 answer
@@ -277,20 +300,22 @@ impl Subject {
     }
 
     pub fn feed_end(
-        &mut self, feed: &mut [u8], desk: &mut [u8], sheet: &mut [u8], slip: &mut [u8], record: &mut u64,
+        &mut self, feed: &mut [u8], desk: &mut [u8], sheet: &mut [u8], seen: &mut [u8], slip: &mut [u8],
+        record: &mut u64,
     ) -> u8 {
         match self {
-            Subject::Planted(judge) => (judge.feed_end)(feed, desk, sheet, slip, record),
+            Subject::Planted(judge) => (judge.feed_end)(feed, desk, sheet, seen, slip, record),
             Subject::Library(e) => {
                 if !e.turn() {
-                    return library::feed_end(feed, desk, sheet, slip, record);
+                    return library::feed_end(feed, desk, sheet, seen, slip, record);
                 }
-                let [a, b, c, d, _] = &mut e.edges;
-                let (f, d, s, l) = (a.copy(feed), b.copy(desk), c.copy(sheet), d.copy(slip));
-                let answer = library::feed_end(f, d, s, l, record);
+                let [a, b, c, d, g, _] = &mut e.edges;
+                let (f, d, s, n, l) = (a.copy(feed), b.copy(desk), c.copy(sheet), d.copy(seen), g.copy(slip));
+                let answer = library::feed_end(f, d, s, n, l, record);
                 feed.copy_from_slice(f);
                 desk.copy_from_slice(d);
                 sheet.copy_from_slice(s);
+                seen.copy_from_slice(n);
                 slip.copy_from_slice(l);
                 answer
             }

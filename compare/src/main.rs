@@ -1,6 +1,6 @@
 //! compare: runs the proved library and the independent reference over many inputs and
-//! compares after every call: the answer, every byte of desk, sheet, slip and feed with
-//! the guards around them, word and count, the record number. See HELP.
+//! compares after every call: the answer, every byte of desk, both sheets, slip and feed
+//! with the guards around them, word and count, the record number. See HELP.
 
 mod bench;
 mod claim;
@@ -12,6 +12,7 @@ mod feeds;
 mod gen;
 mod judges;
 mod needs;
+mod numbers;
 mod planted;
 mod rng;
 mod run;
@@ -19,12 +20,12 @@ mod selftest;
 mod sights;
 mod ties;
 
-use gen::Part;
+use gen::{Buffers, Part};
 use judges::{Judges, Subject};
 use needs::Need;
 use planted::PLANTS;
 use rng::Rng;
-use run::{Case, Counts, Diff};
+use run::{Case, Counts, Diff, Rec};
 use std::process::ExitCode;
 use std::time::{Duration, Instant};
 
@@ -45,8 +46,9 @@ compare: the library beside the reference, call by call and byte by byte
                            judge too: then only demand 3's pairs of lists can show it,
                            the promise of a log in pieces, all cycles where K is 4 or
                            less, the answers that the documents give for the hand logs,
-                           the slips written down for the hand drawings, and what is to
-                           come of the rings and of the cases with clashes
+                           the slips written down for the hand drawings, what is to come
+                           of the rings and of the cases with clashes and numbers, and
+                           the numbers that a list of records alone gives
   --without NAME           leave out what is counted under this name
 
 Exit status: 0 no difference and every minimum met; 1 a difference, a wrong answer or a
@@ -161,8 +163,8 @@ fn report(met: &Met, limits: &Limits) -> bool {
     println!("feeds held to the promise: {}", promised.collect::<Vec<_>>().join(", "));
     let [none, second, both] = random.pair_faults;
     println!(
-        "pairs of lists ({} records in the second lists): no fault {none}, fault in the second only {second}, in both {both}",
-        random.pair_records
+        "pairs of lists ({} records in the second lists): no fault {none}, fault in the second only {second}, in both {both}; other numbers {}",
+        random.pair_records, random.pair_numbers
     );
     println!(
         "questions answered on closed desks {}, on open desks where the class reaches itself {}",
@@ -193,21 +195,21 @@ fn report(met: &Met, limits: &Limits) -> bool {
 fn hand_answers(subject: &mut Subject) -> bool {
     let mut well = true;
     for log in gen::hand_logs() {
-        let mut s = gen::Shadow::opened(log.k);
-        let answers: Vec<u8> =
-            log.records.iter().map(|r| subject.step(&mut s.desk, &mut s.sheet, &mut s.slip, r.slice())).collect();
+        let Buffers { mut desk, mut sheet, mut seen, mut slip } = Buffers::opened(log.k);
+        let step = |r: &Rec| subject.step(&mut desk, &mut sheet, &mut seen, &mut slip, r.slice());
+        let answers: Vec<u8> = log.records.iter().map(step).collect();
         let n = answers.len();
         let right = n == 0 || (answers[n - 1] == log.last && answers[..n - 1].iter().all(|&a| a == 0));
         if !right {
             println!("hand log {}: answers {answers:?}, the last should be {} and the others 0", log.name, log.last);
             well = false;
         }
-        let mut s = gen::Shadow::opened(log.k);
+        let mut b = Buffers::opened(log.k);
         let (mut feed, mut number) = ([0; reference::FEED], 0);
         for piece in feeds::log_of(log.k as u8, &log.records).chunks(5) {
-            subject.feed(&mut feed, &mut s.desk, &mut s.sheet, &mut s.slip, piece, &mut number);
+            subject.feed(&mut feed, &mut b.desk, &mut b.sheet, &mut b.seen, &mut b.slip, piece, &mut number);
         }
-        let answer = subject.feed_end(&mut feed, &mut s.desk, &mut s.sheet, &mut s.slip, &mut number);
+        let answer = subject.feed_end(&mut feed, &mut b.desk, &mut b.sheet, &mut b.seen, &mut b.slip, &mut number);
         if (answer, number) != (log.last, n as u64) {
             println!("hand log {} in pieces: {answer} at record {number}, not {} at record {n}", log.name, log.last);
             well = false;
@@ -220,11 +222,11 @@ fn hand_answers(subject: &mut Subject) -> bool {
 fn hand_slips(subject: &mut Subject) -> bool {
     let mut well = true;
     for drawing in ties::hand_drawings() {
-        let (mut desk, mut sheet) = drawing.sketch.desk();
-        let mut slip = vec![99; reference::slip_len(usize::from(desk[0]))];
+        let Buffers { mut desk, mut sheet, mut seen, mut slip } = drawing.sketch.buffers();
+        slip.fill(99);
         let mut expected = slip.clone();
         expected[..drawing.slip.len()].copy_from_slice(&drawing.slip);
-        let answer = subject.step(&mut desk, &mut sheet, &mut slip, &[0x4C, 0x4B, 0, 2, 0, 0]);
+        let answer = subject.step(&mut desk, &mut sheet, &mut seen, &mut slip, &[0x4C, 0x4B, 0, 2, 0, 0]);
         if (answer, &slip) != (1, &expected) {
             println!("hand drawing {}: answer {answer}, slip {slip:?}, not {expected:?}", drawing.name);
             well = false;
@@ -240,10 +242,10 @@ fn long_records(subject: &mut Subject) -> bool {
     for len in [6, 7, 12, 13, 64, 255, 256, 257, 262, 512, 518, 4102, 8198] {
         let mut record = vec![0; len];
         record[..6].copy_from_slice(&[0x4C, 0x4B, 0, 0, 1, 0]);
-        let mut s = gen::Shadow::opened(8);
-        let answer = subject.step(&mut s.desk, &mut s.sheet, &mut s.slip, &record);
-        let fresh = gen::Shadow::opened(8);
-        let unchanged = s.desk == fresh.desk && s.sheet == fresh.sheet && s.slip == fresh.slip;
+        let mut b = Buffers::opened(8);
+        let answer = subject.step(&mut b.desk, &mut b.sheet, &mut b.seen, &mut b.slip, &record);
+        let fresh = Buffers::opened(8);
+        let unchanged = b.desk == fresh.desk && b.sheet == fresh.sheet && b.seen == fresh.seen && b.slip == fresh.slip;
         if (answer, unchanged) != if len == 6 { (0, false) } else { (3, true) } {
             println!("a record of {len} bytes: answer {answer}, unchanged {unchanged}");
             well = false;

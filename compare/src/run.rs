@@ -3,8 +3,11 @@
 //! call.
 
 use crate::claim;
+use crate::drawing::{self, Drawing};
 use crate::feeds::{self, Fed, PROMISE};
+use crate::gen::{sizes, Buffers};
 use crate::judges::{Judges, Subject};
+use crate::numbers;
 use crate::sights::{self, Look, SIGHTS};
 use reference::{CLAUSES, DEEPEST, DEPTHS, DESK, FEED, FEED_CLAUSES, MARKS};
 use std::cell::OnceCell;
@@ -61,9 +64,7 @@ impl Call {
 #[derive(Clone)]
 pub struct Case {
     pub name: &'static str,
-    pub desk: Vec<u8>,
-    pub sheet: Vec<u8>,
-    pub slip: Vec<u8>,
+    pub buffers: Buffers,
     /// Empty where no call is of the feed.
     pub feed: Vec<u8>,
     pub calls: Vec<Call>,
@@ -76,15 +77,17 @@ pub struct Case {
     pub meant: Option<Meant>,
 }
 
-/// The answers, and how the slip begins then.
-#[derive(Clone)]
+/// The answers, and how the slip begins then; where they are known, the count and the number of each pair.
+#[derive(Clone, Default)]
 pub struct Meant {
     pub answers: Vec<u8>,
     pub slip: Vec<u8>,
+    pub numbers: Option<(u32, Vec<u32>)>,
 }
 
 pub struct Diff {
-    /// The judge that is wrong, the part of demand 3's claim or of the feed's promise that is broken, or LEAST.
+    /// The judge that is wrong, the part of demand 3's claim or of the feed's promise that is broken, LEAST, NUMBERS, or
+    /// BY_RECORDS.
     pub judge: &'static str,
     pub call: usize,
     pub text: String,
@@ -123,6 +126,8 @@ pub struct Counts {
     pub pair_records: u64,
     /// Pairs of lists with no fault, with one in the second only, in both.
     pub pair_faults: [u64; 3],
+    /// Pairs of lists that gave two classes another number each.
+    pub pair_numbers: u64,
     pub asked_closed: u64,
     /// Questions on open desks where the class reaches itself.
     pub asked_itself: u64,
@@ -165,6 +170,7 @@ impl Guarded {
 struct Bench {
     desk: Guarded,
     sheet: Guarded,
+    seen: Guarded,
     slip: Guarded,
     feed: Guarded,
 }
@@ -172,17 +178,37 @@ struct Bench {
 impl Bench {
     fn of(case: &Case) -> Bench {
         Bench {
-            desk: Guarded::of(&case.desk),
-            sheet: Guarded::of(&case.sheet),
-            slip: Guarded::of(&case.slip),
+            desk: Guarded::of(&case.buffers.desk),
+            sheet: Guarded::of(&case.buffers.sheet),
+            seen: Guarded::of(&case.buffers.seen),
+            slip: Guarded::of(&case.buffers.slip),
             feed: Guarded::of(&case.feed),
         }
+    }
+    /// As another stands.
+    fn set(&mut self, other: &Bench) {
+        self.desk.all.copy_from_slice(&other.desk.all);
+        self.sheet.all.copy_from_slice(&other.sheet.all);
+        self.seen.all.copy_from_slice(&other.seen.all);
+        self.slip.all.copy_from_slice(&other.slip.all);
+        self.feed.all.copy_from_slice(&other.feed.all);
+    }
+    /// Whether a byte differs before the buffers or past their stated sizes for K, the slip's apart.
+    fn differs_past(&self, other: &Bench, k: usize) -> bool {
+        let [desk, sheet, seen, _] = sizes(k);
+        let buffers = [(&self.desk, &other.desk, desk), (&self.sheet, &other.sheet, sheet), (&self.seen, &other.seen, seen)];
+        buffers.iter().any(|(a, b, size)| a.all[..FRONT] != b.all[..FRONT] || a.all.get(FRONT + size..) != b.all.get(FRONT + size..))
+    }
+    /// The first clause of "Unfit" that is violated, at a step or at a question.
+    fn unfit(&self, step: bool) -> Option<&'static str> {
+        reference::unfit(self.desk.see(), self.sheet.see(), self.seen.see(), step.then_some(self.slip.see()))
     }
     /// The first difference in a buffer.
     fn differs(&self, other: &Bench) -> Option<String> {
         let buffers = [
             ("desk", &self.desk, &other.desk),
             ("sheet", &self.sheet, &other.sheet),
+            ("second sheet", &self.seen, &other.seen),
             ("feed", &self.feed, &other.feed),
             ("slip", &self.slip, &other.slip),
         ];
@@ -198,7 +224,7 @@ fn first_difference(what: &str, a: &Guarded, b: &Guarded) -> Option<String> {
 }
 
 /// The reference's slip after a call, told from the documents: unchanged unless a fault is shown; then a true cycle, and
-/// the bytes past 1 + 3n unchanged.
+/// the bytes past 1 + 7n unchanged.
 fn slip_wrong(shows: bool, bench: &Bench, before: &Guarded) -> Option<String> {
     if !shows {
         let same = bench.slip.all == before.all;
@@ -206,12 +232,65 @@ fn slip_wrong(shows: bool, bench: &Bench, before: &Guarded) -> Option<String> {
     }
     let slip = bench.slip.see();
     let n = usize::from(slip[0]);
-    if !reference::true_circle(bench.desk.see(), bench.sheet.see(), slip) {
-        return Some(format!("slip shows no true cycle: {:?}", &slip[..(1 + 3 * n).min(slip.len())]));
+    if !reference::true_circle(bench.desk.see(), bench.sheet.see(), bench.seen.see(), slip) {
+        return Some(format!("slip shows no true cycle: {:?}", &slip[..(1 + 7 * n).min(slip.len())]));
     }
-    let past = FRONT + 1 + 3 * n;
+    let past = FRONT + 1 + 7 * n;
     let same = bench.slip.all[past..] == before.all[past..] && bench.slip.all[..FRONT] == before.all[..FRONT];
-    (!same).then(|| "slip changed past 1 + 3n".into())
+    (!same).then(|| "slip changed past 1 + 7n".into())
+}
+
+/// Count and first-seen numbers: what is wrong with those that the reference left, told from the bytes before and after the
+/// call.
+pub const NUMBERS: &str = "the first-seen numbers";
+/// Count, numbers, kinds or marks: what is wrong with those that the reference left, told from the list of records alone.
+pub const BY_RECORDS: &str = "what the records alone draw";
+
+/// After an accepted record one more is counted; a number stays where there is one, and a pair that has its first kind gets
+/// the record's.
+fn numbers_wrong(before: &Bench, after: &Bench) -> Option<String> {
+    let desk = after.desk.see();
+    let k = usize::from(desk[0]);
+    let own = numbers::count(before.desk.see()) as u64 + 1;
+    if u64::from(numbers::count(desk)) != own {
+        return Some(format!("count {} after record {own}", numbers::count(desk)));
+    }
+    let old = before.seen.see().chunks_exact(4);
+    let new = after.seen.see().chunks_exact(4);
+    let kinds = after.sheet.see()[..k * k].iter();
+    let own = (own as u32).to_le_bytes();
+    let mut pairs = old.zip(new).zip(kinds);
+    let wrong = match before.sheet.all == after.sheet.all && before.seen.all == after.seen.all {
+        // The pairs fitted before.
+        true => None,
+        false => pairs.position(|((old, new), &kinds)| match (old, kinds) {
+            ([0, 0, 0, 0], 0) => new != [0; 4],
+            ([0, 0, 0, 0], _) => new != own,
+            _ => new != old,
+        }),
+    };
+    wrong.map(|pair| format!("a wrong number from {} to {}", pair / k, pair % k))
+}
+
+/// After a piece that was no header and did not reach the top of the feed's number: as many are counted as were accepted.
+fn count_wrong(before: &Bench, after: &Bench, answer: u8) -> Option<String> {
+    let [feed, feed_after] = [before, after].map(|bench| feeds::number(bench.feed.see()));
+    let [count, count_after] = [before, after].map(|bench| u64::from(numbers::count(bench.desk.see())));
+    let accepted = feed_after - feed - u64::from(answer > 1);
+    (count + accepted != count_after).then(|| format!("count {count_after} after {count} and {accepted} accepted"))
+}
+
+/// The slip has the pair's number with a lock dependency, and 0 with an interrupt.
+fn shown_wrong(bench: &Bench) -> Option<String> {
+    let (slip, k) = (bench.slip.see(), usize::from(bench.desk.see()[0]));
+    let entries: Vec<&[u8]> = slip[1..].chunks_exact(7).take(usize::from(slip[0])).collect();
+    let n = entries.len();
+    (0..n).find_map(|i| {
+        let (from, to) = (usize::from(entries[i][0]), usize::from(entries[(i + 1) % n][0]));
+        let of_pair = || bench.seen.see().chunks_exact(4).nth(from * k + to);
+        let want = if entries[i][2] == 0 { of_pair()? } else { &[0; 4] };
+        (entries[i][3..] != *want).then(|| format!("{:?} in the slip from {from} to {to}, not {want:?}", &entries[i][3..]))
+    })
 }
 
 /// The least cycle, told by going through all where classes are few: what is wrong with the one shown.
@@ -221,14 +300,14 @@ const FEW: u8 = 4;
 fn not_least(bench: &Bench) -> Option<String> {
     let (desk, sheet, slip) = (bench.desk.see(), bench.sheet.see(), bench.slip.see());
     let n = usize::from(slip[0]);
-    let least = (1..=n).find_map(|n| reference::all_circles(desk, sheet, n).into_iter().next())?;
-    let shown = slip[1..1 + 3 * n].chunks_exact(3).map(|t| (t[0], t[1], t[2]));
-    (!shown.eq(least.iter().copied())).then(|| format!("slip {:?}, and the least cycle is {least:?}", &slip[..1 + 3 * n]))
+    let least = (1..=n).find_map(|n| reference::all_circles(desk, sheet, bench.seen.see(), n).into_iter().next())?;
+    let shown = slip[1..1 + 7 * n].chunks_exact(7).map(|t| (t[0], t[1], t[2]));
+    (!shown.eq(least.iter().copied())).then(|| format!("slip {:?}, and the least cycle is {least:?}", &slip[..1 + 7 * n]))
 }
 
 impl Counts {
     fn sight(
-        &mut self, call: &Call, before: &Bench, after: &Bench, answer: u8, clause: Option<&'static str>, after_end: bool,
+        &mut self, call: &Call, before: &Bench, after: &Bench, answer: u8, clause: Option<&'static str>, history: History,
     ) {
         if self.blind {
             return;
@@ -239,19 +318,44 @@ impl Counts {
             after: after.desk.see(),
             sheet: before.sheet.see(),
             sheet_after: after.sheet.see(),
+            seen: before.seen.see(),
+            seen_after: after.seen.see(),
             slip: after.slip.see(),
             answer,
             clause,
             feed: before.feed.see(),
             feed_after: after.feed.see(),
-            after_end,
+            history,
             shown: OnceCell::new(),
             clashes: OnceCell::new(),
+            numbers: OnceCell::new(),
         };
         self.last_sights = sights::of(&look);
         for (count, met) in self.sights.0.iter_mut().zip(self.last_sights.0) {
             *count += u64::from(met);
         }
+    }
+}
+
+/// What came before a call.
+#[derive(Clone, Copy, Default)]
+pub struct History {
+    /// Whether the call before was an end that answered 0.
+    pub after_end: bool,
+    /// From opening by steps: how many of them there were.
+    pub steps: Option<u64>,
+}
+
+impl History {
+    /// After this call and its answer.
+    pub fn after(self, call: &Call, answer: u8) -> History {
+        let steps = match call {
+            Call::Open(_) if answer == 0 => Some(0),
+            Call::Step(_) => self.steps.map(|steps| steps + 1),
+            Call::Feed(_) | Call::FeedEnd => None,
+            _ => self.steps,
+        };
+        History { after_end: matches!(call, Call::FeedEnd) && answer == 0, steps }
     }
 }
 
@@ -272,7 +376,9 @@ struct Ran {
 fn run_calls(case: &Case, calls: &[&Call], judges: &mut Judges, counts: &mut Counts) -> Result<Ran, Diff> {
     let Judges { subject, reference: other, fast } = judges;
     let mut from_opening = false;
-    let (mut record, mut after_end) = (0, false);
+    let (mut record, mut history) = (0, History::default());
+    // From opening by steps, what the records alone draw.
+    let mut by_records: Option<Drawing> = None;
     let fresh = Bench::of(case);
     let mut refe = fresh.clone();
     let mut quick = fresh.clone();
@@ -281,32 +387,35 @@ fn run_calls(case: &Case, calls: &[&Call], judges: &mut Judges, counts: &mut Cou
     let mut answers = Vec::with_capacity(calls.len());
     for (at, call) in calls.iter().enumerate() {
         let fail = |judge: &'static str, text: String| Err(Diff { judge, call: at, text });
-        before.desk.all.copy_from_slice(&refe.desk.all);
-        before.sheet.all.copy_from_slice(&refe.sheet.all);
-        before.feed.all.copy_from_slice(&refe.feed.all);
-        before.slip.all.copy_from_slice(&refe.slip.all);
+        before.set(&refe);
         counts.calls += 1;
         let (want, got, fast_got);
         let mut clause = None;
         match call {
             Call::Open(k) => {
-                want = (other.open)(*k, refe.desk.lend(), refe.sheet.lend());
-                got = subject.open(*k, subj.desk.lend(), subj.sheet.lend());
-                fast_got = (fast.open)(*k, quick.desk.lend(), quick.sheet.lend());
-                counts.sight(call, &before, &refe, want, clause, after_end);
+                want = (other.open)(*k, refe.desk.lend(), refe.sheet.lend(), refe.seen.lend());
+                got = subject.open(*k, subj.desk.lend(), subj.sheet.lend(), subj.seen.lend());
+                fast_got = (fast.open)(*k, quick.desk.lend(), quick.sheet.lend(), quick.seen.lend());
+                counts.sight(call, &before, &refe, want, clause, history);
                 counts.open[usize::from(want)] += 1;
                 from_opening |= want == 0;
+                // Two lists are held to theirs at their end.
+                if want == 0 && case.pair.is_none() {
+                    by_records = Some(Drawing::opened(*k as usize));
+                }
             }
             Call::Step(record) => {
-                want = (other.step)(refe.desk.lend(), refe.sheet.lend(), refe.slip.lend(), record.slice());
-                got = subject.step(subj.desk.lend(), subj.sheet.lend(), subj.slip.lend(), record.slice());
-                fast_got = (fast.step)(quick.desk.lend(), quick.sheet.lend(), quick.slip.lend(), record.slice());
+                let (r, s, q) = (&mut refe, &mut subj, &mut quick);
+                let bytes = record.slice();
+                want = (other.step)(r.desk.lend(), r.sheet.lend(), r.seen.lend(), r.slip.lend(), bytes);
+                got = subject.step(s.desk.lend(), s.sheet.lend(), s.seen.lend(), s.slip.lend(), bytes);
+                fast_got = (fast.step)(q.desk.lend(), q.sheet.lend(), q.seen.lend(), q.slip.lend(), bytes);
                 counts.step[usize::from(want)] += 1;
                 if want < 10 && (want == 3) == record.names().is_some() {
                     return fail("reference", format!("answer {want}, and the record names {:?}", record.names()));
                 }
                 if want == 11 {
-                    clause = reference::unfit(before.desk.see(), before.sheet.see(), Some(before.slip.see()));
+                    clause = before.unfit(true);
                     let Some(i) = CLAUSES.iter().position(|c| Some(*c) == clause) else {
                         return fail("reference", "11 without a clause".into());
                     };
@@ -319,7 +428,7 @@ fn run_calls(case: &Case, calls: &[&Call], judges: &mut Judges, counts: &mut Cou
                 } else if case.clause.is_some() {
                     return fail("reference", format!("{want} though {:?} was meant", case.clause));
                 }
-                counts.sight(call, &before, &refe, want, clause, after_end);
+                counts.sight(call, &before, &refe, want, clause, history);
                 if from_opening {
                     counts.filled += u64::from(want < 2 && full_frames(&refe) > full_frames(&before));
                     counts.over_full += u64::from(want == 8);
@@ -330,7 +439,7 @@ fn run_calls(case: &Case, calls: &[&Call], judges: &mut Judges, counts: &mut Cou
                     }
                     let slip = refe.slip.see();
                     counts.longest_cycle = counts.longest_cycle.max(slip[0]);
-                    for dependency in slip[1..].chunks_exact(3).take(usize::from(slip[0])) {
+                    for dependency in slip[1..].chunks_exact(7).take(usize::from(slip[0])) {
                         let kind = dependency[1].trailing_zeros() as usize;
                         if let Some(shown) = counts.shown.get_mut(kind).and_then(|s| s.get_mut(usize::from(dependency[2]))) {
                             *shown += 1;
@@ -341,15 +450,15 @@ fn run_calls(case: &Case, calls: &[&Call], judges: &mut Judges, counts: &mut Cou
             Call::Ask(class) => {
                 const JUNK: u64 = 0xDEAD_BEEF_0BAD_F00D;
                 let (mut w0, mut c0) = (JUNK, 77);
-                want = (other.ask)(refe.desk.see(), refe.sheet.see(), *class, &mut w0, &mut c0);
+                want = (other.ask)(refe.desk.see(), refe.sheet.see(), refe.seen.see(), *class, &mut w0, &mut c0);
                 // Guards around word and count.
                 let (mut w, mut c) = ([JUNK; 3], [77u32; 3]);
-                got = subject.ask(subj.desk.see(), subj.sheet.see(), *class, &mut w[1], &mut c[1]);
+                got = subject.ask(subj.desk.see(), subj.sheet.see(), subj.seen.see(), *class, &mut w[1], &mut c[1]);
                 let (mut w2, mut c2) = (JUNK, 77);
-                fast_got = (fast.ask)(quick.desk.see(), quick.sheet.see(), *class, &mut w2, &mut c2);
+                fast_got = (fast.ask)(quick.desk.see(), quick.sheet.see(), quick.seen.see(), *class, &mut w2, &mut c2);
                 counts.ask[usize::from(want)] += 1;
                 if want == 11 {
-                    clause = reference::unfit(before.desk.see(), before.sheet.see(), None);
+                    clause = before.unfit(false);
                     let i = CLAUSES.iter().position(|c| Some(*c) == clause).unwrap_or(0);
                     counts.clause_ask[i] += 1;
                 }
@@ -357,7 +466,7 @@ fn run_calls(case: &Case, calls: &[&Call], judges: &mut Judges, counts: &mut Cou
                     counts.asked_closed += u64::from(refe.desk.see()[1] == 1);
                     counts.asked_itself += u64::from(refe.desk.see()[1] == 0 && w0 >> class & 1 == 1);
                 }
-                counts.sight(call, &before, &refe, want, clause, after_end);
+                counts.sight(call, &before, &refe, want, clause, history);
                 if (w[1], c[1]) != (w0, c0) && got == want {
                     return fail("subject", format!("word {:#x} count {} instead of {w0:#x} {c0}", w[1], c[1]));
                 }
@@ -376,7 +485,7 @@ fn run_calls(case: &Case, calls: &[&Call], judges: &mut Judges, counts: &mut Cou
                 got = subject.feed_start(subj.feed.lend());
                 fast_got = (fast.feed_start)(quick.feed.lend());
                 counts.feed_start[usize::from(want)] += 1;
-                counts.sight(call, &before, &refe, want, clause, after_end);
+                counts.sight(call, &before, &refe, want, clause, history);
                 let mut fresh = before.feed.clone();
                 if want == 0 {
                     fresh.lend()[..FEED].fill(0);
@@ -391,19 +500,23 @@ fn run_calls(case: &Case, calls: &[&Call], judges: &mut Judges, counts: &mut Cou
                 // Guards around the record number.
                 let mut n = [JUNK; 3];
                 let (r, s, q) = (&mut refe, &mut subj, &mut quick);
+                let lend = |b: &mut Bench, call: &mut dyn FnMut([&mut [u8]; 5]) -> u8| {
+                    call([b.feed.lend(), b.desk.lend(), b.sheet.lend(), b.seen.lend(), b.slip.lend()])
+                };
                 (want, got, fast_got) = if let Call::Feed(piece) = call {
                     (
-                        (other.feed)(r.feed.lend(), r.desk.lend(), r.sheet.lend(), r.slip.lend(), piece, &mut n0),
-                        subject.feed(s.feed.lend(), s.desk.lend(), s.sheet.lend(), s.slip.lend(), piece, &mut n[1]),
-                        (fast.feed)(q.feed.lend(), q.desk.lend(), q.sheet.lend(), q.slip.lend(), piece, &mut n2),
+                        lend(r, &mut |[f, d, s, n, l]| (other.feed)(f, d, s, n, l, piece, &mut n0)),
+                        lend(s, &mut |[f, d, s, m, l]| subject.feed(f, d, s, m, l, piece, &mut n[1])),
+                        lend(q, &mut |[f, d, s, n, l]| (fast.feed)(f, d, s, n, l, piece, &mut n2)),
                     )
                 } else {
                     (
-                        (other.feed_end)(r.feed.lend(), r.desk.lend(), r.sheet.lend(), r.slip.lend(), &mut n0),
-                        subject.feed_end(s.feed.lend(), s.desk.lend(), s.sheet.lend(), s.slip.lend(), &mut n[1]),
-                        (fast.feed_end)(q.feed.lend(), q.desk.lend(), q.sheet.lend(), q.slip.lend(), &mut n2),
+                        lend(r, &mut |[f, d, s, n, l]| (other.feed_end)(f, d, s, n, l, &mut n0)),
+                        lend(s, &mut |[f, d, s, m, l]| subject.feed_end(f, d, s, m, l, &mut n[1])),
+                        lend(q, &mut |[f, d, s, n, l]| (fast.feed_end)(f, d, s, n, l, &mut n2)),
                     )
                 };
+                by_records = None;
                 clause = reference::unfit_feed(before.feed.see());
                 let clauses = if matches!(call, Call::Feed(_)) {
                     counts.feed[usize::from(want)] += 1;
@@ -418,7 +531,7 @@ fn run_calls(case: &Case, calls: &[&Call], judges: &mut Judges, counts: &mut Cou
                         return fail("reference", format!("{want} at record {n0} with an unfit feed"));
                     }
                 }
-                counts.sight(call, &before, &refe, want, clause, after_end);
+                counts.sight(call, &before, &refe, want, clause, history);
                 if n[1] != n0 && got == want {
                     return fail("subject", format!("record {} instead of {n0}", n[1]));
                 }
@@ -431,7 +544,7 @@ fn run_calls(case: &Case, calls: &[&Call], judges: &mut Judges, counts: &mut Cou
                 record = n0;
             }
         }
-        after_end = matches!(call, Call::FeedEnd) && want == 0;
+        history = history.after(call, want);
         answers.push(got);
         for (name, answer, bench) in [("subject", got, &subj), ("fast", fast_got, &quick)] {
             if answer != want {
@@ -448,6 +561,31 @@ fn run_calls(case: &Case, calls: &[&Call], judges: &mut Judges, counts: &mut Cou
             _ => false,
         };
         let shows = may_show && want == 1;
+        let mut wrong = match call {
+            Call::Step(_) if want < 2 => numbers_wrong(&before, &refe),
+            Call::Feed(_) if clause.is_none() => {
+                let (feed, after) = (before.feed.see(), refe.feed.see());
+                let counts = feed[0] == 0 && feed[1] == 1 && feeds::number(after) != u64::MAX && before.desk.see().len() >= DESK;
+                if counts { count_wrong(&before, &refe, want) } else { None }
+            }
+            _ => None,
+        };
+        if shows {
+            wrong = wrong.or_else(|| shown_wrong(&refe));
+        }
+        if let Some(text) = wrong {
+            return fail(NUMBERS, text);
+        }
+        if let (Call::Step(record), Some(drawing)) = (call, &mut by_records) {
+            // A slip may be too short.
+            if want != 11 {
+                drawing.take_in(record);
+            }
+            drawing.closed |= want == 1;
+            if let Some(text) = drawing.numbers_differ(refe.desk.see(), refe.seen.see()) {
+                return fail(BY_RECORDS, text);
+            }
+        }
         if let Some(text) = slip_wrong(shows, &refe, &before.slip) {
             return fail("reference", text);
         }
@@ -469,13 +607,19 @@ fn run_calls(case: &Case, calls: &[&Call], judges: &mut Judges, counts: &mut Cou
         if before.feed.all != refe.feed.all && !feed_may_change && !matches!(call, Call::FeedStart) {
             return fail("reference", "changed a feed that is unfit or stands at an answer".into());
         }
-        if !may_change && (before.desk.all != refe.desk.all || before.sheet.all != refe.sheet.all) {
+        let same = before.desk.all == refe.desk.all && before.sheet.all == refe.sheet.all && before.seen.all == refe.seen.all;
+        if !may_change && !same {
             return fail("reference", "changed something with a refusal or a question".into());
+        }
+        // "bytes past the stated sizes are never touched"
+        if !same && refe.differs_past(&before, usize::from(refe.desk.see()[0])) {
+            return fail("reference", "changed a byte past the stated sizes".into());
         }
         // Opening, told from the document's sentence
         if matches!(call, Call::Open(_)) && want == 0 {
             let k = usize::from(refe.desk.see()[0]);
-            let zero = refe.desk.see()[1..DESK].iter().chain(&refe.sheet.see()[..k * k]).all(|&b| b == 0);
+            let sheets = refe.sheet.see()[..k * k].iter().chain(&refe.seen.see()[..4 * k * k]);
+            let zero = refe.desk.see()[1..DESK].iter().chain(sheets).all(|&b| b == 0);
             if !zero || !matches!(call, Call::Open(n) if *n == k as u64) {
                 return fail("reference", "opening is wrong".into());
             }
@@ -492,10 +636,18 @@ pub fn run(case: &Case, judges: &mut Judges, counts: &mut Counts) -> Result<(), 
             let ran = run_calls(case, &case.calls.iter().collect::<Vec<_>>(), judges, counts)?;
             if let Some(meant) = &case.meant {
                 let slip = ran.reference.slip.see();
+                let fail = |text: String| Err(Diff { judge: "reference", call: case.calls.len() - 1, text });
                 if ran.answers != meant.answers || !slip.starts_with(&meant.slip) {
                     let slip = &slip[..meant.slip.len().min(slip.len())];
-                    let text = format!("answers {:?}, slip {slip:?}, not {:?} and {:?}", ran.answers, meant.answers, meant.slip);
-                    return Err(Diff { judge: "reference", call: case.calls.len() - 1, text });
+                    return fail(format!("answers {:?}, slip {slip:?}, not {:?} and {:?}", ran.answers, meant.answers, meant.slip));
+                }
+                if let Some((count, wanted)) = &meant.numbers {
+                    let (desk, seen) = (ran.reference.desk.see(), ran.reference.seen.see());
+                    let pairs = || (0..wanted.len()).map(|pair| numbers::number(seen, pair));
+                    if numbers::count(desk) != *count || !pairs().eq(wanted.iter().copied()) {
+                        let numbers: Vec<u32> = pairs().collect();
+                        return fail(format!("count {}, numbers {numbers:?}, not {count} and {wanted:?}", numbers::count(desk)));
+                    }
                 }
             }
             if let Some(fed) = Fed::of(case) {
@@ -531,20 +683,24 @@ fn run_promise(case: &Case, fed: &Fed, ran: &Ran, judges: &mut Judges, counts: &
         subject.feed_start(other.feed.lend());
     }
     let mut now = (0, 0);
-    let Bench { desk, sheet, slip, feed } = &mut other;
+    let Bench { desk, sheet, seen, slip, feed } = &mut other;
+    let (desk, sheet, seen, slip, feed) = (desk.lend(), sheet.lend(), seen.lend(), slip.lend(), feed.lend());
     for piece in fed.other_cut() {
-        now.0 = subject.feed(feed.lend(), desk.lend(), sheet.lend(), slip.lend(), piece, &mut now.1);
+        now.0 = subject.feed(feed, desk, sheet, seen, slip, piece, &mut now.1);
     }
     if fed.ended {
-        now.0 = subject.feed_end(feed.lend(), desk.lend(), sheet.lend(), slip.lend(), &mut now.1);
+        now.0 = subject.feed_end(feed, desk, sheet, seen, slip, &mut now.1);
     }
     hold(0, by_cut, now, &other, &ran.subject)?;
     // The whole log, from a start.
     if fed.started {
         let mut other = Bench { feed: ran.reference.feed.clone(), ..Bench::of(case) };
-        let Bench { desk, sheet, slip, .. } = &mut other;
-        let now = (reference.whole_log)(&fed.bytes, desk.lend(), sheet.lend(), slip.lend(), fed.ended);
+        let Bench { desk, sheet, seen, slip, .. } = &mut other;
+        let now = (reference.whole_log)(&fed.bytes, desk.lend(), sheet.lend(), seen.lend(), slip.lend(), fed.ended);
         hold(1, by_log, now, &other, &ran.reference)?;
+        if let Some(text) = fed_numbers(fed, last, &ran.reference) {
+            return Err(Diff { judge: BY_RECORDS, call: case.calls.len() - 1, text });
+        }
     }
     // Single steps.
     let mut other = Bench { feed: ran.subject.feed.clone(), ..Bench::of(case) };
@@ -552,15 +708,30 @@ fn run_promise(case: &Case, fed: &Fed, ran: &Ran, judges: &mut Judges, counts: &
     hold(2, by_steps, now, &other, &ran.subject)
 }
 
+/// What is wrong with count and numbers after a log in pieces from a start, told from the records alone.
+fn fed_numbers(fed: &Fed, (answer, number): (u8, u64), bench: &Bench) -> Option<String> {
+    if fed.bytes.len() < 4 || answer == 2 {
+        return None;
+    }
+    // 11, for a slip too short, is not told from the records.
+    let accepted = number - u64::from(answer == 11);
+    let mut drawing = Drawing::opened(usize::from(fed.bytes[3]));
+    for record in fed.bytes[4..].chunks(6).take(accepted as usize) {
+        drawing.take_in(&Rec::of(record));
+    }
+    drawing.numbers_differ(bench.desk.see(), bench.seen.see())
+}
+
 /// By opening and steps: the first answer but 0 and its record number, or 0 and how many records there were.
 fn single_steps(fed: &Fed, subject: &mut Subject, bench: &mut Bench) -> (u8, u64) {
-    let Bench { desk, sheet, slip, .. } = bench;
+    let Bench { desk, sheet, seen, slip, .. } = bench;
+    let (desk, sheet, seen, slip) = (desk.lend(), sheet.lend(), seen.lend(), slip.lend());
     let (mut answer, mut number) = (fed.answer, fed.number);
     let mut rest = &[&fed.loose, &fed.bytes[..]].concat()[..];
     if answer == 0 && !fed.opened {
         answer = match rest.split_first_chunk() {
             None => if fed.ended { 2 } else { 0 },
-            Some((&[0x4C, 0x48, 1, k], _)) => subject.open(u64::from(k), desk.lend(), sheet.lend()),
+            Some((&[0x4C, 0x48, 1, k], _)) => subject.open(u64::from(k), desk, sheet, seen),
             Some(_) => 2,
         };
         rest = rest.get(4..).unwrap_or(&[]);
@@ -570,7 +741,7 @@ fn single_steps(fed: &Fed, subject: &mut Subject, bench: &mut Bench) -> (u8, u64
             break;
         }
         number = number.saturating_add(1);
-        answer = subject.step(desk.lend(), sheet.lend(), slip.lend(), record);
+        answer = subject.step(desk, sheet, seen, slip, record);
     }
     (answer, number)
 }
@@ -581,37 +752,46 @@ fn run_pair(case: &Case, k: u64, in_first: &[bool], judges: &mut Judges, counts:
     let open = Call::Open(k);
     let mut play = |case: &Case, places: &[usize]| {
         let calls: Vec<&Call> = std::iter::once(&open).chain(places.iter().map(|&at| &case.calls[at])).collect();
-        run_calls(case, &calls, judges, counts).map(|ran| ran.answers)
+        run_calls(case, &calls, judges, counts)
     };
     let places: Vec<usize> = (0..case.calls.len()).collect();
     let first_places: Vec<usize> = places.iter().copied().filter(|&at| in_first[at]).collect();
-    let answers = play(case, &places)?;
+    let ran = play(case, &places)?;
     // Other bytes in the first list's buffers, the slip too.
-    let inverted = |bytes: &[u8]| bytes.iter().map(|b| !b).collect();
-    let other =
-        Case { desk: inverted(&case.desk), sheet: inverted(&case.sheet), slip: inverted(&case.slip), ..case.clone() };
-    let first_answers = play(&other, &first_places)?;
-    if (answers[0], first_answers[0]) != (0, 0) {
+    let mut other = case.clone();
+    let Buffers { desk, sheet, seen, slip } = &mut other.buffers;
+    [desk, sheet, seen, slip].into_iter().flatten().for_each(|byte| *byte = !*byte);
+    let first_ran = play(&other, &first_places)?;
+    if (ran.answers[0], first_ran.answers[0]) != (0, 0) {
         return fail("generator", 0, "a pair that isn't opened".into());
     }
     let record = |at: &usize| match &case.calls[*at] {
         Call::Step(record) => Some(record),
         _ => None,
     };
-    let run = |name, answers, places: Vec<usize>| claim::Run {
-        name,
-        records: places.iter().filter_map(record).collect(),
-        answers,
-        places,
+    let run = |name, answers, places: Vec<usize>| {
+        let records: Vec<&Rec> = places.iter().filter_map(record).collect();
+        let (drawn, drawing) = drawing::first_closed(k as usize, records.iter().copied());
+        claim::Run { name, records, answers, places, drawing, drawn }
     };
-    let first = run("first", &first_answers[1..], first_places);
-    let second = run("second", &answers[1..], places);
+    let first = run("first", &first_ran.answers[1..], first_places);
+    let second = run("second", &ran.answers[1..], places);
     if second.records.len() != case.calls.len() || !claim::applies(&first, &second) {
         return fail("generator", 0, "no pair of lists that demand 3 speaks of".into());
     }
-    if let Some((part, at, text)) = claim::broken(k as usize, &first, &second) {
+    if let Some((part, at, text)) = claim::broken(&first, &second) {
         return fail(part, at + 1, format!("demand 3, {part}: {text}"));
     }
+    // What each list left, by its own records alone.
+    for (run, Ran { reference, .. }) in [(&second, &ran), (&first, &first_ran)] {
+        let (desk, sheet, seen) = (reference.desk.see(), reference.sheet.see(), reference.seen.see());
+        let differs = run.drawing.kinds_differ(desk, sheet).or_else(|| run.drawing.numbers_differ(desk, seen));
+        if let Some(text) = differs {
+            return fail(BY_RECORDS, case.calls.len(), format!("{} list: {text}", run.name));
+        }
+    }
+    let [one, other] = [&first_ran, &ran].map(|ran| ran.reference.seen.see().chunks_exact(4).take((k * k) as usize));
+    counts.pair_numbers += u64::from(one.zip(other).any(|(a, b)| a != b && a != [0; 4] && b != [0; 4]));
     counts.pair_records += second.answers.len() as u64;
     counts.pair_faults[usize::from(second.fault().is_some()) + usize::from(first.fault().is_some())] += 1;
     Ok(())
@@ -662,14 +842,18 @@ pub fn shrink(case: &Case, judge: &'static str, judges: &mut Judges) -> Case {
         }
         size /= 2;
     }
-    for which in 0..4 {
-        let len = [best.desk.len(), best.sheet.len(), best.slip.len(), best.feed.len()][which];
+    fn buffers(case: &mut Case) -> [&mut Vec<u8>; 5] {
+        let Buffers { desk, sheet, seen, slip } = &mut case.buffers;
+        [desk, sheet, seen, slip, &mut case.feed]
+    }
+    for which in 0..5 {
+        let len = buffers(&mut best)[which].len();
         let mut size = len.max(1);
         loop {
             let mut at = 0;
             while at < len {
                 let mut c = best.clone();
-                let part = &mut [&mut c.desk, &mut c.sheet, &mut c.slip, &mut c.feed][which][at..(at + size).min(len)];
+                let part = &mut buffers(&mut c)[which][at..(at + size).min(len)];
                 if part.iter().any(|&b| b != 0) {
                     part.fill(0);
                     if fails(&c) {
@@ -699,9 +883,11 @@ fn hex(bytes: &[u8]) -> String {
 
 pub fn describe(case: &Case) -> String {
     let mut out = format!("case \"{}\"\n", case.name);
-    show_bytes("desk", &case.desk, &mut out);
-    show_bytes("sheet", &case.sheet, &mut out);
-    show_bytes("slip", &case.slip, &mut out);
+    let Buffers { desk, sheet, seen, slip } = &case.buffers;
+    show_bytes("desk", desk, &mut out);
+    show_bytes("sheet", sheet, &mut out);
+    show_bytes("second sheet", seen, &mut out);
+    show_bytes("slip", slip, &mut out);
     show_bytes("feed", &case.feed, &mut out);
     if let Some((k, _)) = &case.pair {
         out.push_str(&format!("  pair of lists, each opened with K = {k}; + stands in the second only\n"));

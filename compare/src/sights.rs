@@ -4,33 +4,38 @@ use crate::clashes;
 use crate::cycles::{Choice, Drawing, Shown};
 use crate::drawing::FRAME;
 use crate::feeds::{self, ANSWER, KEEP, KEPT, OPENED};
-use crate::run::Call;
-use reference::{CLAUSES, DEEPEST, DEPTHS, DESK, FEED, FRAMES, HOLDS, MARKS, ORIGINS, STATES};
+use crate::numbers::{self, ABOVE, FULL, NO_KINDS, NO_NUMBER};
+use crate::run::{Call, History};
+use reference::{CLAUSES, COUNT, DEEPEST, DEPTHS, DESK, FEED, FRAMES, HOLDS, MARKS, ORIGINS, STATES};
 use std::cell::OnceCell;
 use std::ops::{Range, RangeInclusive};
 
 /// The clause of "Unfit" about origins.
 pub const ORIGIN: &str = "origin where no hold stands";
 
-/// A call with the desk, the sheet and the feed before and after it, and the slip after it.
+/// A call with the desk, the sheets and the feed before and after it, and the slip after it.
 pub struct Look<'a> {
     pub call: &'a Call,
     pub before: &'a [u8],
     pub after: &'a [u8],
     pub sheet: &'a [u8],
     pub sheet_after: &'a [u8],
+    /// The second sheet.
+    pub seen: &'a [u8],
+    pub seen_after: &'a [u8],
     pub slip: &'a [u8],
     pub answer: u8,
     /// With answer 11: the first clause of "Unfit" that is violated; at a feed, of the feed's fit test.
     pub clause: Option<&'static str>,
     pub feed: &'a [u8],
     pub feed_after: &'a [u8],
-    /// Whether the call before was an end that answered 0.
-    pub after_end: bool,
+    pub history: History,
     /// The cycle shown, once it is asked for.
     pub shown: OnceCell<Option<Shown>>,
     /// The classes whose marks clash before and after the call, once they are asked for.
     pub clashes: OnceCell<[u64; 2]>,
+    /// What is asked of all numbers before the call.
+    pub numbers: OnceCell<[bool; 3]>,
 }
 
 fn is_try(desk: &[u8], frame: usize, place: usize) -> bool {
@@ -55,7 +60,7 @@ fn waits(desk: &[u8], frame: usize) -> impl DoubleEndedIterator<Item = usize> + 
 }
 
 fn has_origins(desk: &[u8]) -> bool {
-    desk.len() >= DESK && desk[ORIGINS..DESK].iter().any(|&b| b != 0)
+    desk.len() >= DESK && desk[ORIGINS..COUNT].iter().any(|&b| b != 0)
 }
 
 const TRIES: RangeInclusive<u8> = 3..=5;
@@ -146,7 +151,7 @@ impl Look<'_> {
             desk.resize(DESK, 0);
             desk
         };
-        let fit = |desk: &[u8]| reference::unfit(desk, &[0; 64 * 64], None).is_none();
+        let fit = |desk: &[u8]| reference::unfit(desk, &[0; 64 * 64], &[0; 4 * 64 * 64], None).is_none();
         self.clause(CLAUSES[0]) && lens.contains(&self.before.len()) && fit(&whole())
     }
     /// An opening refused with a good K and a desk of such a length.
@@ -156,8 +161,9 @@ impl Look<'_> {
     fn refused(&self, answer: u8, such: impl Fn(u8, u8, u8) -> bool) -> bool {
         self.answer == answer && self.record().is_some_and(|(_, kind, class, mode)| such(kind, class, mode))
     }
+    /// K, or 0 on an empty desk.
     fn classes(&self) -> u8 {
-        self.before[0]
+        self.before.first().copied().unwrap_or(0)
     }
 }
 
@@ -174,7 +180,7 @@ impl Look<'_> {
     }
     /// A slip too short for the K of this desk.
     fn short_slip(&self, desk: &[u8]) -> bool {
-        desk.first().is_some_and(|k| (1..=64).contains(k) && self.slip.len() < 1 + 3 * usize::from(*k))
+        desk.first().is_some_and(|k| (1..=64).contains(k) && self.slip.len() < 1 + 7 * usize::from(*k))
     }
     /// The piece, where the feed stands at this answer, or at any but 0.
     fn piece_at(&self, stopped: bool) -> Option<&[u8]> {
@@ -206,11 +212,12 @@ impl Look<'_> {
     fn bad_header(&self, such: impl Fn([u8; 4]) -> bool) -> bool {
         self.header(true).is_some_and(such)
     }
-    /// A good header whose desk or sheet is too short.
-    fn short_for_header(&self, desk: bool) -> bool {
-        let large = |k: u8| self.sheet.len() >= usize::from(k) * usize::from(k);
+    /// A good header whose desk, sheet or second sheet alone is too short, by its place among these.
+    fn short_for_header(&self, which: usize) -> bool {
         self.bad_header(|h| {
-            h[..3] == [0x4C, 0x48, 1] && (1..=64).contains(&h[3]) && if desk { large(h[3]) } else { !large(h[3]) }
+            let pairs = usize::from(h[3]) * usize::from(h[3]);
+            let short = [self.before.len() < DESK, self.sheet.len() < pairs, self.seen.len() < 4 * pairs];
+            h[..3] == [0x4C, 0x48, 1] && (1..=64).contains(&h[3]) && (0..3).all(|i| short[i] == (i == which))
         })
     }
     /// How many records a piece got judged.
@@ -248,7 +255,7 @@ impl Look<'_> {
 impl Look<'_> {
     fn shown(&self) -> Option<&Shown> {
         let faults = self.answer == 1 && (self.record().is_some() || self.piece_at(false).is_some());
-        let shown = || if faults { Shown::of(self.after, self.sheet_after, self.slip) } else { None };
+        let shown = || if faults { Shown::of(self.after, self.sheet_after, self.seen_after, self.slip) } else { None };
         self.shown.get_or_init(shown).as_ref()
     }
     fn shows(&self, such: impl Fn(&Shown) -> bool) -> bool {
@@ -269,7 +276,133 @@ impl Look<'_> {
         !(kind < 2 && shown.passes(class)) && !held.any(|class| shown.passes(class))
     }
     fn clean_before(&self) -> bool {
-        !Drawing::of(self.before, self.sheet).has_cycle()
+        !Drawing::of(self.before, self.sheet, self.seen).has_cycle()
+    }
+}
+
+/// The count and the first-seen numbers.
+impl Look<'_> {
+    /// A step on a fit desk, and whatever it answers but 10 and 11: the count before it.
+    fn counted(&self) -> Option<u32> {
+        (matches!(self.call, Call::Step(_)) && self.answer < 10).then(|| numbers::count(self.before))
+    }
+    /// An accepted step at such a count.
+    fn counts_at(&self, such: impl Fn(u32) -> bool) -> bool {
+        self.answer < 2 && self.counted().is_some_and(such)
+    }
+    /// A step on a fit desk at the last count with this answer.
+    fn at_full(&self, answer: u8) -> bool {
+        matches!(self.call, Call::Step(_)) && self.answer == answer && numbers::count(self.before) == FULL
+    }
+    /// The pairs and kinds that this record draws, or would draw if it were accepted, where it is an acquire that waits; the
+    /// newest held lock's last.
+    fn draws(&self) -> Vec<(usize, u8)> {
+        let Some((_, 0, class, mode @ 0..3)) = self.record().filter(|_| self.answer < 10) else { return Vec::new() };
+        let (desk, k, frame) = (self.before, usize::from(self.classes()), self.frame());
+        let held = (0..depth(desk, frame)).map(|place| hold(desk, frame, place));
+        let kind = |lock: u8| (if lock < 64 { 1 } else { 4 }) << u8::from(mode != 2);
+        held.map(|lock| (usize::from(lock % 64) * k + usize::from(class), kind(lock))).collect()
+    }
+    /// An accepted record that draws a pair such that this holds of its kinds before, the kind drawn, and its number after.
+    fn drew(&self, such: impl Fn(u8, u8, u32) -> bool) -> bool {
+        let after = |pair: usize| numbers::number(self.seen_after, pair);
+        self.answer < 2 && self.draws().iter().any(|&(pair, kind)| such(self.sheet[pair], kind, after(pair)))
+    }
+    fn drew_first(&self, such: impl Fn(u32) -> bool) -> bool {
+        self.drew(|before, _, number| before == 0 && such(number))
+    }
+    /// A record refused with 9, of this kind.
+    fn full_for(&self, such: impl Fn(u8, u8) -> bool) -> bool {
+        self.at_full(9) && self.record().is_some_and(|(_, kind, _, mode)| such(kind, mode))
+    }
+    /// A dependency shown such that this holds of its pair, its kind, its source, and the number of the pair.
+    fn showed(&self, such: impl Fn(usize, u8, u8, u32) -> bool) -> bool {
+        let k = usize::from(self.after.first().copied().unwrap_or(0));
+        self.shows(|s| {
+            (0..s.n()).any(|i| {
+                let pair = usize::from(s.cycle[i][0]) * k + s.to(i);
+                such(pair, s.cycle[i][1], s.cycle[i][2], numbers::number(self.seen_after, pair))
+            })
+        })
+    }
+    fn showed_number(&self, such: impl Fn(u32) -> bool) -> bool {
+        self.showed(|_, _, source, number| source == 0 && such(number))
+    }
+    /// Refused for a number, where this holds of a pair that does not fit so, K, its number, and the count.
+    fn unfit_number(&self, clause: &str, such: impl Fn(usize, usize, u32, u32) -> bool) -> bool {
+        self.clause(clause) && {
+            let (k, count) = (usize::from(self.classes()), numbers::count(self.before));
+            (0..k * k).any(|pair| {
+                let (kinds, number) = (self.sheet[pair], numbers::number(self.seen, pair));
+                let unfit = match clause {
+                    NO_NUMBER => kinds != 0 && number == 0,
+                    NO_KINDS => kinds == 0 && number != 0,
+                    _ => number > count,
+                };
+                unfit && such(pair, k, number, count)
+            })
+        }
+    }
+    /// A step or a question on a fit desk: K x K.
+    fn fit_pairs(&self) -> Option<usize> {
+        let fit = matches!(self.call, Call::Step(_) | Call::Ask(_)) && self.answer < 10;
+        fit.then(|| usize::from(self.classes()) * usize::from(self.classes()))
+    }
+    /// The same: whether a number is the count, whether one has a greater low byte, and whether one is under 2 to the 31
+    /// where the count is not.
+    fn fit_numbers(&self) -> [bool; 3] {
+        *self.numbers.get_or_init(|| {
+            let Some(pairs) = self.fit_pairs() else { return [false; 3] };
+            let count = numbers::count(self.before);
+            let mut all = [false; 3];
+            for four in self.seen[..4 * pairs].chunks_exact(4) {
+                let n = u32::from_le_bytes(four.try_into().unwrap());
+                all[0] |= (n == count) & (n != 0);
+                all[1] |= n as u8 > count as u8;
+                all[2] |= (n != 0) & (n >> 31 == 0);
+            }
+            all[2] &= count >> 31 == 1;
+            all
+        })
+    }
+    /// The same, where the pair behind the last does not fit.
+    fn past_unfit(&self) -> bool {
+        self.fit_pairs().is_some_and(|past| {
+            self.sheet.len() > past && self.seen.len() >= 4 * past + 4 && {
+                let (kinds, number) = (self.sheet[past], numbers::number(self.seen, past));
+                (kinds == 0) != (number == 0) || number > numbers::count(self.before)
+            }
+        })
+    }
+    /// Refused for nothing but the second sheet's length.
+    fn short_seen(&self, lens: impl Fn(usize) -> Range<usize>) -> bool {
+        self.clause("second sheet too short") && {
+            let k = usize::from(self.classes());
+            lens(k * k).contains(&self.seen.len())
+        }
+    }
+    /// Refused for nothing but the slip's length.
+    fn slip_of(&self, length: impl Fn(usize) -> usize) -> bool {
+        let fit = || reference::unfit(self.before, self.sheet, self.seen, None).is_none();
+        self.clause("slip too short") && self.slip.len() == length(usize::from(self.classes())) && fit()
+    }
+    /// An opening refused for nothing but the second sheet's length.
+    fn opens_seen(&self, lens: impl Fn(usize) -> Range<usize>) -> bool {
+        let Call::Open(k @ 1..=64) = *self.call else { return false };
+        let pairs = (k * k) as usize;
+        let well = self.before.len() >= DESK && self.sheet.len() >= pairs;
+        self.answer == 2 && well && lens(pairs).contains(&self.seen.len())
+    }
+    fn opened_over(&self, such: impl Fn(usize) -> bool) -> bool {
+        matches!(self.call, Call::Open(k) if self.answer == 0 && such((k * k) as usize))
+    }
+    /// A piece or an end over a feed that stands at 9.
+    fn stood_at_9(&self) -> bool {
+        self.stood() && self.feed[ANSWER] == 9
+    }
+    /// Whether a piece's records drew a pair's first kind.
+    fn drew_in_piece(&self) -> bool {
+        self.piece(|_| true) && self.opened() && self.records() > 0 && self.seen != self.seen_after
     }
 }
 
@@ -352,74 +485,74 @@ impl Sight {
 
 pub const SIGHTS: &[Sight] = &[
     // Acquires.
-    sight("try of an exclusive lock", 27_000, |l| l.tries_mode(3)),
-    sight("try of a read", 16_000, |l| l.tries_mode(4)),
-    sight("try of a recursive read", 32_000, |l| l.tries_mode(5)),
-    sight("try over a held lock that waited", 19_000, |l| l.tries() && waits(l.before, l.frame()).next().is_some()),
-    sight("try over a try", 50_000, |l| l.tries() && tries(l.before, l.frame()).next().is_some()),
-    sight("acquire over a try", 15_000, |l| l.waits() && tries(l.before, l.frame()).next().is_some()),
-    sight("acquire over an exclusive try", 4900, |l| {
+    sight("try of an exclusive lock", 11_000, |l| l.tries_mode(3)),
+    sight("try of a read", 7200, |l| l.tries_mode(4)),
+    sight("try of a recursive read", 13_000, |l| l.tries_mode(5)),
+    sight("try over a held lock that waited", 7800, |l| l.tries() && waits(l.before, l.frame()).next().is_some()),
+    sight("try over a try", 21_000, |l| l.tries() && tries(l.before, l.frame()).next().is_some()),
+    sight("acquire over a try", 6200, |l| l.waits() && tries(l.before, l.frame()).next().is_some()),
+    sight("acquire over an exclusive try", 1900, |l| {
         l.waits() && tries(l.before, l.frame()).any(|p| hold(l.before, l.frame(), p) < 64)
     }),
     // Usage marks.
-    sight("try in a task, marked", 36_000, |l| l.tries() && l.state() < 2),
-    sight("exclusive try marked unsafe", 16_000, |l| l.tries_mode(3) && [0, 1, 4].contains(&l.state())),
-    sight("try in state 4", 9000, |l| l.tries_in(4)),
-    sight("try in state 5", 3900, |l| l.tries_in(5)),
-    sight("try in state 6", 7100, |l| l.tries_in(6)),
-    sight("try in state 7", 2600, |l| l.tries_in(7)),
-    sight("try in state 8", 4100, |l| l.tries_in(8)),
-    sight("try held over a hard on", 2900, |l| {
+    sight("try in a task, marked", 15_000, |l| l.tries() && l.state() < 2),
+    sight("exclusive try marked unsafe", 6900, |l| l.tries_mode(3) && [0, 1, 4].contains(&l.state())),
+    sight("try in state 4", 3700, |l| l.tries_in(4)),
+    sight("try in state 5", 1600, |l| l.tries_in(5)),
+    sight("try in state 6", 3000, |l| l.tries_in(6)),
+    sight("try in state 7", 1200, |l| l.tries_in(7)),
+    sight("try in state 8", 1600, |l| l.tries_in(8)),
+    sight("try held over a hard on", 1300, |l| {
         l.accepted(2).is_some() && [2, 3, 5].contains(&l.state()) && tries(l.before, l.frame()).next().is_some()
     }),
-    sight("try held over a soft on", 850, |l| {
+    sight("try held over a soft on", 380, |l| {
         l.accepted(4).is_some() && l.state() == 1 && tries(l.before, l.frame()).next().is_some()
     }),
-    sight("event over a held try", 24_000, |l| {
+    sight("event over a held try", 10_000, |l| {
         l.record().is_some_and(|r| l.answer < 2 && r.1 > 1) && tries(l.after, l.frame_after()).next().is_some()
     }),
-    sight("record after a try in a soft handler", 18_000, |l| l.passes_over(&[4, 5])),
-    sight("record after a try in a hard handler", 18_000, |l| l.passes_over(&[6, 7, 8])),
-    sight("event after a try in a handler", 4800, |l| {
+    sight("record after a try in a soft handler", 7800, |l| l.passes_over(&[4, 5])),
+    sight("record after a try in a hard handler", 7600, |l| l.passes_over(&[6, 7, 8])),
+    sight("event after a try in a handler", 2100, |l| {
         l.record().is_some_and(|r| r.1 > 1) && l.passes_over(&[4, 5, 6, 7, 8])
     }),
-    sight("try and wait of one class in a handler", 3500, |l| l.both_ways(|_, _| true)),
-    sight("try and wait of one class and one letter in a handler", 3100, |l| {
+    sight("try and wait of one class in a handler", 1500, |l| l.both_ways(|_, _| true)),
+    sight("try and wait of one class and one letter in a handler", 1300, |l| {
         l.both_ways(|t, w| (t == 2) == (w == 2))
     }),
-    sight("try and wait of one class and two letters in a handler", 680, |l| {
+    sight("try and wait of one class and two letters in a handler", 260, |l| {
         l.both_ways(|t, w| (t == 2) != (w == 2))
     }),
     // Releases.
-    sight("release of a try", 56_000, |l| l.release(is_try)),
-    sight("release below a try", 28_000, |l| l.release(|desk, f, p| tries(desk, f).any(|t| t > p))),
-    sight("release between a try and a wait above it", 15_000, |l| {
+    sight("release of a try", 23_000, |l| l.release(is_try)),
+    sight("release below a try", 11_000, |l| l.release(|desk, f, p| tries(desk, f).any(|t| t > p))),
+    sight("release between a try and a wait above it", 5600, |l| {
         l.release(|desk, f, p| (p..depth(desk, f) - 1).any(|q| is_try(desk, f, q) != is_try(desk, f, q + 1)))
     }),
-    sight("release that moves an origin to the byte before", 7200, |l| {
+    sight("release that moves an origin to the byte before", 2800, |l| {
         l.release(|desk, f, p| tries(desk, f).any(|t| t > p && (DEEPEST * f + t) % 8 == 0))
     }),
-    sight("release with a try on top", 56_000, |l| l.release(|desk, f, _| is_try(desk, f, depth(desk, f) - 1))),
-    sight("release in a full frame, a try first in the next", 390, |l| {
+    sight("release with a try on top", 23_000, |l| l.release(|desk, f, _| is_try(desk, f, depth(desk, f) - 1))),
+    sight("release in a full frame, a try first in the next", 140, |l| {
         l.release(|desk, f, _| depth(desk, f) == DEEPEST && f + 1 < FRAMES && is_try(desk, f + 1, 0))
     }),
-    sight("release in a frame not full, a try first in the next", 4000, |l| {
+    sight("release in a frame not full, a try first in the next", 1500, |l| {
         l.release(|desk, f, _| depth(desk, f) < DEEPEST && f + 1 < FRAMES && is_try(desk, f + 1, 0))
     }),
-    sight("release with a try in a later frame", 49_000, |l| {
+    sight("release with a try in a later frame", 19_000, |l| {
         l.release(|desk, f, _| (f + 1..FRAMES).any(|g| tries(desk, g).next().is_some()))
     }),
-    sight("release of a try over a wait of its class", 5300, |l| {
+    sight("release of a try over a wait of its class", 2100, |l| {
         l.release(|desk, f, p| {
             is_try(desk, f, p) && waits(desk, f).any(|w| hold(desk, f, w) % 64 == hold(desk, f, p) % 64)
         })
     }),
-    sight("release of a wait over a try of its class", 3400, |l| {
+    sight("release of a wait over a try of its class", 1300, |l| {
         l.release(|desk, f, p| {
             !is_try(desk, f, p) && tries(desk, f).any(|t| hold(desk, f, t) % 64 == hold(desk, f, p) % 64)
         })
     }),
-    sight("release where the class is held in two modes", 16_000, |l| {
+    sight("release where the class is held in two modes", 6600, |l| {
         l.release(|desk, f, p| {
             let lock = hold(desk, f, p);
             (0..p).any(|q| hold(desk, f, q) % 64 == lock % 64 && hold(desk, f, q) != lock)
@@ -439,7 +572,7 @@ pub const SIGHTS: &[Sight] = &[
     sight("several cycles of the fewest, closed by one record", 160, |l| l.shows(|s| s.several) && l.clean_before()),
     sight("cycle by the kind before the next class", 170, |l| l.chooses(Choice::NextBeforeKind)),
     sight("cycle by the source before the next class", 24, |l| l.chooses(Choice::NextBeforeSource)),
-    sight("cycle by the kind before the source", 73, |l| l.chooses(Choice::SourceBeforeKind)),
+    sight("cycle by the kind before the source", 140, |l| l.chooses(Choice::SourceBeforeKind)),
     sight("cycle by ER before EN, or SR before SN", 520, |l| l.chooses(Choice::KindsByLetters)),
     sight("cycle by hold before hard before soft", 160, |l| l.chooses(Choice::SourcesBackwards)),
     sight("cycle that first parents do not lead to", 410, |l| l.chooses(Choice::Parents)),
@@ -506,46 +639,160 @@ pub const SIGHTS: &[Sight] = &[
     sight("refused record over a clash", 390, |l| l.record().is_some() && (3..9).contains(&l.answer) && l.clashes()[0] != 0),
     sight("closed desk with a clash", 7900, |l| l.record().is_some() && l.answer == 10 && l.clashes()[0] != 0),
     // Refusals.
-    sight("try in a full frame", 2900, |l| l.refused(8, |_, _, mode| TRIES.contains(&mode))),
-    sight("try of class K or more", 640, |l| l.refused(4, |_, _, mode| TRIES.contains(&mode))),
+    sight("try in a full frame", 1200, |l| l.refused(8, |_, _, mode| TRIES.contains(&mode))),
+    sight("try of class K or more", 300, |l| l.refused(4, |_, _, mode| TRIES.contains(&mode))),
     sight("acquire with mode 6", 200, |l| l.refused(3, |kind, class, mode| kind == 0 && mode == 6 && class < l.classes())),
-    sight("acquire with a mode over 6", 310, |l| l.refused(3, |kind, _, mode| kind == 0 && mode > 6)),
-    sight("acquire with mode 6 and class K or more", 320, |l| {
+    sight("acquire with a mode over 6", 150, |l| l.refused(3, |kind, _, mode| kind == 0 && mode > 6)),
+    sight("acquire with mode 6 and class K or more", 150, |l| {
         l.refused(3, |kind, class, mode| kind == 0 && mode == 6 && class >= l.classes())
     }),
     sight("release with a try's mode", 110, |l| l.refused(3, |kind, _, mode| kind == 1 && TRIES.contains(&mode))),
     sight("event with a try's mode", 100, |l| {
         l.refused(3, |kind, class, mode| kind > 1 && class == 0 && TRIES.contains(&mode))
     }),
+    // The count.
+    sight("acquire that draws nothing, counted", 53_000, |l| l.accepted(0).is_some() && l.draws().is_empty()),
+    sight("release counted", 61_000, |l| l.accepted(1).is_some()),
+    sight("event counted", 70_000, |l| l.record().is_some_and(|r| l.answer < 2 && r.1 > 1)),
+    sight("fault counted", 2800, |l| l.answer == 1 && l.record().is_some()),
+    sight("refused record at a count but 0", 14_000, |l| (3..9).contains(&l.answer) && l.counted() > Some(0)),
+    sight("count that carries to its second byte", 530, |l| l.counts_at(|count| count % 256 == 255)),
+    sight("count that carries to its third byte", 120, |l| l.counts_at(|count| count % 65_536 == 65_535)),
+    sight("count that carries to its fourth byte", 84, |l| l.counts_at(|count| count % 16_777_216 == 16_777_215)),
+    sight("count that reaches 2 to the 31", 41, |l| l.counts_at(|count| count == 2_147_483_647)),
+    sight("count with four bytes that differ", 4500, |l| l.counts_at(numbers::distinct)),
+    sight("count that reaches its last", 290, |l| l.counts_at(|count| count == FULL - 1)),
+    sight("fault that reaches the last count", 72, |l| l.answer == 1 && l.counts_at(|count| count == FULL - 1)),
+    sight("count two before its last", 200, |l| l.counts_at(|count| count == FULL - 2)),
+    // 9.
+    sight("9 for an acquire that would draw a new pair", 190, |l| l.full_for(|_, _| l.draws().iter().any(|d| l.sheet[d.0] == 0))),
+    sight("9 for an acquire that would draw no new pair", 49, |l| {
+        l.full_for(|_, _| !l.draws().is_empty() && l.draws().iter().all(|d| l.sheet[d.0] != 0))
+    }),
+    sight("9 for an acquire over nothing", 280, |l| l.full_for(|kind, mode| kind == 0 && mode < 3) && l.draws().is_empty()),
+    sight("9 for a try", 560, |l| l.full_for(|kind, mode| kind == 0 && mode > 2)),
+    sight("9 for a release", 1800, |l| l.full_for(|kind, _| kind == 1)),
+    sight("9 for an event", 1300, |l| l.full_for(|kind, _| kind > 1)),
+    sight("9 where a cycle stands", 600, |l| l.full_for(|_, _| !l.clean_before())),
+    sight("3 at the last count", 240, |l| l.at_full(3)),
+    sight("4 at the last count", 110, |l| l.at_full(4)),
+    sight("5 at the last count", 25, |l| l.at_full(5)),
+    sight("6 at the last count", 450, |l| l.at_full(6)),
+    sight("7 at the last count", 52, |l| l.at_full(7)),
+    sight("8 at the last count", 29, |l| l.at_full(8)),
+    sight("10 at the last count", 100, |l| l.at_full(10)),
+    sight("11 at the last count", 170, |l| {
+        matches!(l.call, Call::Step(_)) && l.answer == 11 && l.before.len() >= DESK && numbers::count(l.before) == FULL
+    }),
+    // First-seen numbers.
+    sight("pair drawn first", 13_000, |l| l.drew_first(|_| true)),
+    sight("pair drawn first, of one class", 1100, |l| {
+        l.drew_first(|_| true) && l.draws().iter().any(|d| l.sheet[d.0] == 0 && d.0 % (usize::from(l.classes()) + 1) == 0)
+    }),
+    sight("pair drawn first, the other way drawn before", 1800, |l| {
+        let k = usize::from(l.classes());
+        l.answer < 2 && l.draws().iter().any(|d| l.sheet[d.0] == 0 && l.sheet[d.0 % k * k + d.0 / k] != 0)
+    }),
+    sight("pair drawn first by two kinds", 150, |l| {
+        let draws = l.draws();
+        l.answer < 2 && draws.iter().any(|a| l.sheet[a.0] == 0 && draws.iter().any(|b| a.0 == b.0 && a.1 != b.1))
+    }),
+    sight("several pairs drawn first by one record", 7200, |l| {
+        let draws = l.draws();
+        l.answer < 2 && draws.iter().any(|a| l.sheet[a.0] == 0 && draws.iter().any(|b| l.sheet[b.0] == 0 && a.0 != b.0))
+    }),
+    sight("pairs drawn first and again by one record", 3500, |l| {
+        l.drew_first(|_| true) && l.drew(|before, _, _| before != 0)
+    }),
+    sight("second kind of a numbered pair", 3700, |l| l.drew(|before, kind, _| before != 0 && before & kind == 0)),
+    sight("kind of a numbered pair drawn again", 15_000, |l| l.drew(|before, kind, _| before & kind != 0)),
+    sight("pair drawn first, its place in the list another", 7500, |l| {
+        l.drew_first(|number| l.history.steps.is_some_and(|steps| steps + 1 > u64::from(number)))
+    }),
+    sight("pair drawn first by a number over 255", 1800, |l| l.drew_first(|number| number > 255)),
+    sight("pair drawn first by a number over 65,535", 360, |l| l.drew_first(|number| number > 65_535)),
+    sight("pair drawn first by a number over 16,777,215", 280, |l| l.drew_first(|number| number > 16_777_215)),
+    sight("pair drawn first by a number whose bytes differ", 100, |l| l.drew_first(numbers::distinct)),
+    // Numbers in the slip.
+    sight("number shown over 255", 960, |l| l.showed_number(|number| number > 255)),
+    sight("number shown over 65,535", 790, |l| l.showed_number(|number| number > 65_535)),
+    sight("number shown over 16,777,215", 610, |l| l.showed_number(|number| number > 16_777_215)),
+    sight("number shown whose bytes differ", 500, |l| l.showed_number(numbers::distinct)),
+    sight("number shown of the record itself", 280, |l| l.showed_number(|number| number == numbers::count(l.after))),
+    sight("number shown of an earlier record", 1900, |l| l.showed_number(|number| number != numbers::count(l.after))),
+    sight("number shown, the other way has another", 1000, |l| {
+        let k = usize::from(l.classes());
+        l.showed(|pair, _, source, number| source == 0 && number != numbers::number(l.seen_after, pair % k * k + pair / k))
+    }),
+    sight("later kind shown with the first number", 100, |l| {
+        l.record().is_some() && l.showed(|pair, kind, source, _| source == 0 && l.sheet[pair] != 0 && l.sheet[pair] & kind == 0)
+    }),
+    sight("interrupt shown, its pair without a number", 860, |l| l.showed(|_, _, source, number| source > 0 && number == 0)),
+    sight("interrupt shown, its pair with a number", 180, |l| l.showed(|_, _, source, number| source > 0 && number != 0)),
+    sight("cycle that the numbers' bytes would change", 50, |l| l.chooses(Choice::NumberBytes)),
+    sight("cycle that the numbers would change", 50, |l| l.chooses(Choice::NumberValues)),
     // The fit test.
-    sight("call on a fit desk with a try", 300_000, |l| l.answer < 10 && has_origins(l.before)),
-    sight("origin right past the depth", 750, |l| l.origin(|f, p| p == depth(l.before, f))),
-    sight("origin in an empty frame", 1900, |l| l.origin(|f, _| depth(l.before, f) == 0)),
-    sight("origin in a byte of two frames", 480, |l| {
+    sight("kinds without a number at the first pair", 66, |l| l.unfit_number(NO_NUMBER, |pair, _, _, _| pair == 0)),
+    sight("kinds without a number behind the first row", 180, |l| l.unfit_number(NO_NUMBER, |pair, k, _, _| pair >= k)),
+    sight("kinds without a number at the last pair", 53, |l| l.unfit_number(NO_NUMBER, |pair, k, _, _| k > 1 && pair + 1 == k * k)),
+    sight("number without kinds at the first pair", 78, |l| l.unfit_number(NO_KINDS, |pair, _, _, _| pair == 0)),
+    sight("number without kinds behind the first row", 180, |l| l.unfit_number(NO_KINDS, |pair, k, _, _| pair >= k)),
+    sight("number without kinds at the last pair", 52, |l| l.unfit_number(NO_KINDS, |pair, k, _, _| k > 1 && pair + 1 == k * k)),
+    sight("number above the count at the first pair", 68, |l| l.unfit_number(ABOVE, |pair, _, _, _| pair == 0)),
+    sight("number above the count behind the first row", 140, |l| l.unfit_number(ABOVE, |pair, k, _, _| pair >= k)),
+    sight("number above the count at the last pair", 46, |l| l.unfit_number(ABOVE, |pair, k, _, _| k > 1 && pair + 1 == k * k)),
+    sight("number one above the count", 110, |l| l.unfit_number(ABOVE, |_, _, number, count| number == count + 1)),
+    sight("number above the count, its low byte less", 53, |l| l.unfit_number(ABOVE, |_, _, n, count| n as u8 <= count as u8)),
+    sight("number above the count by its high byte alone", 40, |l| {
+        l.unfit_number(ABOVE, |_, _, number, count| number << 8 <= count << 8)
+    }),
+    sight("number above the count over 2 to the 31", 37, |l| l.unfit_number(ABOVE, |_, _, n, count| n >> 31 == 1 && count >> 31 == 0)),
+    sight("number at the count", 19_000, |l| l.fit_numbers()[0]),
+    sight("number under the count, its low byte greater", 45_000, |l| l.fit_numbers()[1]),
+    sight("number under 2 to the 31, the count over it", 4000, |l| l.fit_numbers()[2]),
+    sight("pair behind the last that does not fit", 20_000, |l| l.past_unfit()),
+    sight("call with a second sheet a byte short", 100, |l| l.short_seen(|pairs| 4 * pairs - 1..4 * pairs)),
+    sight("call with a second sheet of K x K bytes", 92, |l| l.short_seen(|pairs| pairs..pairs + 1)),
+    sight("call with a second sheet a byte longer", 11_000, |l| l.fit_pairs().is_some_and(|pairs| l.seen.len() == 4 * pairs + 1)),
+    sight("step with a slip a byte short", 79, |l| l.slip_of(|k| 7 * k)),
+    sight("step with a slip of 1 + 3K bytes", 69, |l| l.slip_of(|k| 1 + 3 * k)),
+    sight("call on a fit desk with a try", 130_000, |l| l.answer < 10 && has_origins(l.before)),
+    sight("origin right past the depth", 270, |l| l.origin(|f, p| p == depth(l.before, f))),
+    sight("origin in an empty frame", 690, |l| l.origin(|f, _| depth(l.before, f) == 0)),
+    sight("origin in a byte of two frames", 160, |l| {
         l.origin(|f, p| {
             let byte = (DEEPEST * f + p) / 8;
             byte != DEEPEST * f / 8 && byte == DEEPEST * (f + 1) / 8
         })
     }),
-    sight("origin at the last place of the last frame", 660, |l| l.origin(|f, p| (f, p) == (FRAMES - 1, DEEPEST - 1))),
-    sight("hold byte of 192 or more with an origin", 960, |l| {
+    sight("origin at the last place of the last frame", 220, |l| l.origin(|f, p| (f, p) == (FRAMES - 1, DEEPEST - 1))),
+    sight("hold byte of 192 or more with an origin", 420, |l| {
         let mut places = (0..FRAMES).flat_map(|f| (0..depth(l.before, f)).map(move |p| (f, p)));
         l.clause("hold mode 3") && places.any(|(f, p)| hold(l.before, f, p) > 191 && is_try(l.before, f, p))
     }),
     sight("call on a desk a byte short of the origins", 340, |l| l.short(ORIGINS - 1..ORIGINS)),
-    sight("call on a desk without the origins", 320, |l| l.short(ORIGINS..ORIGINS + 1)),
-    sight("call on a desk with part of the origins", 850, |l| l.short(ORIGINS + 1..DESK)),
-    sight("call on a desk a byte short", 490, |l| l.short(DESK - 1..DESK)),
+    sight("call on a desk without the origins", 120, |l| l.short(ORIGINS..ORIGINS + 1)),
+    sight("call on a desk with part of the origins", 100, |l| l.short(ORIGINS + 1..COUNT)),
+    sight("call on a desk without the count", 93, |l| l.short(COUNT..COUNT + 1)),
+    sight("call on a desk with part of the count", 300, |l| l.short(COUNT + 1..DESK)),
+    sight("call on a desk a byte short", 92, |l| l.short(DESK - 1..DESK)),
     sight("call on a desk a byte longer", 21_000, |l| l.answer < 10 && l.before.len() == DESK + 1),
     // Opening.
-    sight("opening of a desk a byte short of the origins", 98, |l| l.opens(ORIGINS - 1..ORIGINS)),
-    sight("opening of a desk without the origins", 100, |l| l.opens(ORIGINS..ORIGINS + 1)),
-    sight("opening of a desk with part of the origins", 230, |l| l.opens(ORIGINS + 1..DESK)),
-    sight("opening of a desk a byte short", 130, |l| l.opens(DESK - 1..DESK)),
-    sight("opening of a desk a byte longer", 280, |l| {
+    sight("opening of a desk a byte short of the origins", 31, |l| l.opens(ORIGINS - 1..ORIGINS)),
+    sight("opening of a desk without the origins", 28, |l| l.opens(ORIGINS..ORIGINS + 1)),
+    sight("opening of a desk with part of the origins", 56, |l| l.opens(ORIGINS + 1..COUNT)),
+    sight("opening of a desk without the count", 23, |l| l.opens(COUNT..COUNT + 1)),
+    sight("opening of a desk with part of the count", 100, |l| l.opens(COUNT + 1..DESK)),
+    sight("opening of a desk a byte short", 44, |l| l.opens(DESK - 1..DESK)),
+    sight("opening of a desk a byte longer", 130, |l| {
         matches!(l.call, Call::Open(_)) && l.answer == 0 && l.before.len() == DESK + 1
     }),
     sight("opening over origins", 4400, |l| matches!(l.call, Call::Open(_)) && l.answer == 0 && has_origins(l.before)),
+    sight("opening of a second sheet a byte short", 59, |l| l.opens_seen(|pairs| 4 * pairs - 1..4 * pairs)),
+    sight("opening of a second sheet of K x K bytes", 21, |l| l.opens_seen(|pairs| pairs..pairs + 1)),
+    sight("opening of a second sheet a byte longer", 120, |l| l.opened_over(|pairs| l.seen.len() == 4 * pairs + 1)),
+    sight("opening over numbers", 2400, |l| l.opened_over(|pairs| l.seen[pairs..4 * pairs].iter().any(|&b| b != 0))),
+    sight("opening over a count", 2500, |l| l.opened_over(|_| numbers::count(l.before) != 0)),
     // Pieces: where they are cut.
     at_feed("piece over 0 loose bytes of the header", 1000, |l| l.over(false, 0)),
     at_feed("piece over 1 loose byte of the header", 280, |l| l.over(false, 1)),
@@ -576,7 +823,7 @@ pub const SIGHTS: &[Sight] = &[
     at_feed("empty piece before the header", 150, |l| l.piece(|p| p.is_empty()) && !l.opened() && l.kept() == 0),
     at_feed("empty piece over loose bytes", 1000, |l| l.piece(|p| p.is_empty()) && l.kept() > 0),
     at_feed("empty piece between records", 210, |l| l.piece(|p| p.is_empty()) && l.opened() && l.kept() == 0),
-    at_feed("piece after an end that answered 0", 830, |l| l.after_end && l.piece(|p| !p.is_empty())),
+    at_feed("piece after an end that answered 0", 830, |l| l.history.after_end && l.piece(|p| !p.is_empty())),
     // Pieces: judged when complete.
     at_feed("wrong byte of a header that isn't complete", 320, |l| {
         l.piece(|p| !p.is_empty()) && l.answer == 0 && !l.opened() && {
@@ -584,7 +831,7 @@ pub const SIGHTS: &[Sight] = &[
             l.feed_after[KEEP..KEEP + kept] != [0x4C, 0x48, 1][..kept]
         }
     }),
-    at_feed("wrong byte of a record that isn't complete", 310, |l| {
+    at_feed("wrong byte of a record that isn't complete", 140, |l| {
         l.piece(|p| !p.is_empty()) && l.answer == 0 && l.feed_after[OPENED] == 1 && {
             let kept = usize::from(l.feed_after[KEPT]).min(2);
             l.feed_after[KEEP..KEEP + kept] != [0x4C, 0x4B][..kept]
@@ -595,8 +842,9 @@ pub const SIGHTS: &[Sight] = &[
     at_feed("header with a wrong third byte", 39, |l| l.bad_header(|h| h[..2] == [0x4C, 0x48] && h[2] != 1)),
     at_feed("header with K = 0", 39, |l| l.bad_header(|h| h == [0x4C, 0x48, 1, 0])),
     at_feed("header with K over 64", 38, |l| l.bad_header(|h| h[..3] == [0x4C, 0x48, 1] && h[3] > 64)),
-    at_feed("header with a short desk", 40, |l| l.short_for_header(true)),
-    at_feed("header with a short sheet", 41, |l| l.short_for_header(false)),
+    at_feed("header with a short desk", 40, |l| l.short_for_header(0)),
+    at_feed("header with a short sheet", 41, |l| l.short_for_header(1)),
+    at_feed("header with a short second sheet", 40, |l| l.short_for_header(2)),
     at_feed("header that opens", 750, |l| l.header(false).is_some()),
     at_feed("first record with a short slip", 75, |l| {
         l.stops(11) && feeds::number(l.feed_after) == 1 && l.short_slip(l.after)
@@ -609,14 +857,23 @@ pub const SIGHTS: &[Sight] = &[
     at_feed("record that stops at the piece's end", 360, |l| !l.stops(2) && l.behind() == Some(0)),
     at_feed("record that stops over a cut", 400, |l| l.opened() && l.kept() > 0 && l.behind().is_some() && l.records() == 1),
     at_feed("record that stops after others of the piece", 44, |l| l.opened() && l.behind().is_some() && l.records() > 1),
-    at_feed("fault over a cut", 49, |l| l.stops(1) && l.opened() && l.kept() > 0 && l.records() == 1),
-    at_feed("fault, and bytes behind it", 34, |l| l.stops(1) && l.behind() > Some(0)),
+    at_feed("fault over a cut", 200, |l| l.stops(1) && l.opened() && l.kept() > 0 && l.records() == 1),
+    at_feed("fault, and bytes behind it", 95, |l| l.stops(1) && l.behind() > Some(0)),
     at_feed("fault in a piece, several cycles of the fewest", 150, |l| l.shows(|s| s.several)),
     at_feed("fault in a piece, a shorter cycle above a longer one", 46, |l| l.shows(Shown::above_a_lower)),
     at_feed("fault in a piece by a clash", 53, |l| l.shows(|s| s.n() == 1 && s.cycle[0][2] > 0)),
     at_feed("piece after a stop", 10_000, |l| l.piece_at(true).is_some_and(|p| !p.is_empty())),
     at_feed("empty piece after a stop", 1300, |l| l.piece_at(true).is_some_and(|p| p.is_empty())),
     at_feed("piece after a fault", 77, |l| l.answer == 1 && l.piece_at(true).is_some_and(|p| p.len() > 5)),
+    at_feed("record that stops with 9", 130, |l| l.stops(9)),
+    at_feed("record that stops with 9 over a cut", 100, |l| l.stops(9) && l.opened() && l.kept() > 0 && l.records() == 1),
+    at_feed("record that stops with 9 after others of the piece", 10, |l| l.stops(9) && l.records() > 1),
+    at_feed("piece after a 9", 730, |l| matches!(l.call, Call::Feed(_)) && l.stood_at_9()),
+    at_feed("pair drawn first in a piece", 360, |l| l.drew_in_piece()),
+    at_feed("pair drawn first in a piece, its place another", 30, |l| {
+        l.drew_in_piece() && feeds::number(l.feed_after) != u64::from(numbers::count(l.after))
+    }),
+    at_feed("fault in a piece, a number over 255 shown", 68, |l| l.showed_number(|number| number > 255)),
     at_feed("piece after a refused header", 1300, |l| l.answer == 2 && l.piece_at(true).is_some_and(|p| p.len() > 3)),
     // Pieces: the number.
     at_feed("number that reaches 2 to the 64 less 1", 26, |l| {
@@ -655,6 +912,10 @@ pub const SIGHTS: &[Sight] = &[
     }),
     at_feed("end over loose bytes of a first record, the slip short", 26, |l| {
         (1..6).any(|kept| l.end(true, kept, 11)) && feeds::number(l.feed) == 0 && l.short_slip(l.before)
+    }),
+    at_feed("end after a 9", 200, |l| matches!(l.call, Call::FeedEnd) && l.stood_at_9()),
+    at_feed("end over loose bytes at the last count, 3", 39, |l| {
+        (1..6).any(|kept| l.end(true, kept, 3)) && numbers::count(l.before) == FULL
     }),
     at_feed("end after a stop", 3200, |l| matches!(l.call, Call::FeedEnd) && l.stood()),
     // Starts.

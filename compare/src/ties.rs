@@ -3,10 +3,11 @@
 
 use crate::clashes;
 use crate::feeds;
-use crate::gen::{any_buffers, case, Shadow};
+use crate::gen::{any_buffers, case, Buffers};
+use crate::numbers;
 use crate::rng::Rng;
 use crate::run::{Call, Case, Meant, Rec};
-use reference::{DEEPEST, DEPTHS, HOLDS, MARKS, STATES};
+use reference::{DEEPEST, DEPTHS, DESK, HOLDS, MARKS, STATES};
 
 pub const ER: u8 = 1;
 pub const EN: u8 = 2;
@@ -19,25 +20,44 @@ pub struct Sketch {
     pub k: usize,
     pub sheet: Vec<u8>,
     pub marks: Vec<u8>,
+    /// Pairs with other numbers than the usual.
+    numbers: Vec<(usize, u32)>,
 }
 
 impl Sketch {
     pub fn new(k: usize) -> Sketch {
-        Sketch { k, sheet: vec![0; k * k], marks: vec![0; k] }
+        Sketch { k, sheet: vec![0; k * k], marks: vec![0; k], numbers: Vec::new() }
     }
     pub fn draw(&mut self, from: usize, to: usize, kinds: u8) {
         self.sheet[from * self.k + to] |= kinds;
+    }
+    /// The same with this number.
+    pub fn draw_at(&mut self, from: usize, to: usize, kinds: u8, number: u32) {
+        self.draw(from, to, kinds);
+        self.numbers.push((from * self.k + to, number));
     }
     /// A soft-unsafe mark brings its hard-unsafe one.
     pub fn mark(&mut self, class: usize, marks: u8) {
         self.marks[class] |= marks | marks >> 4 & 12;
     }
-    /// An open desk with this drawing, and its sheet. Each core is in a task with all off.
-    pub fn desk(&self) -> (Vec<u8>, Vec<u8>) {
-        let mut desk = Shadow::opened(self.k).desk;
-        desk[STATES..STATES + 8].fill(3);
-        desk[MARKS..MARKS + self.k].copy_from_slice(&self.marks);
-        (desk, self.sheet.clone())
+    /// Into buffers of at least the stated sizes, an open desk with this drawing and the usual numbers. Each core is in a
+    /// task with all off.
+    pub fn fill(&self, b: &mut Buffers) {
+        b.desk[..DESK].fill(0);
+        b.desk[0] = self.k as u8;
+        b.desk[STATES..STATES + 8].fill(3);
+        b.desk[MARKS..MARKS + self.k].copy_from_slice(&self.marks);
+        b.sheet[..self.k * self.k].copy_from_slice(&self.sheet);
+        numbers::usual(b);
+        for &(pair, number) in &self.numbers {
+            numbers::set_number(&mut b.seen, pair, number);
+        }
+    }
+    /// Such buffers.
+    pub fn buffers(&self) -> Buffers {
+        let mut b = Buffers::opened(self.k);
+        self.fill(&mut b);
+        b
     }
 }
 
@@ -392,12 +412,12 @@ fn record(rng: &mut Rng, s: &Sketch, desk: &mut [u8]) -> Rec {
 }
 
 /// A drawing with its record on a desk, in buffers full of anything.
-fn with_record(rng: &mut Rng, s: &Sketch) -> ((Vec<u8>, Vec<u8>, Vec<u8>), Rec) {
-    let (mut desk, sheet, slip) = any_buffers(rng, s.k);
-    let (own, own_sheet) = s.desk();
-    desk[..own.len()].copy_from_slice(&own);
-    let record = record(rng, s, &mut desk);
-    (([&desk[..]].concat(), [&own_sheet[..], &sheet[s.k * s.k..]].concat(), slip), record)
+fn with_record(rng: &mut Rng, s: &Sketch) -> (Buffers, Rec) {
+    let mut buffers = any_buffers(rng, s.k);
+    s.fill(&mut buffers);
+    let record = record(rng, s, &mut buffers.desk);
+    numbers::scatter(rng, &mut buffers);
+    (buffers, record)
 }
 
 /// One step, perhaps a question before it, and a step after it.
@@ -533,11 +553,9 @@ pub fn each_ring(rng: &mut Rng, n: usize, turn: u64) -> Case {
             s
         }
     };
-    let (buffers, _) = with_record(rng, &s);
-    let mut buffers = buffers;
-    buffers.0[DEPTHS..MARKS].fill(0);
-    buffers.0[HOLDS..HOLDS + 24 * DEEPEST].fill(0);
-    let meant = Some(Meant { answers: vec![1], slip: vec![n as u8] });
+    let mut buffers = any_buffers(rng, s.k);
+    s.fill(&mut buffers);
+    let meant = Some(Meant { answers: vec![1], slip: vec![n as u8], numbers: None });
     Case { meant, ..case(buffers, vec![Call::Step(Rec::new(rng.under(8) as u8, 3, 0, 0))]) }
 }
 
@@ -548,15 +566,18 @@ pub struct HandDrawing {
     pub slip: Vec<u8>,
 }
 
-/// Dependencies as the program prints them, sources but hold left out: "0 ER 2, 2 EN 0". With marks: "3 marks 68".
+/// Dependencies as the program prints them, sources but hold left out: "0 ER 2, 2 EN 0"; with other numbers than the usual:
+/// "0 ER 2 at 5". With marks: "3 marks 68".
 fn sketch(k: usize, text: &str) -> Sketch {
     let mut s = Sketch::new(k);
     for part in text.split(", ") {
         let words: Vec<&str> = part.split(' ').collect();
         let class: usize = words[0].parse().unwrap();
-        match words[1] {
-            "marks" => s.marks[class] = words[2].parse().unwrap(),
-            kind => s.draw(class, words[2].parse().unwrap(), kind_of(kind)),
+        match words[..] {
+            [_, "marks", marks] => s.marks[class] = marks.parse().unwrap(),
+            [_, kind, to] => s.draw(class, to.parse().unwrap(), kind_of(kind)),
+            [_, kind, to, "at", number] => s.draw_at(class, to.parse().unwrap(), kind_of(kind), number.parse().unwrap()),
+            _ => panic!("no dependency: {part}"),
         }
     }
     s
@@ -566,15 +587,20 @@ fn kind_of(name: &str) -> u8 {
     1 << ["ER", "EN", "SR", "SN"].iter().position(|kind| *kind == name).unwrap()
 }
 
-/// "0 ER hold, 2 EN hold": class, kind and source.
-fn slip(text: &str) -> Vec<u8> {
-    let triples = text.split(", ").map(|part| {
-        let words: Vec<&str> = part.split(' ').collect();
+/// "0 ER hold, 2 EN hold": class, kind and source; or "0 ER hold 5" with another number than the usual of that pair.
+pub fn slip(k: usize, text: &str) -> Vec<u8> {
+    let parts: Vec<Vec<&str>> = text.split(", ").map(|part| part.split(' ').collect()).collect();
+    let class = |i: usize| parts[i % parts.len()][0].parse::<usize>().unwrap();
+    let entries = parts.iter().enumerate().map(|(i, words)| {
         let source = ["hold", "hard", "soft"].iter().position(|source| *source == words[2]).unwrap();
-        [words[0].parse().unwrap(), kind_of(words[1]), source as u8]
+        let number = match words.get(3) {
+            Some(number) => number.parse().unwrap(),
+            None if source == 0 => numbers::usual_number(class(i) * k + class(i + 1)),
+            None => 0,
+        };
+        numbers::entry(class(i) as u8, kind_of(words[1]), source as u8, number)
     });
-    let triples: Vec<[u8; 3]> = triples.collect();
-    [&[triples.len() as u8][..], &triples.concat()].concat()
+    [vec![parts.len() as u8], entries.collect::<Vec<_>>().concat()].concat()
 }
 
 pub fn hand_drawings() -> Vec<HandDrawing> {
@@ -620,7 +646,21 @@ pub fn hand_drawings() -> Vec<HandDrawing> {
         ("clash, and a greater lock dependency", 2, "1 marks 6, 1 EN 1", "1 ER hard"),
         ("clash, and SR", 2, "1 marks 9, 1 SR 1", "1 SN hard"),
         ("clash above a cycle of two", 3, "0 EN 1, 1 EN 0, 2 marks 152", "2 SN soft"),
+        // Numbers: they are no part of what is compared, wherever the first three bytes agree.
+        ("the less number on the higher next class", 3, "0 EN 1 at 9, 1 EN 0, 0 EN 2 at 5, 2 EN 0", "0 EN hold 9, 1 EN hold"),
+        ("the less number on the lower next class", 3, "0 EN 1 at 5, 1 EN 0, 0 EN 2 at 9, 2 EN 0", "0 EN hold 5, 1 EN hold"),
+        // By bytes as they lie 512 comes before 511, by value after it.
+        ("512 and 511", 3, "0 SN 1 at 511, 1 SN 0, 0 SN 2 at 512, 2 SN 0", "0 SN hold 511, 1 SN hold"),
+        ("511 and 512", 3, "0 SN 1 at 512, 1 SN 0, 0 SN 2 at 511, 2 SN 0", "0 SN hold 512, 1 SN hold"),
+        ("the less number at the second dependency", 4, "0 EN 1, 1 EN 2 at 8, 1 EN 3 at 7, 2 EN 0, 3 EN 0", "0 EN hold, 1 EN hold 8, 2 EN hold"),
+        ("the less number, the greater kind", 3, "0 ER 1 at 9, 1 EN 0, 0 EN 2 at 5, 2 EN 0", "0 ER hold 9, 1 EN hold"),
+        ("the less number, the greater source", 3, "0 marks 4, 1 marks 1, 0 EN 2 at 9, 1 EN 0, 2 EN 0", "0 EN hold 9, 2 EN hold"),
+        ("an interrupt has no number", 3, "0 marks 4, 1 marks 1, 1 EN 0 at 3, 2 EN 0", "0 EN hard 0, 1 EN hold 3"),
+        ("an interrupt where its pair has a number", 2, "0 marks 4, 1 marks 2, 0 EN 1 at 77, 1 EN 0 at 3", "0 ER hard 0, 1 EN hold 3"),
+        ("two kinds, one number", 2, "0 ER 1 at 6, 0 EN 1 at 6, 1 SN 0 at 7", "0 EN hold 6, 1 SN hold 7"),
+        ("a number for each way", 2, "0 EN 1 at 16909060, 1 EN 0 at 67305985", "0 EN hold 16909060, 1 EN hold 67305985"),
+        ("the least and the greatest number", 2, "0 EN 1 at 1, 1 EN 0 at 4200000000", "0 EN hold 1, 1 EN hold 4200000000"),
     ];
-    let rows = rows.into_iter().map(|(name, k, text, shown)| (name, sketch(k, text), slip(shown)));
+    let rows = rows.into_iter().map(|(name, k, text, shown)| (name, sketch(k, text), slip(k, shown)));
     rows.map(|(name, sketch, slip)| HandDrawing { name, sketch, slip }).collect()
 }

@@ -1,10 +1,10 @@
 //! An independent second program for the lock log judge.
 //!
 //! Written from the documents alone (01, "What will be built, and the rules", and
-//! of 02 "A try never waits", "Logs arrive in pieces", "Show the shortest circle" and
-//! "Clash of one class by table", with the feed's layout and fit test as they were
-//! handed over), to be compared byte for byte with the proved library. Sentences in
-//! quotation marks are the documents'.
+//! of 02 "A try never waits", "Logs arrive in pieces", "Show the shortest circle",
+//! "Clash of one class by table" and "Where was this arrow first seen?", with the feed's
+//! layout and fit test as they were handed over), to be compared byte for byte with the
+//! proved library. Sentences in quotation marks are the documents'.
 //!
 //! How closed strong paths are decided: a path is a walk over *arrivals*, an
 //! arrival being a class together with the second letter (N or R) of the arrow
@@ -18,6 +18,10 @@
 //!
 //! The list of request d, [`CLASHES`], stands beside the search, which doesn't read it:
 //! "No answer and no byte changes." The tests hold the one against the other.
+//!
+//! The numbers of request e, in the second sheet, are written by [`step`] and shown by the
+//! slip; [`first_seen`] works them out from the list of records alone, with books of its
+//! own, and neither reads the other.
 #![forbid(unsafe_code)]
 
 use std::io::{ErrorKind, Read, Write};
@@ -29,10 +33,18 @@ pub fn sheet_len(k: usize) -> usize {
     k.saturating_mul(k)
 }
 
-/// "Slip, 1 + 3K bytes".
-pub fn slip_len(k: usize) -> usize {
-    k.saturating_mul(3).saturating_add(1)
+/// "A second sheet of 4 x K x K bytes".
+pub fn seen_len(k: usize) -> usize {
+    sheet_len(k).saturating_mul(WORD)
 }
+
+/// "the slip is 1 + 7K".
+pub fn slip_len(k: usize) -> usize {
+    k.saturating_mul(ENTRY).saturating_add(1)
+}
+
+const WORD: usize = 4; // "a four-byte count", and numbers alike
+pub const ENTRY: usize = 3 + WORD; // "Each slip arrow grows to seven bytes"
 
 const MAX_K: usize = 64; // "K is the number of classes, 1 to 64"
 pub const CORES: usize = 8; // "There are 8 cores."
@@ -46,7 +58,8 @@ pub const DEPTHS: usize = STATES + CORES; // "bytes 10-33 hold depths (core 0 ta
 pub const MARKS: usize = DEPTHS + FRAMES; // "bytes 34-97 marks by class"
 pub const HOLDS: usize = MARKS + MAX_K; // "bytes 98-577 the holds"
 pub const ORIGINS: usize = HOLDS + PLACES; // "60 more desk bytes from 578 on, one bit per hold place in order"
-pub const DESK: usize = ORIGINS + PLACES.div_ceil(8); // "It is then 638 bytes"
+pub const COUNT: usize = ORIGINS + PLACES.div_ceil(8); // "a four-byte count of accepted records after its other bytes"
+pub const DESK: usize = COUNT + WORD;
 
 // "Kinds: 0 take, 1 release, .. 7 exit soft, .. 9 exit hard."
 const TAKE: u8 = 0;
@@ -77,27 +90,28 @@ fn ends_with_r(kind: u8) -> bool {
 
 // ------------------------------------------------------------------ opening
 
-/// Opening writes K, zero in the other 637 desk bytes, and zero in the sheet's
-/// K x K bytes. Answers 0, or 2: K not 1-64, desk under 638, or sheet under
-/// K x K, "nothing changed".
-pub fn open(k: u64, desk: &mut [u8], sheet: &mut [u8]) -> u8 {
+/// Opening writes K, zero in the other 641 desk bytes, in the sheet's K x K bytes and in
+/// the second sheet's 4 x K x K bytes. Answers 0, or 2: K not 1-64, desk under 642, sheet
+/// under K x K, or second sheet under 4 x K x K, "nothing changed".
+pub fn open(k: u64, desk: &mut [u8], sheet: &mut [u8], seen: &mut [u8]) -> u8 {
     if k < 1 || k > MAX_K as u64 {
         return 2;
     }
-    let size = sheet_len(k as usize);
-    if desk.len() < DESK || sheet.len() < size {
+    let (size, seen_size) = (sheet_len(k as usize), seen_len(k as usize));
+    if desk.len() < DESK || sheet.len() < size || seen.len() < seen_size {
         return 2;
     }
     desk[..DESK].fill(0);
     desk[0] = k as u8;
     sheet[..size].fill(0);
+    seen[..seen_size].fill(0);
     0
 }
 
 // -------------------------------------------------------------------- unfit
 
 /// Every name that [`unfit`] can give, in the order in which it looks.
-pub const CLAUSES: [&str; 16] = [
+pub const CLAUSES: [&str; 20] = [
     "desk too short",
     "K not 1-64",
     "sheet too short",
@@ -114,11 +128,15 @@ pub const CLAUSES: [&str; 16] = [
     "mark on class K or more",
     "soft-unsafe without hard-unsafe",
     "sheet byte over 15",
+    "second sheet too short",
+    "kinds but number 0",
+    "number but no kinds",
+    "number above the count",
 ];
 
 /// The first clause of "Unfit" that is violated, in the order of [`CLAUSES`].
 /// A slip is looked at only where there is one (the question has none).
-pub fn unfit(desk: &[u8], sheet: &[u8], slip: Option<&[u8]>) -> Option<&'static str> {
+pub fn unfit(desk: &[u8], sheet: &[u8], seen: &[u8], slip: Option<&[u8]>) -> Option<&'static str> {
     // "any buffer too short; K not 1-64"
     if desk.len() < DESK {
         return Some(CLAUSES[0]);
@@ -182,14 +200,50 @@ pub fn unfit(desk: &[u8], sheet: &[u8], slip: Option<&[u8]>) -> Option<&'static 
         return Some(CLAUSES[13]);
     }
     // "a soft-unsafe mark without its hard-unsafe one"
-    if marks.iter().any(|&m| (m & 64 != 0 && m & 4 == 0) || (m & 128 != 0 && m & 8 == 0)) {
+    if marks
+        .iter()
+        .any(|&m| (m & 64 != 0 && m & 4 == 0) || (m & 128 != 0 && m & 8 == 0))
+    {
         return Some(CLAUSES[14]);
     }
     // "a sheet byte over 15"
     if sheet[..sheet_len(k)].iter().any(|&b| b > 15) {
         return Some(CLAUSES[15]);
     }
+    // "The fit test covers the new lengths, and a pair with kinds but number 0, or the
+    // reverse, or a number above the count, is unfit."
+    if seen.len() < seen_len(k) {
+        return Some(CLAUSES[16]);
+    }
+    let count = word_at(desk, COUNT);
+    let (mut missing, mut stray, mut above) = (false, false, false);
+    for pair in 0..k * k {
+        let (kinds, number) = (sheet[pair], word_at(seen, WORD * pair));
+        missing |= kinds != 0 && number == 0;
+        stray |= kinds == 0 && number != 0;
+        above |= number > count;
+    }
+    if missing {
+        return Some(CLAUSES[17]);
+    }
+    if stray {
+        return Some(CLAUSES[18]);
+    }
+    if above {
+        return Some(CLAUSES[19]);
+    }
     None
+}
+
+// ----------------------------------------------------------- count and numbers
+
+/// The number in the four bytes from `at` on, "low byte first".
+fn word_at(bytes: &[u8], at: usize) -> u32 {
+    u32::from_le_bytes([bytes[at], bytes[at + 1], bytes[at + 2], bytes[at + 3]])
+}
+
+fn set_word(bytes: &mut [u8], at: usize, number: u32) {
+    bytes[at..at + WORD].copy_from_slice(&number.to_le_bytes());
 }
 
 // ------------------------------------------------------------------- origins
@@ -271,19 +325,36 @@ fn read_record(bytes: &[u8]) -> Option<Record> {
     if kind >= 2 && (class != 0 || mode != 0) {
         return None;
     }
-    Some(Record { core, kind, class, mode })
+    Some(Record {
+        core,
+        kind,
+        class,
+        mode,
+    })
 }
 
-/// Judges one record: answers 0, 1, 3-8, 10, 11.
-pub fn step(desk: &mut [u8], sheet: &mut [u8], slip: &mut [u8], record: &[u8]) -> u8 {
-    // "Order: 11, 10, 3, 4, 6, 7, 5, 8."
-    if unfit(desk, sheet, Some(slip)).is_some() {
+/// Judges one record: answers 0, 1, 3-11.
+pub fn step(
+    desk: &mut [u8],
+    sheet: &mut [u8],
+    seen: &mut [u8],
+    slip: &mut [u8],
+    record: &[u8],
+) -> u8 {
+    // "Order: 11, 10, 3, 4, 6, 7, 5, 8.", and "New refusal 9, last in order".
+    if unfit(desk, sheet, seen, Some(slip)).is_some() {
         return 11;
     }
     if desk[1] == 1 {
         return 10;
     }
-    let Some(Record { core, kind, class, mode }) = read_record(record) else {
+    let Some(Record {
+        core,
+        kind,
+        class,
+        mode,
+    }) = read_record(record)
+    else {
         return 3;
     };
     // 4: "take or release, class K or more"
@@ -308,7 +379,9 @@ pub fn step(desk: &mut [u8], sheet: &mut [u8], slip: &mut [u8], record: &[u8]) -
     }
     // 5: "release, class not held in this frame"; else "the newest hold of that class"
     let first = HOLDS + DEEPEST * here;
-    let newest = (first..first + depth).rev().find(|&at| desk[at] % 64 == class);
+    let newest = (first..first + depth)
+        .rev()
+        .find(|&at| desk[at] % 64 == class);
     if kind == RELEASE && newest.is_none() {
         return 5;
     }
@@ -316,8 +389,13 @@ pub fn step(desk: &mut [u8], sheet: &mut [u8], slip: &mut [u8], record: &[u8]) -
     if kind == TAKE && depth == DEEPEST {
         return 8;
     }
+    // 9: "the count stands at 4,294,967,295"; else the record's own number is one more.
+    let Some(own_number) = word_at(desk, COUNT).checked_add(1) else {
+        return 9;
+    };
 
-    // Accepted: from here on desk and sheet change.
+    // Accepted: from here on desk and sheets change.
+    set_word(desk, COUNT, own_number);
     match (kind, newest) {
         (TAKE, _) => {
             // "Once held it counts as mode 0, 1 or 2"
@@ -325,7 +403,11 @@ pub fn step(desk: &mut [u8], sheet: &mut [u8], slip: &mut [u8], record: &[u8]) -
             // "A take draws one hold arrow to the new class from every hold in the
             // core's current frame, then adds the hold." A try "draws no arrow from the
             // older holds".
-            let older_holds = if by_try { first..first } else { first..first + depth };
+            let older_holds = if by_try {
+                first..first
+            } else {
+                first..first + depth
+            };
             for at in older_holds {
                 let (older, older_mode) = (usize::from(desk[at] % 64), desk[at] / 64);
                 // "First letter: E if the older hold is exclusive, S for either read.
@@ -336,7 +418,13 @@ pub fn step(desk: &mut [u8], sheet: &mut [u8], slip: &mut [u8], record: &[u8]) -
                     (false, true) => SR,
                     (false, false) => SN,
                 };
-                sheet[older * k + usize::from(class)] |= arrow;
+                // "for each pair, the number of the accepted record that first drew a hold
+                // arrow there, 0 for none"
+                let pair = older * k + usize::from(class);
+                if sheet[pair] == 0 {
+                    set_word(seen, WORD * pair, own_number);
+                }
+                sheet[pair] |= arrow;
             }
             desk[first + depth] = class + 64 * mode;
             set_origin(desk, first + depth, by_try);
@@ -366,7 +454,12 @@ pub fn step(desk: &mut [u8], sheet: &mut [u8], slip: &mut [u8], record: &[u8]) -
     }
     desk[1] = 1;
     let circle = drawing.least_cycle(left, desk, sheet);
-    show(slip, &circle.expect("where something remains, a cycle exists"));
+    show(
+        slip,
+        &circle.expect("where something remains, a cycle exists"),
+        k,
+        seen,
+    );
     1
 }
 
@@ -548,7 +641,13 @@ impl Arrivals {
     /// a least walk is always a least walk with one arrow fewer and then a last arrow.
     /// What the last arrow goes to is no part of the list: its class is compared with
     /// the next arrow.
-    fn least_walk(&self, start: usize, length: usize, desk: &[u8], sheet: &[u8]) -> Option<Vec<Triple>> {
+    fn least_walk(
+        &self,
+        start: usize,
+        length: usize,
+        desk: &[u8],
+        sheet: &[u8],
+    ) -> Option<Vec<Triple>> {
         // The arrivals from which exactly 0, 1, 2 .. arrows lead to `start`: with so
         // many arrows left, nobody else need be looked at.
         let mut away: Vec<Set> = vec![1 << start];
@@ -645,13 +744,14 @@ pub const CLASHES: [u8; 256] = [
 
 // ---------------------------------------------------------- the circle shown
 
-/// An arrow as the slip shows it: "class, kind (1, 2, 4 or 8), source (0 hold, 1 hard,
-/// 2 soft)". Compared, and lists of them too, "from left to right".
+/// An arrow as the slip shows it, without its number: "class, kind (1, 2, 4 or 8), source
+/// (0 hold, 1 hard, 2 soft)". Compared, and lists of them too, "from left to right": "The
+/// order in c) compares the first three bytes of each entry."
 pub type Triple = (u8, u8, u8);
 
 /// THE circle: "fewest arrows, and among those the least when the slip's triples are
 /// compared from left to right". None where the drawing has no closed strong path, and
-/// where desk or sheet is unfit.
+/// where desk or a sheet is unfit.
 ///
 /// How it is found. A circle is a cycle among arrivals; the fewest arrows of any cycle
 /// are found by breadth-first search from each arrival. A cycle of so many passes no
@@ -663,8 +763,8 @@ pub type Triple = (u8, u8, u8);
 /// any, and every such cycle through that class has it for its lowest. Which of those
 /// cycles is the least is settled by `least_walk`, for each of the two letters by
 /// which the last arrow can arrive.
-pub fn least_circle(desk: &[u8], sheet: &[u8]) -> Option<Vec<Triple>> {
-    if unfit(desk, sheet, None).is_some() {
+pub fn least_circle(desk: &[u8], sheet: &[u8], seen: &[u8]) -> Option<Vec<Triple>> {
+    if unfit(desk, sheet, seen, None).is_some() {
         return None;
     }
     let drawing = Arrivals::of(desk, sheet);
@@ -687,22 +787,36 @@ fn arrows<'a>(
         .map(move |(kind, source)| ((here % 64) as u8, kind, source))
 }
 
-/// Writes a circle: "Byte 0 is n, 1 to K; then n times three bytes". "Bytes past 1 + 3n
-/// stay."
-fn show(slip: &mut [u8], circle: &[Triple]) {
+/// Writes a circle: "Byte 0 is n, 1 to K"; then n times seven bytes, "the last four that
+/// number, low byte first, or 0 for an interrupt arrow", and "bytes past 1 + 7n stay".
+fn show(slip: &mut [u8], circle: &[Triple], k: usize, seen: &[u8]) {
     slip[0] = circle.len() as u8;
     for (i, &(class, kind, source)) in circle.iter().enumerate() {
-        slip[1 + 3 * i..4 + 3 * i].copy_from_slice(&[class, kind, source]);
+        // "Each arrow goes to the next class, the last to the first."
+        let to = circle[(i + 1) % circle.len()].0;
+        let at = 1 + ENTRY * i;
+        slip[at..at + 3].copy_from_slice(&[class, kind, source]);
+        set_word(slip, at + 3, shown_number(class, to, source, k, seen));
+    }
+}
+
+/// What the slip says of where an arrow was first seen: the pair's number, whichever of
+/// its kinds is shown, "or 0 for an interrupt arrow", though its pair have a number.
+fn shown_number(from: u8, to: u8, source: u8, k: usize, seen: &[u8]) -> u32 {
+    if source == 0 {
+        word_at(seen, WORD * (usize::from(from) * k + usize::from(to)))
+    } else {
+        0
     }
 }
 
 /// Every circle of exactly n arrows as the slip would show it, the least first, by
-/// trying all: for small drawings. Empty where desk or sheet is unfit.
+/// trying all: for small drawings. Empty where desk or a sheet is unfit.
 ///
 /// It shares nothing with [`least_circle`] but `drawn` and the letters of the kinds.
-pub fn all_circles(desk: &[u8], sheet: &[u8], n: usize) -> Vec<Vec<Triple>> {
+pub fn all_circles(desk: &[u8], sheet: &[u8], seen: &[u8], n: usize) -> Vec<Vec<Triple>> {
     let mut all = Vec::new();
-    if unfit(desk, sheet, None).is_none() && n > 0 {
+    if unfit(desk, sheet, seen, None).is_none() && n > 0 {
         for first in 0..desk[0] {
             go_round(desk, sheet, n, first, &mut Vec::new(), &mut all);
         }
@@ -732,11 +846,21 @@ fn go_round(
         }
         for kind in [ER, EN, SR, SN] {
             for source in [0, 1, 2] {
-                if !drawn(desk, sheet, usize::from(class), usize::from(to), kind, source) {
+                if !drawn(
+                    desk,
+                    sheet,
+                    usize::from(class),
+                    usize::from(to),
+                    kind,
+                    source,
+                ) {
                     continue;
                 }
                 // "no arrow ending in R is followed by one beginning with S"
-                if before.last().is_some_and(|last| ends_with_r(last.1) && begins_with_s(kind)) {
+                if before
+                    .last()
+                    .is_some_and(|last| ends_with_r(last.1) && begins_with_s(kind))
+                {
                     continue;
                 }
                 before.push((class, kind, source));
@@ -752,10 +876,11 @@ fn go_round(
     }
 }
 
-/// Whether the slip shows a true circle of the drawing that desk and sheet hold.
-/// (False also where desk or sheet is unfit or the slip is too short.)
-pub fn true_circle(desk_after: &[u8], sheet_after: &[u8], slip: &[u8]) -> bool {
-    if unfit(desk_after, sheet_after, Some(slip)).is_some() {
+/// Whether the slip shows a true circle of the drawing that desk and sheet hold, with the
+/// numbers of the second sheet. (False also where desk or a sheet is unfit or the slip is
+/// too short.)
+pub fn true_circle(desk_after: &[u8], sheet_after: &[u8], seen_after: &[u8], slip: &[u8]) -> bool {
+    if unfit(desk_after, sheet_after, seen_after, Some(slip)).is_some() {
         return false;
     }
     let k = desk_after[0];
@@ -764,7 +889,9 @@ pub fn true_circle(desk_after: &[u8], sheet_after: &[u8], slip: &[u8]) -> bool {
     if n < 1 || n > k {
         return false;
     }
-    let arrows: Vec<&[u8]> = slip[1..1 + 3 * usize::from(n)].chunks_exact(3).collect();
+    let arrows: Vec<&[u8]> = slip[1..1 + ENTRY * usize::from(n)]
+        .chunks_exact(ENTRY)
+        .collect();
     for (i, arrow) in arrows.iter().enumerate() {
         let (class, kind, source) = (arrow[0], arrow[1], arrow[2]);
         if class >= k || ![ER, EN, SR, SN].contains(&kind) || source > 2 {
@@ -779,20 +906,227 @@ pub fn true_circle(desk_after: &[u8], sheet_after: &[u8], slip: &[u8]) -> bool {
     (0..arrows.len()).all(|i| {
         let (arrow, next) = (arrows[i], arrows[(i + 1) % arrows.len()]);
         let (from, to) = (usize::from(arrow[0]), usize::from(next[0]));
+        let number = shown_number(arrow[0], next[0], arrow[2], usize::from(k), seen_after);
         drawn(desk_after, sheet_after, from, to, arrow[1], arrow[2])
             && !(ends_with_r(arrow[1]) && begins_with_s(next[1]))
+            && word_at(arrow, 3) == number
     })
+}
+
+// ------------------------------------------- first seen, by the records alone
+
+/// The books of a list of records from opening, kept without desk and sheets: "worked out
+/// from what opening was given and from the records, and never from what a step left".
+/// It shares with [`step`] how a record is read, the table of states and the frames, and
+/// nothing of what is drawn, marked, counted or searched.
+pub struct Books {
+    k: usize,
+    states: [u8; CORES],
+    /// By frame, oldest first: class, mode 0-2, and whether by a try.
+    holds: Vec<Vec<(usize, u8, bool)>>,
+    /// The kinds of hold arrows of each pair, as the letters of them.
+    kinds: Vec<Vec<(char, char)>>,
+    /// Marks of each class: (level, 'E' or 'S') for unsafe, (level, 'N' or 'R') for safe.
+    unsafe_marks: Vec<Vec<(u8, char)>>,
+    safe_marks: Vec<Vec<(u8, char)>>,
+    numbers: Vec<u32>,
+    accepted: u32,
+    closed: bool,
+}
+
+impl Books {
+    /// None for K not 1-64.
+    pub fn open(k: u64) -> Option<Books> {
+        if k < 1 || k > MAX_K as u64 {
+            return None;
+        }
+        let k = k as usize;
+        Some(Books {
+            k,
+            states: [0; CORES],
+            holds: vec![Vec::new(); FRAMES],
+            kinds: vec![Vec::new(); k * k],
+            unsafe_marks: vec![Vec::new(); k],
+            safe_marks: vec![Vec::new(); k],
+            numbers: vec![0; k * k],
+            accepted: 0,
+            closed: false,
+        })
+    }
+
+    /// How many records were accepted.
+    pub fn accepted(&self) -> u32 {
+        self.accepted
+    }
+
+    /// For each pair, at from x K + to, the number of the accepted record that first drew
+    /// a hold arrow there, 0 for none.
+    pub fn numbers(&self) -> &[u32] {
+        &self.numbers
+    }
+
+    /// Takes in the list's next record; whether it is accepted (answers 0 and 1).
+    pub fn enter(&mut self, record: &[u8]) -> bool {
+        let Some(Record {
+            core,
+            kind,
+            class,
+            mode,
+        }) = read_record(record)
+        else {
+            return false;
+        };
+        let class = usize::from(class);
+        let state = self.states[usize::from(core)];
+        let here = frame(core, state);
+        let newest = self.holds[here].iter().rposition(|hold| hold.0 == class);
+        let allowed = match kind {
+            TAKE => class < self.k && self.holds[here].len() < DEEPEST,
+            RELEASE => class < self.k && newest.is_some(),
+            EXIT_SOFT | EXIT_HARD => {
+                next_state(state, kind).is_some() && self.holds[here].is_empty()
+            }
+            _ => next_state(state, kind).is_some(),
+        };
+        if self.closed || !allowed || self.accepted == u32::MAX {
+            return false;
+        }
+        self.accepted += 1;
+        let mut drew = false;
+        match (kind, newest) {
+            (TAKE, _) => {
+                let by_try = mode >= TRY;
+                let waits = if by_try {
+                    &[][..]
+                } else {
+                    &self.holds[here][..]
+                };
+                for &(older, older_mode, _) in waits {
+                    let first = if older_mode == EXCLUSIVE { 'E' } else { 'S' };
+                    let second = if mode == RECURSIVE { 'R' } else { 'N' };
+                    let pair = older * self.k + class;
+                    if self.numbers[pair] == 0 {
+                        self.numbers[pair] = self.accepted;
+                    }
+                    drew |= note(&mut self.kinds[pair], (first, second));
+                }
+                self.holds[here].push((class, mode % TRY, by_try));
+            }
+            (RELEASE, Some(at)) => {
+                self.holds[here].remove(at);
+            }
+            (_, _) => {
+                if let Some(next) = next_state(state, kind) {
+                    self.states[usize::from(core)] = next;
+                }
+            }
+        }
+        // Marks, with level 1 for hard and 2 for soft.
+        let state = self.states[usize::from(core)];
+        for &(class, mode, by_try) in &self.holds[frame(core, state)] {
+            let safe = if mode == RECURSIVE { 'R' } else { 'N' };
+            let unsafe_ = if mode == EXCLUSIVE { 'E' } else { 'S' };
+            let safe_at = match state {
+                4 | 5 => Some(2),
+                6..=8 => Some(1),
+                _ => None,
+            };
+            if let (Some(level), false) = (safe_at, by_try) {
+                drew |= note(&mut self.safe_marks[class], (level, safe));
+            }
+            let unsafe_at: &[u8] = match state {
+                0 => &[1, 2],
+                1 | 4 => &[1],
+                _ => &[],
+            };
+            for &level in unsafe_at {
+                drew |= note(&mut self.unsafe_marks[class], (level, unsafe_));
+            }
+        }
+        // What has no circle and gets no arrow has none.
+        self.closed = drew && self.circle();
+        true
+    }
+
+    /// The letters of all arrows from one class to another.
+    fn letters(&self, from: usize, to: usize) -> Vec<(char, char)> {
+        let mut all = self.kinds[from * self.k + to].clone();
+        for &(level, first) in &self.unsafe_marks[from] {
+            for &(at, second) in &self.safe_marks[to] {
+                if at == level {
+                    all.push((first, second));
+                }
+            }
+        }
+        all
+    }
+
+    /// Whether a closed strong path exists. Paths are joined at one last class and letter
+    /// after the other: for each first class and letter, all last classes and letters.
+    fn circle(&self) -> bool {
+        // Bit 2c is "ends at c with N", bit 2c + 1 "with R"; row 2c is "begins at c with
+        // E", row 2c + 1 "with S".
+        let mut ends = vec![0u128; 2 * self.k];
+        for from in 0..self.k {
+            for to in 0..self.k {
+                for (first, second) in self.letters(from, to) {
+                    ends[2 * from + usize::from(first == 'S')] |=
+                        1 << (2 * to + usize::from(second == 'R'));
+                }
+            }
+        }
+        for joint in 0..2 * self.k {
+            let (by_e, by_s) = (ends[joint & !1], ends[joint | 1]);
+            let further = if joint % 2 == 0 { by_e | by_s } else { by_e };
+            for row in ends.iter_mut().filter(|row| **row >> joint & 1 == 1) {
+                *row |= further;
+            }
+        }
+        // Closed: it ends where it begins, and not with R where it begins with S.
+        (0..self.k).any(|c| {
+            let (by_e, by_s) = (ends[2 * c] >> (2 * c) & 3, ends[2 * c + 1] >> (2 * c) & 3);
+            by_e != 0 || by_s & 1 != 0
+        })
+    }
+}
+
+/// Adds what isn't there yet; whether it was added.
+fn note<T: PartialEq>(list: &mut Vec<T>, what: T) -> bool {
+    let new = !list.contains(&what);
+    if new {
+        list.push(what);
+    }
+    new
+}
+
+/// For each pair, at from x K + to, the number of the accepted record of this list that
+/// first drew a hold arrow there, counted among the accepted from 1, 0 for none. Worked
+/// out from K and the list alone, refused records standing in it. None for K not 1-64.
+pub fn first_seen<R: AsRef<[u8]>>(k: u64, records: &[R]) -> Option<Vec<u32>> {
+    let mut books = Books::open(k)?;
+    for record in records {
+        books.enter(record.as_ref());
+    }
+    Some(books.numbers)
 }
 
 // ------------------------------------------------------------- the question
 
 /// "which classes end a strong path of one or more arrows from class c? The answer
 /// is one 64-bit word, bit i for class i, and how many bits are set." "Refused with
-/// 11, then 4; word and count are then 0. A closed desk may be asked."
-pub fn ask(desk: &[u8], sheet: &[u8], class: u64, word: &mut u64, count: &mut u32) -> u8 {
+/// 11, then 4; word and count are then 0. A closed desk may be asked." "The question takes
+/// both sheets."
+pub fn ask(
+    desk: &[u8],
+    sheet: &[u8],
+    seen: &[u8],
+    class: u64,
+    word: &mut u64,
+    count: &mut u32,
+) -> u8 {
     *word = 0;
     *count = 0;
-    if unfit(desk, sheet, None).is_some() {
+    if unfit(desk, sheet, seen, None).is_some() {
         return 11;
     }
     if class >= u64::from(desk[0]) {
@@ -864,7 +1198,7 @@ pub fn unfit_feed(feed: &[u8]) -> Option<&'static str> {
     if !opened && !at_0 {
         return Some(FEED_CLAUSES[6]);
     }
-    if opened && ![0, 1, 3, 4, 5, 6, 7, 8, 10, 11].contains(&answer) {
+    if opened && ![0, 1, 3, 4, 5, 6, 7, 8, 9, 10, 11].contains(&answer) {
         return Some(FEED_CLAUSES[7]);
     }
     if opened && answer != 0 && at_0 {
@@ -900,7 +1234,10 @@ impl Feed {
             answer: feed[STANDING],
             opened: feed[OPENED] == 1,
             loose: feed[KEEP..KEEP + usize::from(feed[KEPT])].to_vec(),
-            number: feed[NUMBER..FEED].iter().rev().fold(0, |n, &b| n << 8 | u64::from(b)),
+            number: feed[NUMBER..FEED]
+                .iter()
+                .rev()
+                .fold(0, |n, &b| n << 8 | u64::from(b)),
         })
     }
 
@@ -916,14 +1253,14 @@ impl Feed {
 
     /// Judges the loose bytes, whole or short, as the header or after it as the next
     /// record. None are left.
-    fn judge(&mut self, desk: &mut [u8], sheet: &mut [u8], slip: &mut [u8]) {
+    fn judge(&mut self, desk: &mut [u8], sheet: &mut [u8], seen: &mut [u8], slip: &mut [u8]) {
         if self.opened {
             // The number stays at 2^64 - 1 where it would pass it.
             self.number = self.number.saturating_add(1);
-            self.answer = step(desk, sheet, slip, &self.loose);
+            self.answer = step(desk, sheet, seen, slip, &self.loose);
         } else {
             self.answer = match self.loose[..] {
-                [0x4C, 0x48, 0x01, k] => open(u64::from(k), desk, sheet),
+                [0x4C, 0x48, 0x01, k] => open(u64::from(k), desk, sheet, seen),
                 _ => 2,
             };
             self.opened = self.answer == 0;
@@ -948,6 +1285,7 @@ pub fn feed(
     feed: &mut [u8],
     desk: &mut [u8],
     sheet: &mut [u8],
+    seen: &mut [u8],
     slip: &mut [u8],
     piece: &[u8],
     record: &mut u64,
@@ -964,7 +1302,7 @@ pub fn feed(
         // "Header and records are judged when complete."
         held.loose.push(byte);
         if held.loose.len() == whole_item(held.opened) {
-            held.judge(desk, sheet, slip);
+            held.judge(desk, sheet, seen, slip);
         }
     }
     held.write(feed);
@@ -980,6 +1318,7 @@ pub fn feed_end(
     feed: &mut [u8],
     desk: &mut [u8],
     sheet: &mut [u8],
+    seen: &mut [u8],
     slip: &mut [u8],
     record: &mut u64,
 ) -> u8 {
@@ -988,7 +1327,7 @@ pub fn feed_end(
         return 11;
     };
     if held.answer == 0 && (!held.opened || !held.loose.is_empty()) {
-        held.judge(desk, sheet, slip);
+        held.judge(desk, sheet, seen, slip);
     }
     held.write(feed);
     *record = held.number;
@@ -1001,13 +1340,14 @@ pub fn whole_log(
     log: &[u8],
     desk: &mut [u8],
     sheet: &mut [u8],
+    seen: &mut [u8],
     slip: &mut [u8],
     ended: bool,
 ) -> (u8, u64) {
     let Some((header, records)) = log.split_at_checked(4) else {
         return (if ended { 2 } else { 0 }, 0);
     };
-    if header[..3] != [0x4C, 0x48, 0x01] || open(u64::from(header[3]), desk, sheet) != 0 {
+    if header[..3] != [0x4C, 0x48, 0x01] || open(u64::from(header[3]), desk, sheet, seen) != 0 {
         return (2, 0);
     }
     let mut number = 0;
@@ -1015,13 +1355,13 @@ pub fn whole_log(
     let rest = whole.remainder();
     for record in whole {
         number += 1;
-        let answer = step(desk, sheet, slip, record);
+        let answer = step(desk, sheet, seen, slip, record);
         if answer != 0 {
             return (answer, number);
         }
     }
     if ended && !rest.is_empty() {
-        return (step(desk, sheet, slip, rest), number + 1);
+        return (step(desk, sheet, seen, slip, rest), number + 1);
     }
     (0, number)
 }
@@ -1047,7 +1387,8 @@ fn fill(input: &mut dyn Read, buffer: &mut [u8]) -> std::io::Result<usize> {
 pub fn run_log(input: &mut dyn Read, out: &mut dyn Write) -> std::io::Result<()> {
     let mut desk = [0; DESK];
     let mut sheet = [0; MAX_K * MAX_K];
-    let mut slip = [0; 1 + 3 * MAX_K];
+    let mut seen = [0; WORD * MAX_K * MAX_K];
+    let mut slip = [0; 1 + ENTRY * MAX_K];
 
     // "A log is the header 4C 48 01 K and then records." "A bad or short header gives
     // `refused 2 at record 0`"
@@ -1055,7 +1396,7 @@ pub fn run_log(input: &mut dyn Read, out: &mut dyn Write) -> std::io::Result<()>
     let got = fill(input, &mut header)?;
     let well = got == 4
         && header[..3] == [0x4C, 0x48, 0x01]
-        && open(u64::from(header[3]), &mut desk, &mut sheet) == 0;
+        && open(u64::from(header[3]), &mut desk, &mut sheet, &mut seen) == 0;
     if !well {
         writeln!(out, "refused 2 at record 0")?;
         return out.flush();
@@ -1072,7 +1413,7 @@ pub fn run_log(input: &mut dyn Read, out: &mut dyn Write) -> std::io::Result<()>
         }
         // "records count from 1 and include the one named"; "a short last record is a 3"
         number += 1;
-        match step(&mut desk, &mut sheet, &mut slip, &record[..got]) {
+        match step(&mut desk, &mut sheet, &mut seen, &mut slip, &record[..got]) {
             0 => {}
             1 => {
                 writeln!(out, "fault at record {number}")?;
@@ -1087,8 +1428,12 @@ pub fn run_log(input: &mut dyn Read, out: &mut dyn Write) -> std::io::Result<()>
     }
 }
 
+/// "Printed lines stay.": no numbers.
 fn write_circle(slip: &[u8], out: &mut dyn Write) -> std::io::Result<()> {
-    let arrows: Vec<&[u8]> = slip[1..].chunks_exact(3).take(usize::from(slip[0])).collect();
+    let arrows: Vec<&[u8]> = slip[1..]
+        .chunks_exact(ENTRY)
+        .take(usize::from(slip[0]))
+        .collect();
     for (i, arrow) in arrows.iter().enumerate() {
         let to = arrows[(i + 1) % arrows.len()][0];
         let kind = match arrow[1] {

@@ -35,6 +35,7 @@ fn event(core: u8, kind: u8) -> Rec {
 struct Bench {
     desk: Vec<u8>,
     sheet: Vec<u8>,
+    seen: Vec<u8>,
     slip: Vec<u8>,
 }
 
@@ -43,13 +44,23 @@ impl Bench {
         let mut b = Bench {
             desk: vec![0xA5; DESK],
             sheet: vec![0xA5; sheet_len(k)],
+            seen: vec![0xA5; seen_len(k)],
             slip: vec![0xA5; slip_len(k)],
         };
-        assert_eq!(open(k as u64, &mut b.desk, &mut b.sheet), 0);
+        assert_eq!(b.open(k as u64), 0);
         b
     }
+    fn open(&mut self, k: u64) -> u8 {
+        open(k, &mut self.desk, &mut self.sheet, &mut self.seen)
+    }
     fn step(&mut self, record: &[u8]) -> u8 {
-        step(&mut self.desk, &mut self.sheet, &mut self.slip, record)
+        step(
+            &mut self.desk,
+            &mut self.sheet,
+            &mut self.seen,
+            &mut self.slip,
+            record,
+        )
     }
     /// Steps that must all answer 0.
     fn clean(mut self, records: &[Rec]) -> Bench {
@@ -66,15 +77,81 @@ impl Bench {
     }
     fn ask(&self, class: u64) -> (u8, u64, u32) {
         let (mut word, mut count) = (99, 99);
-        let answer = ask(&self.desk, &self.sheet, class, &mut word, &mut count);
+        let answer = ask(
+            &self.desk,
+            &self.sheet,
+            &self.seen,
+            class,
+            &mut word,
+            &mut count,
+        );
         (answer, word, count)
+    }
+    /// The count of accepted records, bytes 638 to 641, low byte first.
+    fn count(&self) -> u32 {
+        u32::from_le_bytes([
+            self.desk[638],
+            self.desk[639],
+            self.desk[640],
+            self.desk[641],
+        ])
+    }
+    fn set_count(&mut self, count: u32) {
+        self.desk[638..642].copy_from_slice(&count.to_le_bytes());
+    }
+    /// The number of a pair on the second sheet, at 4 x (from x K + to).
+    fn number(&self, from: usize, to: usize) -> u32 {
+        let at = 4 * (from * self.desk[0] as usize + to);
+        u32::from_le_bytes(self.seen[at..at + 4].try_into().unwrap())
+    }
+    fn set_number(&mut self, from: usize, to: usize, number: u32) {
+        let at = 4 * (from * self.desk[0] as usize + to);
+        self.seen[at..at + 4].copy_from_slice(&number.to_le_bytes());
+    }
+    /// Makes numbers and count fit a sheet that was written by hand: a pair with kinds and
+    /// no number gets one in no order, up to 2 to the 31; one without kinds gets 0; and a
+    /// count below any of them is raised.
+    fn settle(&mut self) {
+        let k = self.desk[0] as usize;
+        let mut highest = self.count();
+        for pair in 0..k * k {
+            let number = &mut self.seen[4 * pair..4 * pair + 4];
+            if self.sheet[pair] == 0 {
+                number.fill(0);
+                continue;
+            }
+            if number == [0; 4] {
+                let made = 1 + ((pair as u32 + 7).wrapping_mul(0x9E37_79B1) >> 1);
+                number.copy_from_slice(&made.to_le_bytes());
+            }
+            highest = highest.max(self.number(pair / k, pair % k));
+        }
+        self.set_count(highest);
+    }
+    /// This bench with one more record counted.
+    fn counted(&self) -> Bench {
+        let mut b = self.clone();
+        b.set_count(self.count() + 1);
+        b
     }
     /// The places whose origin bit is 1, lowest bit first over the whole region.
     fn origins(&self) -> Vec<usize> {
-        (0..480).filter(|&place| self.desk[578 + place / 8] >> (place % 8) & 1 == 1).collect()
+        (0..480)
+            .filter(|&place| self.desk[578 + place / 8] >> (place % 8) & 1 == 1)
+            .collect()
     }
     fn unfit(&self) -> Option<&'static str> {
-        unfit(&self.desk, &self.sheet, Some(&self.slip))
+        unfit(&self.desk, &self.sheet, &self.seen, Some(&self.slip))
+    }
+    fn least_circle(&self) -> Option<Vec<Triple>> {
+        least_circle(&self.desk, &self.sheet, &self.seen)
+    }
+    fn all_circles(&self, n: usize) -> Vec<Vec<Triple>> {
+        all_circles(&self.desk, &self.sheet, &self.seen, n)
+    }
+    /// Whether this slip shows a true circle of this bench.
+    fn true_circle(&self, slip: &[u8]) -> bool {
+        true_circle(&self.desk, &self.sheet, &self.seen, slip)
     }
 }
 
@@ -103,8 +180,11 @@ fn judge(k: u8, records: &[Rec]) -> (usize, u8) {
             1 => {
                 assert_eq!(b.desk[1], 1);
                 let circle = listed(&b).unwrap();
-                assert_eq!(b.slip, shown_over(&before.slip, &circle));
-                assert_eq!(text, format!("fault at record {}\n{}", i + 1, printed(&circle)));
+                assert_eq!(b.slip, b.shown_over(&before.slip, &circle));
+                assert_eq!(
+                    text,
+                    format!("fault at record {}\n{}", i + 1, printed(&circle))
+                );
                 b.refused(r, 10);
             }
             _ => {
@@ -113,6 +193,12 @@ fn judge(k: u8, records: &[Rec]) -> (usize, u8) {
             }
         }
         assert_eq!(b.unfit(), None);
+        // The numbers by the records alone; all but the last were accepted.
+        assert_eq!(
+            b.seen,
+            bytes_of(&first_seen(k.into(), &records[..=i]).unwrap())
+        );
+        assert_eq!(b.count() as usize, if answer > 1 { i } else { i + 1 });
         if answer != 0 {
             return (i + 1, answer);
         }
@@ -123,24 +209,59 @@ fn judge(k: u8, records: &[Rec]) -> (usize, u8) {
 
 /// The least circle, by trying all circles of one arrow, of two and so on.
 fn listed(b: &Bench) -> Option<Vec<Triple>> {
-    (1..=b.desk[0] as usize).find_map(|n| all_circles(&b.desk, &b.sheet, n).into_iter().min())
+    (1..=b.desk[0] as usize).find_map(|n| b.all_circles(n).into_iter().min())
 }
-/// A slip after this circle was written into it.
-fn shown_over(slip: &[u8], circle: &[Triple]) -> Vec<u8> {
-    let mut bytes = vec![circle.len() as u8];
-    for &(class, kind, source) in circle {
-        bytes.extend([class, kind, source]);
+impl Bench {
+    /// A slip after this circle of this bench was written into it: the number of the pair
+    /// with a hold arrow, 0 with an interrupt arrow.
+    fn shown_over(&self, slip: &[u8], circle: &[Triple]) -> Vec<u8> {
+        let mut bytes = vec![circle.len() as u8];
+        let to = circle.iter().cycle().skip(1);
+        for (&(class, kind, source), &(to, _, _)) in circle.iter().zip(to) {
+            let hold = self.number(class.into(), to.into());
+            bytes.extend([class, kind, source]);
+            bytes.extend(if source == 0 { hold } else { 0 }.to_le_bytes());
+        }
+        bytes.extend(&slip[bytes.len()..]);
+        bytes
     }
-    bytes.extend(&slip[bytes.len()..]);
+    /// The same over what the slip was before.
+    fn shown_or_not(&self, slip: &[u8], circle: &Option<Vec<Triple>>) -> Vec<u8> {
+        circle
+            .as_ref()
+            .map_or(slip.to_vec(), |circle| self.shown_over(slip, circle))
+    }
+}
+
+/// Numbers as they lie on a second sheet.
+fn bytes_of(numbers: &[u32]) -> Vec<u8> {
+    numbers
+        .iter()
+        .flat_map(|n| [*n as u8, (n >> 8) as u8, (n >> 16) as u8, (n >> 24) as u8])
+        .collect()
+}
+/// A slip's first bytes: the entries, each with its number.
+fn entries(arrows: &[(u8, u8, u8, u32)]) -> Vec<u8> {
+    let mut bytes = vec![arrows.len() as u8];
+    for &(class, kind, source, number) in arrows {
+        bytes.extend([class, kind, source]);
+        bytes.extend(bytes_of(&[number]));
+    }
     bytes
 }
 /// What the program prints of a circle.
 fn printed(circle: &[Triple]) -> String {
     let to = circle.iter().cycle().skip(1);
-    let lines = circle.iter().zip(to).map(|((from, kind, source), (to, _, _))| {
-        let kind = ["", "ER", "EN", "", "SR", "", "", "", "SN"][*kind as usize];
-        format!("{from} {kind} {to} {}\n", ["hold", "hard", "soft"][*source as usize])
-    });
+    let lines = circle
+        .iter()
+        .zip(to)
+        .map(|((from, kind, source), (to, _, _))| {
+            let kind = ["", "ER", "EN", "", "SR", "", "", "", "SN"][*kind as usize];
+            format!(
+                "{from} {kind} {to} {}\n",
+                ["hold", "hard", "soft"][*source as usize]
+            )
+        });
     lines.collect()
 }
 
@@ -176,18 +297,45 @@ fn p1() {
 }
 
 fn p2_records() -> [Rec; 6] {
-    [take(0, 1, E), take(0, 2, E), release(0, 2), release(0, 1), take(1, 2, E), take(1, 1, E)]
+    [
+        take(0, 1, E),
+        take(0, 2, E),
+        release(0, 2),
+        release(0, 1),
+        take(1, 2, E),
+        take(1, 1, E),
+    ]
 }
 
 #[test]
 fn p2() {
     assert_fault(&p2_records());
     // Releases in the other order, or none at all, are no help.
-    assert_fault(&[take(0, 1, E), take(0, 2, E), release(0, 1), release(0, 2), take(1, 2, E), take(1, 1, E)]);
+    assert_fault(&[
+        take(0, 1, E),
+        take(0, 2, E),
+        release(0, 1),
+        release(0, 2),
+        take(1, 2, E),
+        take(1, 1, E),
+    ]);
     assert_fault(&[take(0, 1, E), take(0, 2, E), take(1, 2, E), take(1, 1, E)]);
     // Same order on both cores, or the second class taken alone: clean.
-    assert_clean(&[take(0, 1, E), take(0, 2, E), release(0, 2), release(0, 1), take(1, 1, E), take(1, 2, E)]);
-    assert_clean(&[take(0, 1, E), take(0, 2, E), take(1, 2, E), release(1, 2), take(1, 1, E)]);
+    assert_clean(&[
+        take(0, 1, E),
+        take(0, 2, E),
+        release(0, 2),
+        release(0, 1),
+        take(1, 1, E),
+        take(1, 2, E),
+    ]);
+    assert_clean(&[
+        take(0, 1, E),
+        take(0, 2, E),
+        take(1, 2, E),
+        release(1, 2),
+        take(1, 1, E),
+    ]);
 }
 
 #[test]
@@ -202,7 +350,10 @@ fn p2_exact_output() {
         0x4C, 0x4B, 0x01, 0x00, 0x01, 0x00,
     ];
     assert_eq!(input.to_vec(), log(3, &p2_records()));
-    assert_eq!(program(&input), "fault at record 6\n1 EN 2 hold\n2 EN 1 hold\n");
+    assert_eq!(
+        program(&input),
+        "fault at record 6\n1 EN 2 hold\n2 EN 1 hold\n"
+    );
     // What follows the fault isn't looked at.
     let longer = [&input[..], &[0xFF]].concat();
     assert_eq!(program(&longer), program(&input));
@@ -246,45 +397,102 @@ fn p6_p7_p8() {
 
 #[test]
 fn p9() {
-    assert_fault(&[take(0, 0, E), take(0, 1, R), take(0, 2, E), take(1, 2, E), take(1, 0, E)]);
+    assert_fault(&[
+        take(0, 0, E),
+        take(0, 1, R),
+        take(0, 2, E),
+        take(1, 2, E),
+        take(1, 0, E),
+    ]);
     // Without 0 still held at 2E, there is only 0 ER 1 SN 2.
     assert_clean(&[
-        take(0, 0, E), take(0, 1, R), release(0, 0), take(0, 2, E), take(1, 2, E), take(1, 0, E),
+        take(0, 0, E),
+        take(0, 1, R),
+        release(0, 0),
+        take(0, 2, E),
+        take(1, 2, E),
+        take(1, 0, E),
     ]);
 }
 
 #[test]
 fn p10() {
-    assert_fault(&[take(0, 3, E), release(0, 3), event(0, ENTER_HARD), take(0, 3, E)]);
-    assert_clean(&[take(0, 3, R), release(0, 3), event(0, ENTER_HARD), take(0, 3, R)]);
-    // Another core's handler counts as well: one drawing for all contexts.
-    assert_fault(&[take(0, 3, E), event(5, ENTER_HARD), take(5, 3, R)]);
-    assert_clean(&[take(0, 3, R), release(0, 3), event(0, ENTER_HARD), take(0, 3, R), release(0, 3)]);
-    assert_fault(&[take(0, 3, NR), event(0, ENTER_HARD), take(0, 3, NR)]);
-    // Taken with hard off: clean, until hard on marks the standing hold.
-    assert_clean(&[event(0, HARD_OFF), take(0, 3, E), event(1, ENTER_HARD), take(1, 3, E)]);
     assert_fault(&[
-        event(0, HARD_OFF), take(0, 3, E), event(1, ENTER_HARD), take(1, 3, E), event(0, HARD_ON),
+        take(0, 3, E),
+        release(0, 3),
+        event(0, ENTER_HARD),
+        take(0, 3, E),
     ]);
     assert_clean(&[
-        event(0, HARD_OFF), take(0, 3, E), event(1, ENTER_HARD), take(1, 3, E), release(0, 3), event(0, HARD_ON),
+        take(0, 3, R),
+        release(0, 3),
+        event(0, ENTER_HARD),
+        take(0, 3, R),
+    ]);
+    // Another core's handler counts as well: one drawing for all contexts.
+    assert_fault(&[take(0, 3, E), event(5, ENTER_HARD), take(5, 3, R)]);
+    assert_clean(&[
+        take(0, 3, R),
+        release(0, 3),
+        event(0, ENTER_HARD),
+        take(0, 3, R),
+        release(0, 3),
+    ]);
+    assert_fault(&[take(0, 3, NR), event(0, ENTER_HARD), take(0, 3, NR)]);
+    // Taken with hard off: clean, until hard on marks the standing hold.
+    assert_clean(&[
+        event(0, HARD_OFF),
+        take(0, 3, E),
+        event(1, ENTER_HARD),
+        take(1, 3, E),
+    ]);
+    assert_fault(&[
+        event(0, HARD_OFF),
+        take(0, 3, E),
+        event(1, ENTER_HARD),
+        take(1, 3, E),
+        event(0, HARD_ON),
+    ]);
+    assert_clean(&[
+        event(0, HARD_OFF),
+        take(0, 3, E),
+        event(1, ENTER_HARD),
+        take(1, 3, E),
+        release(0, 3),
+        event(0, HARD_ON),
     ]);
     // Soft-unsafe doesn't clash with hard-safe alone, nor does hard-off soft-on mark soft.
     assert_clean(&[
-        event(0, HARD_OFF), take(0, 3, E), release(0, 3), event(0, HARD_ON), event(0, ENTER_SOFT), take(0, 3, E),
+        event(0, HARD_OFF),
+        take(0, 3, E),
+        release(0, 3),
+        event(0, HARD_ON),
+        event(0, ENTER_SOFT),
+        take(0, 3, E),
     ]);
 }
 
 #[test]
 fn p11() {
     let mut records = vec![
-        event(0, ENTER_HARD), take(0, 4, E), release(0, 4), event(0, EXIT_HARD), //
-        event(0, HARD_OFF), take(0, 4, E), take(0, 5, E), release(0, 5), release(0, 4), //
-        event(0, HARD_ON), take(0, 5, E),
+        event(0, ENTER_HARD),
+        take(0, 4, E),
+        release(0, 4),
+        event(0, EXIT_HARD), //
+        event(0, HARD_OFF),
+        take(0, 4, E),
+        take(0, 5, E),
+        release(0, 5),
+        release(0, 4), //
+        event(0, HARD_ON),
+        take(0, 5, E),
     ];
     assert_eq!(records.len(), 11);
     assert_fault(&records);
-    assert_eq!(program(&log(8, &records)), "fault at record 11\n4 EN 5 hold\n5 EN 4 hard\n");
+    assert_eq!(
+        program(&log(8, &records)),
+        "fault at record 11\n4 EN 5 hold\n5 EN 4 hard\n"
+    );
     // Without the last record, or with the last take before hard on: clean.
     assert_clean(&records[..10]);
     records.swap(9, 10);
@@ -295,14 +503,28 @@ fn p11() {
 #[test]
 fn p12() {
     assert_clean(&[
-        event(0, SOFT_OFF), take(0, 6, E), release(0, 6), event(0, SOFT_ON), event(0, ENTER_SOFT), take(0, 6, E),
+        event(0, SOFT_OFF),
+        take(0, 6, E),
+        release(0, 6),
+        event(0, SOFT_ON),
+        event(0, ENTER_SOFT),
+        take(0, 6, E),
     ]);
-    let fault = [take(0, 6, E), release(0, 6), event(0, ENTER_SOFT), take(0, 6, E)];
+    let fault = [
+        take(0, 6, E),
+        release(0, 6),
+        event(0, ENTER_SOFT),
+        take(0, 6, E),
+    ];
     assert_fault(&fault);
     assert_eq!(program(&log(8, &fault)), "fault at record 4\n6 EN 6 soft\n");
     // Soft on again with the hold standing: marked then.
     assert_fault(&[
-        event(1, ENTER_SOFT), take(1, 6, E), event(0, SOFT_OFF), take(0, 6, E), event(0, SOFT_ON),
+        event(1, ENTER_SOFT),
+        take(1, 6, E),
+        event(0, SOFT_OFF),
+        take(0, 6, E),
+        event(0, SOFT_ON),
     ]);
 }
 
@@ -320,13 +542,28 @@ fn refusal_logs() {
     twenty[20] = event(0, ENTER_SOFT);
     twenty.push(take(0, 0, R));
     assert_clean(&twenty);
-    assert_eq!(judge(8, &[event(0, ENTER_HARD), take(0, 0, E), event(0, EXIT_HARD)]), (3, 7));
-    assert_eq!(judge(8, &[event(0, ENTER_SOFT), take(0, 0, E), event(0, EXIT_SOFT)]), (3, 7));
+    assert_eq!(
+        judge(
+            8,
+            &[event(0, ENTER_HARD), take(0, 0, E), event(0, EXIT_HARD)]
+        ),
+        (3, 7)
+    );
+    assert_eq!(
+        judge(
+            8,
+            &[event(0, ENTER_SOFT), take(0, 0, E), event(0, EXIT_SOFT)]
+        ),
+        (3, 7)
+    );
     assert_eq!(judge(8, &[event(0, EXIT_HARD)]), (1, 6));
     assert_eq!(judge(8, &[release(0, 0)]), (1, 5));
     assert_eq!(judge(8, &[take(0, 0, E), release(1, 0)]), (2, 5));
     // Held in the task frame, but not in this one.
-    assert_eq!(judge(8, &[take(0, 0, E), event(0, ENTER_HARD), release(0, 0)]), (3, 5));
+    assert_eq!(
+        judge(8, &[take(0, 0, E), event(0, ENTER_HARD), release(0, 0)]),
+        (3, 5)
+    );
     assert_eq!(judge(8, &[take(0, 8, E)]), (1, 4));
     assert_eq!(judge(8, &[release(0, 255)]), (1, 4));
     assert_eq!(judge(64, &[take(0, 63, E), take(0, 64, E)]), (2, 4));
@@ -414,6 +651,7 @@ fn refusal_order() {
     b.refused(&event(0, EXIT_HARD), 10); // 10 before 6
     b.refused(&release(0, 0), 10); // 10 before 5
     b.sheet[63] = 16;
+    b.settle();
     b.refused(&take(0, 0, E), 11);
     b.refused(&[], 11);
     b.desk[1] = 0;
@@ -447,11 +685,14 @@ fn refusal_order() {
     full.refused(&event(0, EXIT_SOFT), 6);
     let soft = Bench::new(8).clean(&[event(0, ENTER_SOFT), take(0, 0, E)]);
     soft.refused(&event(0, EXIT_SOFT), 7);
-    soft.clone().clean(&[event(0, HARD_OFF)]).refused(&event(0, EXIT_SOFT), 6);
+    soft.clone()
+        .clean(&[event(0, HARD_OFF)])
+        .refused(&event(0, EXIT_SOFT), 6);
     // 3 before 7.
     soft.refused(&[0x4C, 0x4B, 0, EXIT_SOFT, 0, 1], 3);
     // 7 looks at the current frame only.
-    soft.clone().clean(&[event(0, ENTER_HARD), event(0, EXIT_HARD)]);
+    soft.clone()
+        .clean(&[event(0, ENTER_HARD), event(0, EXIT_HARD)]);
     Bench::new(8).clean(&[take(0, 0, E), event(0, ENTER_SOFT), event(0, EXIT_SOFT)]);
 }
 
@@ -460,59 +701,78 @@ fn refusal_order() {
 #[test]
 fn opening() {
     for k in [0, 65, 256, 264, 1 << 32, (1 << 32) + 8, u64::MAX] {
-        let mut desk = vec![0xA5; DESK + 22];
-        let mut sheet = vec![0xA5; 70 * 70];
-        assert_eq!(open(k, &mut desk, &mut sheet), 2);
-        assert!(desk.iter().chain(&sheet).all(|&b| b == 0xA5));
+        let mut b = lent(DESK + 22, 70 * 70, 4 * 70 * 70, 0);
+        assert_eq!(b.open(k), 2);
+        assert_eq!(b, lent(DESK + 22, 70 * 70, 4 * 70 * 70, 0));
     }
     for k in 1..=64 {
-        let size = sheet_len(k);
-        for (desk_len, sheet_size, answer) in [
-            (DESK, size, 0),
-            (DESK + 3, size + 5, 0),
-            (DESK - 1, size, 2),
-            (578, size, 2),
-            (577, size, 2),
-            (DESK, size - 1, 2),
-            (0, 0, 2),
+        let size = k * k;
+        for (desk, sheet, seen, answer) in [
+            (642, size, 4 * size, 0),
+            (645, size + 5, 4 * size, 0),
+            (642, size, 4 * size + 1, 0),
+            (642, size, 4 * size + 70, 0),
+            (641, size, 4 * size, 2),
+            (638, size, 4 * size, 2),
+            (578, size, 4 * size, 2),
+            (577, size, 4 * size, 2),
+            (642, size - 1, 4 * size, 2),
+            (642, size, 4 * size - 1, 2),
+            (642, size, 4 * size - 4, 2),
+            (642, size, size, 2),
+            (642, size, 0, 2),
+            (0, 0, 0, 2),
         ] {
-            let mut desk = vec![0xA5; desk_len];
-            let mut sheet = vec![0xA5; sheet_size];
-            assert_eq!(open(k as u64, &mut desk, &mut sheet), answer);
+            // The slip isn't looked at.
+            let mut b = lent(desk, sheet, seen, 0);
+            assert_eq!(b.open(k as u64), answer);
             if answer == 2 {
-                assert!(desk.iter().chain(&sheet).all(|&b| b == 0xA5));
+                assert_eq!(b, lent(desk, sheet, seen, 0));
                 continue;
             }
-            assert_eq!(desk[0], k as u8);
-            assert!(desk[1..638].iter().chain(&sheet[..size]).all(|&b| b == 0));
-            assert!(desk[638..].iter().chain(&sheet[size..]).all(|&b| b == 0xA5));
-            assert_eq!(unfit(&desk, &sheet, None), None);
+            assert_eq!(b.desk[0], k as u8);
+            assert!(b.desk[1..642]
+                .iter()
+                .chain(&b.sheet[..size])
+                .all(|&x| x == 0));
+            assert!(b.seen[..4 * size].iter().all(|&x| x == 0));
+            assert!(b.desk[642..]
+                .iter()
+                .chain(&b.sheet[size..])
+                .all(|&x| x == 0xA5));
+            assert!(b.seen[4 * size..].iter().all(|&x| x == 0xA5));
+            assert_eq!(unfit(&b.desk, &b.sheet, &b.seen, None), None);
         }
     }
 }
 
 #[test]
 fn bytes_past_the_sizes_stay() {
-    let mut desk = vec![0xA5; DESK + 9];
-    let mut sheet = vec![0xA5; sheet_len(3) + 9];
-    let mut slip = vec![0xA5; slip_len(3) + 9];
-    assert_eq!(open(3, &mut desk, &mut sheet), 0);
+    let mut b = lent(DESK + 9, 9 + 9, 36 + 9, 22 + 9);
+    assert_eq!(b.open(3), 0);
     // The last place of the last frame, whose origin is the highest bit of byte 637.
-    desk[9] = 8;
-    desk[33] = 19;
-    desk[558..577].fill(128);
+    b.desk[9] = 8;
+    b.desk[33] = 19;
+    b.desk[558..577].fill(128);
     let last = [take(7, 0, TRR), release(7, 0), take(7, 0, TRR)];
-    assert_eq!(last.map(|r| step(&mut desk, &mut sheet, &mut slip, &r)), [0, 0, 0]);
-    assert_eq!(desk[637], 128);
-    assert!(slip.iter().all(|&b| b == 0xA5));
-    let answers = p2_records().map(|r| step(&mut desk, &mut sheet, &mut slip, &r));
+    assert_eq!(last.map(|r| b.step(&r)), [0, 0, 0]);
+    assert_eq!(b.desk[637..642], [128, 3, 0, 0, 0]);
+    assert!(b.slip.iter().all(|&b| b == 0xA5));
+    // The last pair's number is in the last four of 36 bytes.
+    assert_eq!([take(1, 2, R), take(1, 2, R)].map(|r| b.step(&r)), [0, 0]);
+    assert_eq!(b.seen[32..36], [5, 0, 0, 0]);
+    assert_eq!([release(1, 2), release(1, 2)].map(|r| b.step(&r)), [0, 0]);
+    let answers = p2_records().map(|r| b.step(&r));
     assert_eq!(answers, [0, 0, 0, 0, 0, 1]);
-    assert_eq!(slip[..7], [2, 1, EN, 0, 2, EN, 0]);
-    assert_eq!(desk[1], 1);
-    for tail in [&desk[638..], &sheet[9..], &slip[7..]] {
-        assert!(tail.iter().all(|&b| b == 0xA5));
+    assert_eq!(
+        b.slip[..15],
+        [2, 1, EN, 0, 9, 0, 0, 0, 2, EN, 0, 13, 0, 0, 0]
+    );
+    assert_eq!(b.desk[1], 1);
+    for tail in [&b.desk[642..], &b.sheet[9..], &b.seen[36..], &b.slip[15..]] {
+        assert!(!tail.is_empty() && tail.iter().all(|&b| b == 0xA5));
     }
-    assert!(true_circle(&desk, &sheet, &slip));
+    assert!(b.true_circle(&b.slip));
 }
 
 // --------------------------------------------------------------------- unfit
@@ -520,7 +780,11 @@ fn bytes_past_the_sizes_stay() {
 #[test]
 fn each_clause_of_unfit() {
     let good = Bench::new(8).clean(&[
-        take(2, 7, R), event(2, ENTER_SOFT), take(2, 6, E), event(2, ENTER_HARD), take(2, 5, NR),
+        take(2, 7, R),
+        event(2, ENTER_SOFT),
+        take(2, 6, E),
+        event(2, ENTER_HARD),
+        take(2, 5, NR),
     ]);
     assert_eq!(good.unfit(), None);
     let mut met = Vec::new();
@@ -537,11 +801,13 @@ fn each_clause_of_unfit() {
             assert_eq!((answer, word, count), (11, 0, 0));
             assert_eq!(b.ask(u64::MAX), (11, 0, 0)); // 11 before 4
         }
-        assert!(!true_circle(&b.desk, &b.sheet, &b.slip));
+        assert!(!b.true_circle(&b.slip));
         if !met.contains(&clause) {
             met.push(clause);
         }
     };
+    violate(CLAUSES[0], &|b| b.desk.truncate(641));
+    violate(CLAUSES[0], &|b| b.desk.truncate(638));
     violate(CLAUSES[0], &|b| b.desk.truncate(637));
     violate(CLAUSES[0], &|b| b.desk.truncate(578));
     violate(CLAUSES[0], &|b| b.desk.truncate(577));
@@ -550,7 +816,9 @@ fn each_clause_of_unfit() {
     violate(CLAUSES[1], &|b| b.desk[0] = 65);
     violate(CLAUSES[1], &|b| b.desk[0] = 255);
     violate(CLAUSES[2], &|b| b.sheet.truncate(63));
-    violate(CLAUSES[3], &|b| b.slip.truncate(24));
+    violate(CLAUSES[3], &|b| b.slip.truncate(56));
+    violate(CLAUSES[3], &|b| b.slip.truncate(25));
+    violate(CLAUSES[3], &|b| b.slip.clear());
     violate(CLAUSES[4], &|b| b.desk[1] = 2);
     violate(CLAUSES[5], &|b| b.desk[2] = 9);
     violate(CLAUSES[5], &|b| b.desk[9] = 255);
@@ -578,7 +846,9 @@ fn each_clause_of_unfit() {
     // Every origin bit where no hold stands: core 2's frames have one hold each.
     let standing = [6 * 20, 7 * 20, 8 * 20];
     for place in (0..480).filter(|place| !standing.contains(place)) {
-        violate(CLAUSES[10], &|b| b.desk[578 + place / 8] |= 1 << (place % 8));
+        violate(CLAUSES[10], &|b| {
+            b.desk[578 + place / 8] |= 1 << (place % 8)
+        });
     }
     for state in [0, 1, 2, 3, 6, 7] {
         violate(CLAUSES[11], &|b| {
@@ -598,8 +868,35 @@ fn each_clause_of_unfit() {
     violate(CLAUSES[14], &|b| b.desk[34] = 128);
     violate(CLAUSES[14], &|b| b.desk[41] = 64 + 8);
     violate(CLAUSES[14], &|b| b.desk[41] = 128 + 4);
-    violate(CLAUSES[15], &|b| b.sheet[0] = 16);
-    violate(CLAUSES[15], &|b| b.sheet[63] = 255);
+    violate(CLAUSES[15], &|b| {
+        b.sheet[0] = 16;
+        b.set_number(0, 0, 1);
+    });
+    violate(CLAUSES[15], &|b| {
+        b.sheet[63] = 255;
+        b.set_number(7, 7, 1);
+    });
+    for length in [0, 64, 252, 255] {
+        violate(CLAUSES[16], &|b| b.seen.truncate(length));
+    }
+    // Each pair and each kind, and each byte of a number.
+    assert_eq!(good.count(), 5);
+    for pair in 0..64 {
+        for kinds in 1..16 {
+            violate(CLAUSES[17], &|b| b.sheet[pair] = kinds);
+        }
+        for byte in 0..4 {
+            for bit in 0..8 {
+                violate(CLAUSES[18], &|b| b.seen[4 * pair + byte] = 1 << bit);
+            }
+        }
+        for number in [6, 7, 255, 256, 5 << 8, 5 << 16, 5 << 24, u32::MAX] {
+            violate(CLAUSES[19], &|b| {
+                b.sheet[pair] = SN;
+                b.set_number(pair / 8, pair % 8, number);
+            });
+        }
+    }
     assert_eq!(met, CLAUSES);
 
     // And what is still fit.
@@ -620,8 +917,23 @@ fn each_clause_of_unfit() {
     fit(&|b| b.desk.push(255));
     fit(&|b| b.desk[34] = 0b1100_1100);
     fit(&|b| b.desk[41] = 255);
-    fit(&|b| b.sheet.fill(15));
-    fit(&|b| b.desk[10..34].copy_from_slice(&[[20, 0, 0].repeat(2), vec![1, 1, 1], [20, 0, 0].repeat(5)].concat()));
+    fit(&|b| {
+        b.sheet.fill(15);
+        b.settle();
+    });
+    fit(&|b| b.seen.push(255));
+    for pair in 0..64 {
+        for number in 1..=5 {
+            fit(&|b| {
+                b.sheet[pair] = SN;
+                b.set_number(pair / 8, pair % 8, number);
+            });
+        }
+    }
+    fit(&|b| {
+        b.desk[10..34]
+            .copy_from_slice(&[[20, 0, 0].repeat(2), vec![1, 1, 1], [20, 0, 0].repeat(5)].concat())
+    });
     for state in [4, 5, 8] {
         fit(&|b| {
             b.desk[2] = state;
@@ -642,18 +954,24 @@ fn a_fit_desk_is_judged_as_it_stands() {
     let mut b = Bench::new(8);
     b.sheet[8 + 2] = SR;
     b.sheet[2 * 8 + 1] = EN;
+    b.set_number(1, 2, 0x0403_0201);
+    b.set_number(2, 1, 0x0807_0605);
+    b.set_count(0x0807_0605);
     b.refused(&release(0, 0), 5);
     b.refused(&event(0, EXIT_HARD), 6);
     let mut with = b.clone();
     assert_eq!(with.step(&event(3, HARD_ON)), 1);
-    assert_eq!(with.slip[..7], [2, 1, SR, 0, 2, EN, 0]);
+    assert_eq!(
+        with.slip[..15],
+        [2, 1, SR, 0, 1, 2, 3, 4, 2, EN, 0, 5, 6, 7, 8]
+    );
     // 1 SR 2 SN 1 isn't strong at 2.
     b.sheet[2 * 8 + 1] = SN;
     assert_eq!(b.step(&event(3, HARD_ON)), 0);
     // Marks alone, on an open desk: 7 EN 7 by hard.
     b.desk[MARKS + 7] = 1 + 4;
     assert_eq!(b.step(&take(3, 0, R)), 1);
-    assert_eq!(b.slip[..4], [1, 7, EN, 1]);
+    assert_eq!(b.slip[..8], [1, 7, EN, 1, 0, 0, 0, 0]);
 }
 
 // ------------------------------------------------------------- the nine states
@@ -685,7 +1003,11 @@ fn next_states_follow_the_names() {
                 (6..=8, 9) => Some([0, 1, 4][state as usize - 6]),
                 _ => None,
             };
-            assert_eq!(next_state(state, kind), expected, "state {state} kind {kind}");
+            assert_eq!(
+                next_state(state, kind),
+                expected,
+                "state {state} kind {kind}"
+            );
             // And through the step, from a desk in that state.
             let mut b = Bench::new(2);
             b.desk[2 + 6] = state;
@@ -694,6 +1016,7 @@ fn next_states_follow_the_names() {
                 None => b.refused(&event(6, kind), 6),
                 Some(next) => {
                     after.desk[2 + 6] = next;
+                    after.desk[638] = 1;
                     assert_eq!(b.step(&event(6, kind)), 0);
                     assert_eq!(b, after);
                 }
@@ -729,10 +1052,10 @@ fn marks_by_state_and_mode() {
             assert_eq!(b.desk[HOLDS + 20 * at], 3 + 64 * (mode % 3));
             assert_eq!(b.origins(), if mode < 3 { vec![] } else { vec![20 * at] });
             // "then or later": records of the core that leave it in this state add none.
-            let after = b.desk.clone();
+            let after = b.counted();
             if let Some(kind) = (2..10).find(|&kind| next_state(state, kind) == Some(state)) {
                 assert_eq!(b.step(&event(7, kind)), 0);
-                assert_eq!(b.desk, after);
+                assert_eq!(b, after);
             }
             assert_eq!([b.step(&take(7, 4, TE)), b.step(&release(7, 4))], [0, 0]);
             marks[4] = expected[state as usize][3];
@@ -764,7 +1087,11 @@ fn holds_of_the_frame_returned_to_are_marked() {
 #[test]
 fn desk_and_sheet_byte_by_byte() {
     let b = Bench::new(4).clean(&[
-        take(1, 0, E), take(1, 1, NR), take(1, 2, R), take(1, 3, E), release(1, 1),
+        take(1, 0, E),
+        take(1, 1, NR),
+        take(1, 2, R),
+        take(1, 3, E),
+        release(1, 1),
     ]);
     let mut sheet = vec![0; 16];
     sheet[1] = EN;
@@ -779,14 +1106,32 @@ fn desk_and_sheet_byte_by_byte() {
     desk[10 + 3] = 3;
     desk[34..38].copy_from_slice(&[68, 136, 136, 68]);
     desk[98 + 60..98 + 63].copy_from_slice(&[0, 2 + 128, 3]);
+    desk[638] = 5;
     assert_eq!(b.desk, desk);
+    // To 1 by record 2, to 2 by record 3, to 3 by record 4.
+    let mut seen = vec![0; 64];
+    for (from, to, number) in [
+        (0, 1, 2),
+        (0, 2, 3),
+        (0, 3, 4),
+        (1, 2, 3),
+        (1, 3, 4),
+        (2, 3, 4),
+    ] {
+        seen[4 * (4 * from + to)] = number;
+    }
+    assert_eq!(b.seen, seen);
     assert!(b.slip.iter().all(|&x| x == 0xA5));
 }
 
 #[test]
 fn release_takes_the_newest() {
     let b = Bench::new(4).clean(&[
-        take(0, 1, R), take(0, 2, R), take(0, 1, R), take(0, 3, R), release(0, 1),
+        take(0, 1, R),
+        take(0, 2, R),
+        take(0, 1, R),
+        take(0, 3, R),
+        release(0, 1),
     ]);
     assert_eq!(b.desk[98..103], [129, 130, 131, 0, 0]);
     let b = b.clean(&[release(0, 1)]);
@@ -802,7 +1147,11 @@ fn release_takes_the_newest() {
 #[test]
 fn no_arrow_crosses_frames() {
     let b = Bench::new(8).clean(&[
-        take(0, 1, E), event(0, ENTER_SOFT), take(0, 2, E), event(0, ENTER_HARD), take(0, 3, E),
+        take(0, 1, E),
+        event(0, ENTER_SOFT),
+        take(0, 2, E),
+        event(0, ENTER_HARD),
+        take(0, 3, E),
     ]);
     assert!(b.sheet.iter().all(|&x| x == 0));
     assert_eq!(b.desk[10..13], [1, 1, 1]);
@@ -840,12 +1189,15 @@ fn question() {
     let mut b = Bench::new(64);
     b.sheet[1] = ER;
     b.sheet[64 + 63] = SN;
+    b.settle();
     assert_eq!(b.ask(0), (0, 0b10, 1));
     b.sheet[2] = EN;
     b.sheet[2 * 64 + 1] = EN;
+    b.settle();
     assert_eq!(b.ask(0), (0, 0b110 | 1 << 63, 3));
     // Everything from everywhere.
     b.sheet.fill(15);
+    b.settle();
     assert_eq!(b.ask(63), (0, u64::MAX, 64));
 }
 
@@ -927,12 +1279,15 @@ fn random_drawings_against_the_definition() {
                 b.desk[MARKS + class] = m;
             }
         }
+        b.settle();
         assert_eq!(b.unfit(), None);
         let paths = path_ends(&b.desk, &b.sheet);
         let closed = paths.iter().any(|&(c, f, d, l)| c == d && !(l && f));
         assert_eq!(closed_strong_path(&b.desk, &b.sheet), closed);
         let simple = (0..k).any(|c| {
-            [ER, EN, SR, SN].iter().any(|&kind| some_simple_circle(&b.desk, &b.sheet, &mut vec![(c, kind)]))
+            [ER, EN, SR, SN]
+                .iter()
+                .any(|&kind| some_simple_circle(&b.desk, &b.sheet, &mut vec![(c, kind)]))
         });
         assert_eq!(simple, closed, "a circle without a repeated class");
         for c in 0..k {
@@ -949,23 +1304,27 @@ fn random_drawings_against_the_definition() {
         let answer = b.step(&event(dice.under(8) as u8, HARD_ON));
         assert_eq!(answer, u8::from(closed));
         assert_eq!(b.sheet, before.sheet);
+        assert_eq!(b.seen, before.seen);
         if closed {
             faults += 1;
-            assert_eq!(b.slip, shown_over(&before.slip, &listed(&b).unwrap()));
-            assert!(true_circle(&b.desk, &b.sheet, &b.slip));
+            assert_eq!(b.slip, b.shown_over(&before.slip, &listed(&b).unwrap()));
+            assert!(b.true_circle(&b.slip));
             // No slip with one byte of the circle changed passes unless it is true too.
             let n = b.slip[0];
             b.slip[0] = n + 1;
-            let longer = true_circle(&b.desk, &b.sheet, &b.slip);
+            let longer = b.true_circle(&b.slip);
             assert!(!longer || n < k as u8);
             b.slip[0] = 0;
-            assert!(!true_circle(&b.desk, &b.sheet, &b.slip));
+            assert!(!b.true_circle(&b.slip));
         } else {
             cleans += 1;
-            assert_eq!(b, before);
+            assert_eq!(b, before.counted());
         }
     }
-    assert!(faults > 3_000 && cleans > 3_000, "{faults} faults, {cleans} clean");
+    assert!(
+        faults > 3_000 && cleans > 3_000,
+        "{faults} faults, {cleans} clean"
+    );
 }
 
 #[test]
@@ -975,11 +1334,26 @@ fn long_circles() {
         let mut b = Bench::new(k);
         for c in 0..k {
             b.sheet[c * k + (c + 1) % k] = if c % 2 == 0 { ER } else { EN };
+            b.set_number(c, (c + 1) % k, 0x0201_0001 + 300 * c as u32);
         }
+        b.set_count(0x0202_0000);
         assert_eq!(b.step(&event(0, SOFT_ON)), 1);
-        assert!(true_circle(&b.desk, &b.sheet, &b.slip));
-        let slip: Vec<u8> = (0..k as u8).flat_map(|c| [c, [ER, EN][c as usize % 2], 0]).collect();
+        assert!(b.true_circle(&b.slip));
+        let low = |c: u8| 0x0001 + 300 * u16::from(c);
+        let entry = |c: u8| {
+            [
+                c,
+                [ER, EN][c as usize % 2],
+                0,
+                low(c) as u8,
+                (low(c) >> 8) as u8,
+                1,
+                2,
+            ]
+        };
+        let slip: Vec<u8> = (0..k as u8).flat_map(entry).collect();
         assert_eq!(b.slip, [vec![k as u8], slip].concat());
+        assert_eq!(b.slip.len(), 1 + 7 * k);
         for c in 0..k {
             assert_eq!(b.ask(c as u64), (0, u64::MAX >> (64 - k), k as u32));
         }
@@ -988,6 +1362,7 @@ fn long_circles() {
         for c in 0..k {
             b.sheet[c * k + (c + 1) % k] = if c == 0 { ER } else { SN };
         }
+        b.settle();
         assert_eq!(b.step(&event(0, SOFT_ON)), 0);
     }
 }
@@ -998,28 +1373,55 @@ fn false_circles() {
     for r in p2_records() {
         b.step(&r);
     }
-    let shows = |slip: &[u8]| {
+    let lies = |slip: &[u8]| {
         let mut whole = vec![0; slip_len(8)];
         whole[..slip.len()].copy_from_slice(slip);
-        true_circle(&b.desk, &b.sheet, &whole)
+        b.true_circle(&whole)
     };
-    assert!(shows(&[2, 1, EN, 0, 2, EN, 0]));
-    assert!(!shows(&[2, 2, EN, 0, 1, EN, 0])); // lowest first
-    assert!(!shows(&[2, 1, ER, 0, 2, EN, 0])); // not that kind
-    assert!(!shows(&[2, 1, EN, 1, 2, EN, 0])); // not that source
-    assert!(!shows(&[2, 1, EN, 0, 2, EN, 3])); // no such source
-    assert!(!shows(&[2, 1, EN | ER, 0, 2, EN, 0])); // two kinds
-    assert!(!shows(&[4, 1, EN, 0, 2, EN, 0, 1, EN, 0, 2, EN, 0])); // a class twice
-    assert!(!shows(&[1, 1, EN, 0])); // not drawn
-    assert!(!shows(&[2, 1, EN, 0, 8, EN, 0])); // no such class
-    assert!(!shows(&[0]));
-    assert!(!shows(&[9]));
-    assert!(!shows(&[255]));
+    let shows = |arrows: &[(u8, u8, u8, u32)]| lies(&entries(arrows));
+    let (one, two) = ((1, EN, 0, 2), (2, EN, 0, 6));
+    assert!(shows(&[one, two]));
+    assert!(!shows(&[two, one])); // lowest first
+    assert!(!shows(&[(1, ER, 0, 2), two])); // not that kind
+    assert!(!shows(&[(1, EN, 1, 2), two])); // not that source
+    assert!(!shows(&[(1, EN, 1, 0), two])); // nor with the number of that source
+    assert!(!shows(&[one, (2, EN, 3, 6)])); // no such source
+    assert!(!shows(&[(1, EN | ER, 0, 2), two])); // two kinds
+    assert!(!shows(&[one, two, one, two])); // a class twice
+    assert!(!shows(&[(1, EN, 0, 0)])); // not drawn
+    assert!(!shows(&[one, (8, EN, 0, 6)])); // no such class
+    assert!(!lies(&[0]));
+    assert!(!lies(&[9]));
+    assert!(!lies(&[255]));
+    // Not that number, in each of its bytes; the other's; none.
+    for bit in 0..32 {
+        assert!(!shows(&[(1, EN, 0, 2 ^ 1 << bit), two]));
+        assert!(!shows(&[one, (2, EN, 0, 6 ^ 1 << bit)]));
+    }
+    assert!(!shows(&[(1, EN, 0, 6), (2, EN, 0, 2)]));
+    assert!(!shows(&[(1, EN, 0, 0), (2, EN, 0, 0)]));
+    // An interrupt arrow has 0, though its pair have a number.
+    let both = made(8, &[(3, EN, 3)], &[(3, 4 + 1)]);
+    for (source, number, yes) in [
+        (0, both.number(3, 3), true),
+        (1, 0, true),
+        (0, 0, false),
+        (1, both.number(3, 3), false),
+    ] {
+        let mut slip = entries(&[(3, EN, source, number)]);
+        slip.resize(57, 0);
+        assert_eq!(both.true_circle(&slip), yes);
+    }
     // The closing joint: 0 SR 0 isn't a true circle.
     let b = Bench::new(8).clean(&[take(0, 0, R), take(0, 0, R)]);
-    let mut slip = vec![0; 25];
-    slip[..4].copy_from_slice(&[1, 0, SR, 0]);
-    assert!(!true_circle(&b.desk, &b.sheet, &slip));
+    let mut slip = vec![0; 57];
+    slip[..8].copy_from_slice(&[1, 0, SR, 0, 2, 0, 0, 0]);
+    assert!(!b.true_circle(&slip));
+    // With SN to itself as well it would be one: the rest of the slip is right.
+    let mut b = b;
+    b.sheet[0] |= SN;
+    slip[2] = SN;
+    assert!(b.true_circle(&slip));
 }
 
 // ---------------------------------------------------------- the circle shown
@@ -1033,6 +1435,7 @@ fn made(k: usize, holds: &[(usize, u8, usize)], marks: &[(usize, u8)]) -> Bench 
     for &(class, bits) in marks {
         b.desk[MARKS + class] |= bits;
     }
+    b.settle();
     assert_eq!(b.unfit(), None);
     b
 }
@@ -1040,22 +1443,26 @@ fn made(k: usize, holds: &[(usize, u8, usize)], marks: &[(usize, u8)]) -> Bench 
 /// This circle is shown where this drawing stands on an open desk without holds, by
 /// function, step and feed, whatever record (that draws nothing) comes.
 fn assert_shows(b: &Bench, circle: &[Triple]) {
-    assert_eq!(least_circle(&b.desk, &b.sheet).as_deref(), Some(circle));
+    assert_eq!(b.least_circle().as_deref(), Some(circle));
     assert!(closed_strong_path(&b.desk, &b.sheet));
     for core in 0..8 {
         for kind in [HARD_ON, HARD_OFF, SOFT_ON, SOFT_OFF, ENTER_SOFT, ENTER_HARD] {
             let r = event(core, kind);
             let mut after = b.clone();
             assert_eq!(after.step(&r), 1);
-            assert_eq!(after.slip, shown_over(&b.slip, circle));
-            assert_eq!(after.sheet, b.sheet);
+            assert_eq!(after.slip, b.shown_over(&b.slip, circle));
+            assert_eq!((&after.sheet, &after.seen), (&b.sheet, &b.seen));
+            assert_eq!(after.count(), b.count() + 1);
             assert_eq!(after.desk[MARKS..HOLDS], b.desk[MARKS..HOLDS]);
-            assert!(true_circle(&after.desk, &after.sheet, &after.slip));
+            assert!(after.true_circle(&after.slip));
             after.refused(&r, 10);
-            assert_eq!(least_circle(&after.desk, &after.sheet).as_deref(), Some(circle));
+            assert_eq!(after.least_circle().as_deref(), Some(circle));
             let mut fed = Fed::lying(0, 1, 0, [0; 5], 41, b.clone());
             assert_eq!(fed.feed(&r[..core as usize % 6]), (0, 41));
-            assert_eq!(fed.feed(&[&r[core as usize % 6..], &[0x4C]].concat()), (1, 42));
+            assert_eq!(
+                fed.feed(&[&r[core as usize % 6..], &[0x4C]].concat()),
+                (1, 42)
+            );
             assert_eq!(fed.b, after);
         }
     }
@@ -1072,33 +1479,80 @@ fn assert_least(k: usize, holds: &[(usize, u8, usize)], marks: &[(usize, u8)], c
 fn circles_of_the_logs() {
     // As the rules give them, by hand. P4, P6 are clean, P1 too.
     let task = |core, a, ma, b, mb| [take(core, a, ma), take(core, b, mb)];
-    let p9 = [take(0, 0, E), take(0, 1, R), take(0, 2, E), take(1, 2, E), take(1, 0, E)];
+    let p9 = [
+        take(0, 0, E),
+        take(0, 1, R),
+        take(0, 2, E),
+        take(1, 2, E),
+        take(1, 0, E),
+    ];
     for (name, records, lines) in [
         ("P2", p2_records().to_vec(), "1 EN 2 hold\n2 EN 1 hold\n"),
-        ("P3", [task(0, 0, R, 1, E), task(1, 1, R, 0, E)].concat(), "0 SN 1 hold\n1 SN 0 hold\n"),
-        ("P5", [task(0, 0, E, 1, R), task(1, 1, E, 0, R)].concat(), "0 ER 1 hold\n1 ER 0 hold\n"),
+        (
+            "P3",
+            [task(0, 0, R, 1, E), task(1, 1, R, 0, E)].concat(),
+            "0 SN 1 hold\n1 SN 0 hold\n",
+        ),
+        (
+            "P5",
+            [task(0, 0, E, 1, R), task(1, 1, E, 0, R)].concat(),
+            "0 ER 1 hold\n1 ER 0 hold\n",
+        ),
         ("P7", task(0, 0, R, 0, NR).to_vec(), "0 SN 0 hold\n"),
         ("P8", task(0, 0, E, 0, R).to_vec(), "0 ER 0 hold\n"),
         ("P9", p9.to_vec(), "0 EN 2 hold\n2 EN 0 hold\n"),
-        ("P10", vec![take(0, 3, E), release(0, 3), event(0, ENTER_HARD), take(0, 3, E)], "3 EN 3 hard\n"),
-        ("P12", vec![take(0, 6, E), release(0, 6), event(0, ENTER_SOFT), take(0, 6, E)], "6 EN 6 soft\n"),
+        (
+            "P10",
+            vec![
+                take(0, 3, E),
+                release(0, 3),
+                event(0, ENTER_HARD),
+                take(0, 3, E),
+            ],
+            "3 EN 3 hard\n",
+        ),
+        (
+            "P12",
+            vec![
+                take(0, 6, E),
+                release(0, 6),
+                event(0, ENTER_SOFT),
+                take(0, 6, E),
+            ],
+            "6 EN 6 soft\n",
+        ),
     ] {
         let text = program(&log(8, &records));
-        assert_eq!(text, format!("fault at record {}\n{lines}", records.len()), "{name}");
+        assert_eq!(
+            text,
+            format!("fault at record {}\n{lines}", records.len()),
+            "{name}"
+        );
     }
     // P2's slip, and the bytes past it.
     let mut b = Bench::new(3);
     assert_eq!(p2_records().map(|r| b.step(&r)), [0, 0, 0, 0, 0, 1]);
-    assert_eq!(b.slip, [2, 1, 2, 0, 2, 2, 0, 0xA5, 0xA5, 0xA5]);
-    assert_eq!(least_circle(&b.desk, &b.sheet), Some(vec![(1, 2, 0), (2, 2, 0)]));
+    let shown = [2, 1, 2, 0, 2, 0, 0, 0, 2, 2, 0, 6, 0, 0, 0];
+    assert_eq!(b.slip, [&shown[..], &[0xA5; 7]].concat());
+    assert_eq!(b.least_circle(), Some(vec![(1, 2, 0), (2, 2, 0)]));
     // One record closes several circles: 2 EN 1 and 2 EN 0 first, then 1 EN 0, and with
     // the last record 1 EN 2 and 0 EN 2.
     let several = [
-        take(1, 2, E), take(1, 1, E), release(1, 1), take(1, 0, E), release(1, 0), release(1, 2), //
-        take(0, 1, E), take(0, 0, E), take(0, 2, E),
+        take(1, 2, E),
+        take(1, 1, E),
+        release(1, 1),
+        take(1, 0, E),
+        release(1, 0),
+        release(1, 2), //
+        take(0, 1, E),
+        take(0, 0, E),
+        take(0, 2, E),
     ];
     assert_fault(&several);
-    assert_eq!(program(&log(8, &several)), "fault at record 9\n0 EN 2 hold\n2 EN 0 hold\n");
+    assert_eq!(
+        program(&log(8, &several)),
+        "fault at record 9\n0 EN 2 hold\n2 EN 0 hold\n"
+    );
     // The same with the last take a recursive read, or a read of 2 on core 1: 0 ER 2
     // goes on by 2 EN 0, but not by 2 SN 0.
     let with = |at: usize, r: Rec| {
@@ -1117,44 +1571,78 @@ fn circles_of_the_logs() {
     // where 5 EN 3 is drawn and 5 marked unsafe at once: the closing record draws 3
     // unsafe as well, so that one arrow is enough.
     let marks_too = [
-        event(0, ENTER_HARD), take(0, 3, E), release(0, 3), event(0, EXIT_HARD), event(0, HARD_OFF), //
-        take(0, 3, E), take(0, 5, E), event(0, HARD_ON),
+        event(0, ENTER_HARD),
+        take(0, 3, E),
+        release(0, 3),
+        event(0, EXIT_HARD),
+        event(0, HARD_OFF), //
+        take(0, 3, E),
+        take(0, 5, E),
+        event(0, HARD_ON),
     ];
-    assert_eq!(program(&log(8, &marks_too)), "fault at record 8\n3 EN 3 hard\n");
+    assert_eq!(
+        program(&log(8, &marks_too)),
+        "fault at record 8\n3 EN 3 hard\n"
+    );
     // With 3 released before hard on, only 5 is unsafe: 3 EN 5 hold, 5 EN 3 hard.
     let mut without = marks_too.to_vec();
     without.insert(7, release(0, 3));
-    assert_eq!(program(&log(8, &without)), "fault at record 9\n3 EN 5 hold\n5 EN 3 hard\n");
+    assert_eq!(
+        program(&log(8, &without)),
+        "fault at record 9\n3 EN 5 hold\n5 EN 3 hard\n"
+    );
 }
 
 #[test]
 fn whichever_record_closed_it() {
     // Three cores draw 0 EN 1, 1 EN 2, 2 EN 0 in all orders.
     let parts = [0u8, 1, 2].map(|c| [take(c, c, E), take(c, (c + 1) % 3, E)]);
-    for order in [[0, 1, 2], [0, 2, 1], [1, 0, 2], [1, 2, 0], [2, 0, 1], [2, 1, 0]] {
+    for order in [
+        [0, 1, 2],
+        [0, 2, 1],
+        [1, 0, 2],
+        [1, 2, 0],
+        [2, 0, 1],
+        [2, 1, 0],
+    ] {
         let records = order.map(|i: usize| parts[i]).concat();
         assert_fault(&records);
-        assert_eq!(program(&log(3, &records)), "fault at record 6\n0 EN 1 hold\n1 EN 2 hold\n2 EN 0 hold\n");
+        assert_eq!(
+            program(&log(3, &records)),
+            "fault at record 6\n0 EN 1 hold\n1 EN 2 hold\n2 EN 0 hold\n"
+        );
     }
     // A circle stands on an open desk, and the record closes another.
-    let standing = made(8, &[(1, EN, 2), (2, EN, 1), (6, EN, 5), (3, EN, 0), (0, EN, 4)], &[]);
+    let standing = made(
+        8,
+        &[(1, EN, 2), (2, EN, 1), (6, EN, 5), (3, EN, 0), (0, EN, 4)],
+        &[],
+    );
     let after = |held: u8, taken: u8| {
         let mut b = standing.clone();
         b.desk[DEPTHS + 9] = 1; // core 3's task
         b.desk[HOLDS + 9 * 20] = held;
+        b.set_count(0xA0B0_C0D0);
         assert_eq!(b.unfit(), None);
         assert_eq!(b.step(&take(3, taken, E)), 1);
-        assert_eq!(b.slip, shown_over(&standing.slip, &listed(&b).unwrap()));
-        b.slip[..1 + 3 * b.slip[0] as usize].to_vec()
+        assert_eq!(b.slip, b.shown_over(&standing.slip, &listed(&b).unwrap()));
+        b.slip[..1 + 7 * b.slip[0] as usize].to_vec()
     };
+    // The record's own arrow has its own number, the others have theirs.
+    let own = 0xA0B0_C0D1;
+    let stood = |from, to| standing.number(from, to);
+    let standing_circle = entries(&[(1, EN, 0, stood(1, 2)), (2, EN, 0, stood(2, 1))]);
     // 5 EN 6 closes a circle with a higher class first, 4 EN 3 a longer one, 0 EN 3 one
     // with a lower class, 7 EN 7 a shorter one.
-    assert_eq!(after(5, 6), [2, 1, EN, 0, 2, EN, 0]);
-    assert_eq!(after(4, 3), [2, 1, EN, 0, 2, EN, 0]);
-    assert_eq!(after(0, 3), [2, 0, EN, 0, 3, EN, 0]);
-    assert_eq!(after(7, 7), [1, 7, EN, 0]);
+    assert_eq!(after(5, 6), standing_circle);
+    assert_eq!(after(4, 3), standing_circle);
+    assert_eq!(
+        after(0, 3),
+        entries(&[(0, EN, 0, own), (3, EN, 0, stood(3, 0))])
+    );
+    assert_eq!(after(7, 7), entries(&[(7, EN, 0, own)]));
     // A circle that was closed by the record's own arrow, and a lesser kind seen there.
-    assert_eq!(after(128 + 1, 2), [2, 1, EN, 0, 2, EN, 0]); // 1 SN 2 too
+    assert_eq!(after(128 + 1, 2), standing_circle); // 1 SN 2 too
 }
 
 #[test]
@@ -1163,26 +1651,59 @@ fn kind_and_source_before_the_next_class() {
     let two = [(0, EN, 1), (1, EN, 0), (0, ER, 2), (2, EN, 0)];
     assert_least(3, &two, &[], &[(0, ER, 0), (2, EN, 0)]);
     // With one kind, the lower class; with ER to both, too.
-    assert_least(3, &[(0, EN, 1), (1, EN, 0), (0, EN, 2), (2, ER, 0)], &[], &[(0, EN, 0), (1, EN, 0)]);
+    assert_least(
+        3,
+        &[(0, EN, 1), (1, EN, 0), (0, EN, 2), (2, ER, 0)],
+        &[],
+        &[(0, EN, 0), (1, EN, 0)],
+    );
     let both = [two[0], two[1], two[2], two[3], (0, ER, 1)];
     assert_least(3, &both, &[], &[(0, ER, 0), (1, EN, 0)]);
     // "0 EN 2 hold" is before "0 EN 1 hard": 0 is hard-unsafe E, 1 hard-safe N.
     let hold = [(1, EN, 0), (0, EN, 2), (2, EN, 0)];
     assert_least(3, &hold, &[(0, 4), (1, 1)], &[(0, EN, 0), (2, EN, 0)]);
     // Also where the second circle is worse in all that follows.
-    assert_least(3, &[(1, ER, 0), (0, EN, 2), (2, EN, 0)], &[(0, 4), (1, 1)], &[(0, EN, 0), (2, EN, 0)]);
+    assert_least(
+        3,
+        &[(1, ER, 0), (0, EN, 2), (2, EN, 0)],
+        &[(0, 4), (1, 1)],
+        &[(0, EN, 0), (2, EN, 0)],
+    );
     // "0 EN 2 hard" before "0 EN 1 soft", and "0 EN 1 hard" before "0 EN 2 soft".
     let back = [(1, EN, 0), (2, EN, 0)];
-    assert_least(3, &back, &[(0, 4 + 64), (1, 16), (2, 1)], &[(0, EN, 1), (2, EN, 0)]);
-    assert_least(3, &back, &[(0, 4 + 64), (1, 1), (2, 16)], &[(0, EN, 1), (1, EN, 0)]);
+    assert_least(
+        3,
+        &back,
+        &[(0, 4 + 64), (1, 16), (2, 1)],
+        &[(0, EN, 1), (2, EN, 0)],
+    );
+    assert_least(
+        3,
+        &back,
+        &[(0, 4 + 64), (1, 1), (2, 16)],
+        &[(0, EN, 1), (1, EN, 0)],
+    );
     // In the middle of a circle: 1 ER 3 before 1 EN 2, but 0 EN 1 before either.
-    let middle = [(0, EN, 1), (0, EN, 4), (1, EN, 2), (1, ER, 3), (4, ER, 2), (2, EN, 0), (3, EN, 0)];
+    let middle = [
+        (0, EN, 1),
+        (0, EN, 4),
+        (1, EN, 2),
+        (1, ER, 3),
+        (4, ER, 2),
+        (2, EN, 0),
+        (3, EN, 0),
+    ];
     assert_least(5, &middle, &[], &[(0, EN, 0), (1, ER, 0), (3, EN, 0)]);
     // 0 ER 4 comes before all of these.
     let first = [&middle[..], &[(0, ER, 4)]].concat();
     assert_least(5, &first, &[], &[(0, ER, 0), (4, ER, 0), (2, EN, 0)]);
     // The class is compared before the kinds that follow it: 0 EN 1 SN 0, 0 EN 2 ER 0.
-    assert_least(3, &[(0, EN, 1), (1, SN, 0), (0, EN, 2), (2, ER, 0)], &[], &[(0, EN, 0), (1, SN, 0)]);
+    assert_least(
+        3,
+        &[(0, EN, 1), (1, SN, 0), (0, EN, 2), (2, ER, 0)],
+        &[],
+        &[(0, EN, 0), (1, SN, 0)],
+    );
 }
 
 #[test]
@@ -1190,18 +1711,61 @@ fn kinds_before_sources() {
     // An interrupt ER is before a hold EN on the same pair, hard before soft.
     let holds = [(0, EN, 1), (1, EN, 0)];
     assert_least(2, &holds, &[(0, 4), (1, 2)], &[(0, ER, 1), (1, EN, 0)]);
-    assert_least(2, &holds, &[(0, 4 + 64), (1, 32)], &[(0, ER, 2), (1, EN, 0)]);
-    assert_least(2, &holds, &[(0, 4 + 64), (1, 2 + 32)], &[(0, ER, 1), (1, EN, 0)]);
+    assert_least(
+        2,
+        &holds,
+        &[(0, 4 + 64), (1, 32)],
+        &[(0, ER, 2), (1, EN, 0)],
+    );
+    assert_least(
+        2,
+        &holds,
+        &[(0, 4 + 64), (1, 2 + 32)],
+        &[(0, ER, 1), (1, EN, 0)],
+    );
     // Level by level: 0 is hard-unsafe alone, so there is no soft arrow.
     assert_least(2, &holds, &[(0, 4), (1, 32)], &[(0, EN, 0), (1, EN, 0)]);
     // A soft ER before a hard EN, a hard EN before a hold SN, a hold before a hard one.
-    assert_least(2, &[(1, EN, 0)], &[(0, 4 + 64), (1, 1 + 32)], &[(0, ER, 2), (1, EN, 0)]);
-    assert_least(2, &[(0, SN, 1), (1, EN, 0)], &[(0, 4), (1, 1)], &[(0, EN, 1), (1, EN, 0)]);
-    assert_least(2, &[(0, ER, 1), (1, EN, 0)], &[(0, 4), (1, 2)], &[(0, ER, 0), (1, EN, 0)]);
+    assert_least(
+        2,
+        &[(1, EN, 0)],
+        &[(0, 4 + 64), (1, 1 + 32)],
+        &[(0, ER, 2), (1, EN, 0)],
+    );
+    assert_least(
+        2,
+        &[(0, SN, 1), (1, EN, 0)],
+        &[(0, 4), (1, 1)],
+        &[(0, EN, 1), (1, EN, 0)],
+    );
+    assert_least(
+        2,
+        &[(0, ER, 1), (1, EN, 0)],
+        &[(0, 4), (1, 2)],
+        &[(0, ER, 0), (1, EN, 0)],
+    );
     // All kinds in their order 1, 2, 4, 8.
-    for (kinds, least) in [(15, ER), (14, EN), (12, SR), (8, SN), (9, ER), (10, EN), (6, EN)] {
-        assert_least(2, &[(0, kinds, 1), (1, EN, 0)], &[], &[(0, least, 0), (1, EN, 0)]);
-        assert_least(2, &[(0, EN, 1), (1, kinds, 0)], &[], &[(0, EN, 0), (1, least, 0)]);
+    for (kinds, least) in [
+        (15, ER),
+        (14, EN),
+        (12, SR),
+        (8, SN),
+        (9, ER),
+        (10, EN),
+        (6, EN),
+    ] {
+        assert_least(
+            2,
+            &[(0, kinds, 1), (1, EN, 0)],
+            &[],
+            &[(0, least, 0), (1, EN, 0)],
+        );
+        assert_least(
+            2,
+            &[(0, EN, 1), (1, kinds, 0)],
+            &[],
+            &[(0, EN, 0), (1, least, 0)],
+        );
     }
     // One class: hold, hard, soft; ER, EN, SN, and SR never.
     assert_least(1, &[(0, SN, 0)], &[(0, 8 + 1)], &[(0, SN, 0)]);
@@ -1215,15 +1779,45 @@ fn kinds_before_sources() {
 #[test]
 fn the_least_kind_must_leave_a_circle() {
     // The next joint: after 0 ER 1 no SN.
-    assert_least(2, &[(0, ER | EN, 1), (1, SN, 0)], &[], &[(0, EN, 0), (1, SN, 0)]);
-    assert_least(2, &[(0, ER | EN, 1), (1, SR, 0)], &[], &[(0, EN, 0), (1, SR, 0)]);
+    assert_least(
+        2,
+        &[(0, ER | EN, 1), (1, SN, 0)],
+        &[],
+        &[(0, EN, 0), (1, SN, 0)],
+    );
+    assert_least(
+        2,
+        &[(0, ER | EN, 1), (1, SR, 0)],
+        &[],
+        &[(0, EN, 0), (1, SR, 0)],
+    );
     // The closing joint: after 1 ER 0 no S.
-    assert_least(2, &[(0, SR | SN, 1), (1, ER | EN, 0)], &[], &[(0, SR, 0), (1, EN, 0)]);
-    assert_least(2, &[(0, SN, 1), (1, SR | SN, 0)], &[], &[(0, SN, 0), (1, SN, 0)]);
+    assert_least(
+        2,
+        &[(0, SR | SN, 1), (1, ER | EN, 0)],
+        &[],
+        &[(0, SR, 0), (1, EN, 0)],
+    );
+    assert_least(
+        2,
+        &[(0, SN, 1), (1, SR | SN, 0)],
+        &[],
+        &[(0, SN, 0), (1, SN, 0)],
+    );
     // Both: 0 SR 1 would need 1 E. 0, 1 SR 0 would need 0 E. 1.
-    assert_least(2, &[(0, SR | SN, 1), (1, ER | SN, 0)], &[], &[(0, SN, 0), (1, SN, 0)]);
+    assert_least(
+        2,
+        &[(0, SR | SN, 1), (1, ER | SN, 0)],
+        &[],
+        &[(0, SN, 0), (1, SN, 0)],
+    );
     // A lesser kind by an interrupt is barred as well, and a hard EN is what is left.
-    assert_least(2, &[(1, SN, 0)], &[(0, 4), (1, 1 + 2)], &[(0, EN, 1), (1, SN, 0)]);
+    assert_least(
+        2,
+        &[(1, SN, 0)],
+        &[(0, 4), (1, 1 + 2)],
+        &[(0, EN, 1), (1, SN, 0)],
+    );
     // A joint further on: 1 S. 2 bars 0 ER 1, and 2 SN 0 bars 1 SR 2.
     let ring = [(0, ER | EN, 1), (1, SR | SN, 2), (2, SN, 0)];
     assert_least(3, &ring, &[], &[(0, EN, 0), (1, SN, 0), (2, SN, 0)]);
@@ -1242,9 +1836,20 @@ fn the_least_kind_must_leave_a_circle() {
     assert_least(4, &closing, &[], &[(0, EN, 0), (3, EN, 0), (2, ER, 0)]);
     // First letter S, all the rest E: only the last arrow is held to it.
     let rest = [(0, 12, 1), (1, 3, 2), (2, 3, 3), (3, 3, 0)];
-    assert_least(4, &rest, &[], &[(0, SR, 0), (1, ER, 0), (2, ER, 0), (3, EN, 0)]);
+    assert_least(
+        4,
+        &rest,
+        &[],
+        &[(0, SR, 0), (1, ER, 0), (2, ER, 0), (3, EN, 0)],
+    );
     // The closing joint decides a class in the middle: 2 ER 0 alone, 3 EN 0 too.
-    let which = [(0, SN, 1), (1, EN, 2), (1, EN, 3), (2, ER, 0), (3, ER | EN, 0)];
+    let which = [
+        (0, SN, 1),
+        (1, EN, 2),
+        (1, EN, 3),
+        (2, ER, 0),
+        (3, ER | EN, 0),
+    ];
     assert_least(4, &which, &[], &[(0, SN, 0), (1, EN, 0), (3, EN, 0)]);
 }
 
@@ -1257,16 +1862,43 @@ fn fewest_arrows_first() {
     let kinds = [(0, ER, 2), (2, ER, 3), (3, ER, 0), (3, SN, 4), (4, SN, 3)];
     assert_least(5, &kinds, &[], &[(3, SN, 0), (4, SN, 0)]);
     // One soft arrow at the highest class before two holds at the lowest.
-    assert_least(8, &[(0, ER, 1), (1, ER, 0)], &[(7, 8 + 128 + 16)], &[(7, SN, 2)]);
+    assert_least(
+        8,
+        &[(0, ER, 1), (1, ER, 0)],
+        &[(7, 8 + 128 + 16)],
+        &[(7, SN, 2)],
+    );
     // Not the lowest class of all circles, but of all with the fewest: 1, 2 and not 0.
-    let lowest = [(0, ER, 1), (1, EN, 2), (2, EN, 1), (2, EN, 0), (3, ER, 4), (4, ER, 3)];
+    let lowest = [
+        (0, ER, 1),
+        (1, EN, 2),
+        (2, EN, 1),
+        (2, EN, 0),
+        (3, ER, 4),
+        (4, ER, 3),
+    ];
     assert_least(5, &lowest, &[], &[(1, EN, 0), (2, EN, 0)]);
     // 0 leads to the circle without being on it.
-    assert_least(4, &[(0, ER, 1), (1, EN, 3), (3, EN, 1), (3, ER, 2)], &[], &[(1, EN, 0), (3, EN, 0)]);
+    assert_least(
+        4,
+        &[(0, ER, 1), (1, EN, 3), (3, EN, 1), (3, ER, 2)],
+        &[],
+        &[(1, EN, 0), (3, EN, 0)],
+    );
     // A class on two circles of that length, neither begun by it: 3, 0 and 3, 1.
-    assert_least(4, &[(3, ER, 1), (1, ER, 3), (3, EN, 0), (0, EN, 3)], &[], &[(0, EN, 0), (3, EN, 0)]);
+    assert_least(
+        4,
+        &[(3, ER, 1), (1, ER, 3), (3, EN, 0), (0, EN, 3)],
+        &[],
+        &[(0, EN, 0), (3, EN, 0)],
+    );
     // The lowest class first, though the last arrow is the least of all.
-    assert_least(6, &[(5, ER, 2), (2, EN, 4), (4, EN, 5)], &[], &[(2, EN, 0), (4, EN, 0), (5, ER, 0)]);
+    assert_least(
+        6,
+        &[(5, ER, 2), (2, EN, 4), (4, EN, 5)],
+        &[],
+        &[(2, EN, 0), (4, EN, 0), (5, ER, 0)],
+    );
 }
 
 #[test]
@@ -1276,14 +1908,23 @@ fn the_shortest_through_a_class_may_pass_another_twice() {
     let holds = [(0, ER, 1), (1, EN, 2), (2, EN, 1), (1, SN, 0)];
     assert_least(3, &holds, &[], &[(1, EN, 0), (2, EN, 0)]);
     let b = made(3, &holds, &[]);
-    assert_eq!([1, 2, 3].map(|n| all_circles(&b.desk, &b.sheet, n).len()), [0, 1, 0]);
+    assert_eq!([1, 2, 3].map(|n| b.all_circles(n).len()), [0, 1, 0]);
     // The detour a circle of one arrow: 0 ER 1 ER 1 isn't of use, 1 EN 1 is.
     let own = [(0, ER, 1), (1, EN, 1), (1, SN, 0)];
     assert_least(2, &own, &[], &[(1, EN, 0)]);
     let none = made(2, &[(0, ER, 1), (1, SR, 1), (1, SN, 0)], &[]);
-    assert_eq!(least_circle(&none.desk, &none.sheet), None);
+    assert_eq!(none.least_circle(), None);
     // The detour as long as another circle further up: 3 is the fewest, and 1 begins.
-    let tie = [(0, ER, 1), (1, EN, 2), (2, EN, 3), (3, EN, 1), (1, SN, 0), (4, ER, 5), (5, ER, 6), (6, ER, 4)];
+    let tie = [
+        (0, ER, 1),
+        (1, EN, 2),
+        (2, EN, 3),
+        (3, EN, 1),
+        (1, SN, 0),
+        (4, ER, 5),
+        (5, ER, 6),
+        (6, ER, 4),
+    ];
     assert_least(7, &tie, &[], &[(1, EN, 0), (2, EN, 0), (3, EN, 0)]);
     // The detour by a lower class: 0 ER 2 EN 1 EN 2 SN 3 EN 0.
     let twice = [(0, ER, 2), (2, EN, 1), (1, EN, 2), (2, SN, 3), (3, EN, 0)];
@@ -1305,7 +1946,13 @@ fn parents_of_a_search_are_not_enough() {
     assert_least(5, &other, &[], &[(0, EN, 0), (2, EN, 0), (4, SN, 0)]);
     // The better way to 5 is found one step before it could be told: 0 EN 3 ER 5 and
     // 0 EN 2 EN 5, where 2 is before 3 but 0 ER 3 before 0 EN 2.
-    let late = [(0, EN, 2), (0, EN | ER, 3), (2, ER, 5), (3, EN, 5), (5, EN, 0)];
+    let late = [
+        (0, EN, 2),
+        (0, EN | ER, 3),
+        (2, ER, 5),
+        (3, EN, 5),
+        (5, EN, 0),
+    ];
     assert_least(6, &late, &[], &[(0, ER, 0), (3, EN, 0), (5, EN, 0)]);
     // The way back: from 5 the search comes to 0 by ER, but 0 SN 1 wants N.
     let back = [(0, SN, 1), (1, ER, 4), (1, EN, 5), (4, ER, 0), (5, EN, 0)];
@@ -1317,13 +1964,22 @@ fn rings() {
     // One ring through all classes, in the order of c * step: every kind everywhere but
     // one place, where only SN is. All are ER but that one, and the one before it, EN.
     for k in 1..=64usize {
-        let steps: &[usize] = if k == 64 { &[1, 5, 27, 63] } else { &[1, k.max(2) - 1] };
+        let steps: &[usize] = if k == 64 {
+            &[1, 5, 27, 63]
+        } else {
+            &[1, k.max(2) - 1]
+        };
         for &step in steps {
             let class = |place: usize| place * step % k;
-            let places = if k < 8 || k == 64 { 0..k } else { k / 2 - 1..k / 2 + 1 };
+            let places = if k < 8 || k == 64 {
+                0..k
+            } else {
+                k / 2 - 1..k / 2 + 1
+            };
             for only in places {
-                let holds: Vec<_> =
-                    (0..k).map(|p| (class(p), if p == only { SN } else { 15 }, class(p + 1))).collect();
+                let holds: Vec<_> = (0..k)
+                    .map(|p| (class(p), if p == only { SN } else { 15 }, class(p + 1)))
+                    .collect();
                 let circle: Vec<Triple> = (0..k)
                     .map(|p| {
                         let kind = if p == only {
@@ -1337,23 +1993,33 @@ fn rings() {
                     })
                     .collect();
                 let mut b = made(k, &holds, &[]);
-                assert_eq!(least_circle(&b.desk, &b.sheet), Some(circle.clone()));
+                assert_eq!(b.least_circle(), Some(circle.clone()));
                 let slip = b.slip.clone();
                 assert_eq!(b.step(&event(7, SOFT_OFF)), 1);
-                assert_eq!(b.slip, shown_over(&slip, &circle));
+                assert_eq!(b.slip, b.shown_over(&slip, &circle));
                 // SR there instead: the one before it must still be EN, and the one
                 // after it has an E.
                 let other = |kind| if kind == SN { SR } else { kind };
-                let holds: Vec<_> = holds.into_iter().map(|(a, m, c)| (a, other(m), c)).collect();
-                let circle: Vec<Triple> = circle.into_iter().map(|(c, m, s)| (c, other(m), s)).collect();
+                let holds: Vec<_> = holds
+                    .into_iter()
+                    .map(|(a, m, c)| (a, other(m), c))
+                    .collect();
+                let circle: Vec<Triple> = circle
+                    .into_iter()
+                    .map(|(c, m, s)| (c, other(m), s))
+                    .collect();
                 let b = made(k, &holds, &[]);
-                assert_eq!(least_circle(&b.desk, &b.sheet), (k > 1).then_some(circle));
+                assert_eq!(b.least_circle(), (k > 1).then_some(circle));
             }
         }
     }
     // 32 holds and 32 interrupts can't make a ring of 64, as every unsafe class goes to
     // every safe one; but one interrupt arrow can close it.
-    for (marks, last) in [([4, 2], (63, ER, 1)), ([4 + 64, 16], (63, EN, 2)), ([8, 1 + 2], (63, SR, 1))] {
+    for (marks, last) in [
+        ([4, 2], (63, ER, 1)),
+        ([4 + 64, 16], (63, EN, 2)),
+        ([8, 1 + 2], (63, SR, 1)),
+    ] {
         let holds: Vec<_> = (0..63).map(|c| (c, EN, c + 1)).collect();
         let b = made(64, &holds, &[(63, marks[0]), (0, marks[1])]);
         let mut circle: Vec<Triple> = (0..63).map(|c| (c, EN, 0)).collect();
@@ -1361,8 +2027,13 @@ fn rings() {
         assert_shows(&b, &circle);
     }
     // Two rings of 32: the one with the lowest class, though the other has lesser kinds.
-    let holds: Vec<_> = (0..64).map(|c| (c, if c % 2 == 0 { SN } else { ER }, (c + 2) % 64)).collect();
-    assert_shows(&made(64, &holds, &[]), &(0..32).map(|c| (2 * c, SN, 0)).collect::<Vec<_>>());
+    let holds: Vec<_> = (0..64)
+        .map(|c| (c, if c % 2 == 0 { SN } else { ER }, (c + 2) % 64))
+        .collect();
+    assert_shows(
+        &made(64, &holds, &[]),
+        &(0..32).map(|c| (2 * c, SN, 0)).collect::<Vec<_>>(),
+    );
 }
 
 #[test]
@@ -1380,7 +2051,21 @@ fn two_to_the_thirtieth_circles() {
         made(64, &holds, &[])
     };
     let circle = |classes: &dyn Fn(u8) -> u8, kinds: &dyn Fn(u8) -> u8| -> Vec<Triple> {
-        (0..32).map(|i| (if i == 0 { 0 } else if i == 31 { 61 } else { classes(i) }, kinds(i), 0)).collect()
+        (0..32)
+            .map(|i| {
+                (
+                    if i == 0 {
+                        0
+                    } else if i == 31 {
+                        61
+                    } else {
+                        classes(i)
+                    },
+                    kinds(i),
+                    0,
+                )
+            })
+            .collect()
     };
     // All alike: the lower of each two.
     let b = layers(EN, EN, [EN, EN], [EN, EN], EN);
@@ -1402,23 +2087,32 @@ fn two_to_the_thirtieth_circles() {
     assert_shows(&b, &circle(&|i| 2 * i, &kinds));
     // And the closing arrow from 61 must then arrive by N at all.
     let b = layers(EN, ER, [SN, SR], [ER, ER], ER);
-    assert_eq!(least_circle(&b.desk, &b.sheet), None);
+    assert_eq!(b.least_circle(), None);
     // Four kinds and two classes at each of 32 places, the last to the first: 0 to 31.
     let mut holds = Vec::new();
     for from in 0..64 {
         let to = (from + 1) % 32;
         holds.extend([(from, 15, to), (from, 15, to + 32)]);
     }
-    assert_shows(&made(64, &holds, &[]), &(0..32).map(|c| (c, ER, 0)).collect::<Vec<_>>());
+    assert_shows(
+        &made(64, &holds, &[]),
+        &(0..32).map(|c| (c, ER, 0)).collect::<Vec<_>>(),
+    );
     // With only ER from the lower to the higher and S otherwise: 0 ER 33 must go on by E,
     // but from 33 on there is only S; so 0 SN 1 SN 2 and so on.
     let holds: Vec<_> = (0..64)
         .flat_map(|from| {
             let to = (from + 1) % 32;
-            [(from, SR | SN, to), (from, if from < 32 { ER } else { SR }, to + 32)]
+            [
+                (from, SR | SN, to),
+                (from, if from < 32 { ER } else { SR }, to + 32),
+            ]
         })
         .collect();
-    assert_shows(&made(64, &holds, &[]), &(0..32).map(|c| (c, SN, 0)).collect::<Vec<_>>());
+    assert_shows(
+        &made(64, &holds, &[]),
+        &(0..32).map(|c| (c, SN, 0)).collect::<Vec<_>>(),
+    );
 }
 
 /// Every slip of n arrows that the checker passes.
@@ -1429,13 +2123,15 @@ fn true_slips(b: &Bench, n: usize) -> Vec<Vec<Triple>> {
         for list in lists {
             for class in 0..b.desk[0] {
                 for kind in [1, 2, 4, 8] {
-                    longer.extend((0..3).map(|source| [&list[..], &[(class, kind, source)]].concat()));
+                    longer.extend(
+                        (0..3).map(|source| [&list[..], &[(class, kind, source)]].concat()),
+                    );
                 }
             }
         }
         lists = longer;
     }
-    lists.retain(|list: &Vec<Triple>| true_circle(&b.desk, &b.sheet, &shown_over(&b.slip, list)));
+    lists.retain(|list: &Vec<Triple>| b.true_circle(&b.shown_over(&b.slip, list)));
     lists
 }
 
@@ -1456,17 +2152,26 @@ fn one_class_all_drawings() {
             // Kinds in the order ER, EN, SN, and each by hold, hard, soft.
             let bit = |byte: u8, bits: u8| byte & bits == bits;
             let candidates = [
-                (bit(kinds, 1), 1, 0), (bit(m, 4 + 2), 1, 1), (bit(m, 64 + 32), 1, 2), //
-                (bit(kinds, 2), 2, 0), (bit(m, 4 + 1), 2, 1), (bit(m, 64 + 16), 2, 2), //
-                (bit(kinds, 8), 8, 0), (bit(m, 8 + 1), 8, 1), (bit(m, 128 + 16), 8, 2),
+                (bit(kinds, 1), 1, 0),
+                (bit(m, 4 + 2), 1, 1),
+                (bit(m, 64 + 32), 1, 2), //
+                (bit(kinds, 2), 2, 0),
+                (bit(m, 4 + 1), 2, 1),
+                (bit(m, 64 + 16), 2, 2), //
+                (bit(kinds, 8), 8, 0),
+                (bit(m, 8 + 1), 8, 1),
+                (bit(m, 128 + 16), 8, 2),
             ];
-            let circle = candidates.into_iter().find(|c| c.0).map(|c| vec![(0, c.1, c.2)]);
-            assert_eq!(least_circle(&b.desk, &b.sheet), circle);
+            let circle = candidates
+                .into_iter()
+                .find(|c| c.0)
+                .map(|c| vec![(0, c.1, c.2)]);
+            assert_eq!(b.least_circle(), circle);
             assert_eq!(listed(&b), circle);
-            assert_eq!(true_slips(&b, 1), all_circles(&b.desk, &b.sheet, 1));
+            assert_eq!(true_slips(&b, 1), b.all_circles(1));
             let slip = b.slip.clone();
             assert_eq!(b.step(&event(2, ENTER_SOFT)), u8::from(circle.is_some()));
-            assert_eq!(b.slip, circle.as_ref().map_or(slip.clone(), |c| shown_over(&slip, c)));
+            assert_eq!(b.slip, b.shown_or_not(&slip, &circle));
             seen.insert(circle);
         }
     }
@@ -1479,12 +2184,13 @@ fn two_classes_all_sheets_and_all_marks() {
         let mut b = Bench::new(2);
         b.sheet.copy_from_slice(&sheet);
         b.desk[MARKS..MARKS + 2].copy_from_slice(&marks);
-        let circle = least_circle(&b.desk, &b.sheet);
+        b.settle();
+        let circle = b.least_circle();
         assert_eq!(circle, listed(&b), "{sheet:?} {marks:?}");
         assert_eq!(circle.is_some(), closed_strong_path(&b.desk, &b.sheet));
         if slips {
             for n in 1..=2 {
-                assert_eq!(true_slips(&b, n), all_circles(&b.desk, &b.sheet, n));
+                assert_eq!(true_slips(&b, n), b.all_circles(n));
             }
         }
         circle.map_or(0, |c| c.len())
@@ -1502,7 +2208,12 @@ fn two_classes_all_sheets_and_all_marks() {
         for unsafe_ in marks.iter().filter(|&m| m & 0x33 == 0) {
             for code in 0..1u32 << 10 {
                 let itself = [code >> 8 & 1, code >> 9].map(|bit| SR * bit as u8);
-                let sheet = [itself[0], (code & 15) as u8, (code >> 4 & 15) as u8, itself[1]];
+                let sheet = [
+                    itself[0],
+                    (code & 15) as u8,
+                    (code >> 4 & 15) as u8,
+                    itself[1],
+                ];
                 lengths[check(sheet, [*safe, *unsafe_], code % 512 == 0)] += 1;
                 lengths[check(sheet, [*unsafe_, *safe], code % 512 == 1)] += 1;
             }
@@ -1535,22 +2246,31 @@ fn three_classes_and_true_slips() {
             b.desk[MARKS] = [8, 4 + 64, 4][round / 3 % 3];
             b.desk[MARKS + 1] = [1 + 2, 32, 1][round / 3 % 3];
         }
+        b.settle();
         for n in 1..=3 {
             let all = true_slips(&b, n);
-            assert_eq!(all, all_circles(&b.desk, &b.sheet, n));
-            three += usize::from(n == 3 && all.len() > 1 && least_circle(&b.desk, &b.sheet) == Some(all[0].clone()));
+            assert_eq!(all, b.all_circles(n));
+            three +=
+                usize::from(n == 3 && all.len() > 1 && b.least_circle() == Some(all[0].clone()));
         }
-        assert_eq!(least_circle(&b.desk, &b.sheet), listed(&b));
+        assert_eq!(b.least_circle(), listed(&b));
     }
     assert!(three > 20, "{three}");
     let b = made(3, &[(0, 15, 1), (1, 15, 2), (2, 15, 0)], &[]);
-    assert!(all_circles(&b.desk, &b.sheet, 0).is_empty());
-    assert!(all_circles(&b.desk, &b.sheet, 4).is_empty());
+    assert!(b.all_circles(0).is_empty());
+    assert!(b.all_circles(4).is_empty());
     // At each of n joints the letters before and after are free but for one of the four
     // pairs: 3 to the n.
-    assert_eq!(all_circles(&b.desk, &b.sheet, 3).len(), 27);
-    let b = made(4, &[(0, 15, 1), (1, 15, 2), (2, 15, 3), (3, 15, 0), (1, 15, 0)], &[]);
-    assert_eq!([1, 2, 3, 4, 5].map(|n| all_circles(&b.desk, &b.sheet, n).len()), [0, 9, 0, 81, 0]);
+    assert_eq!(b.all_circles(3).len(), 27);
+    let b = made(
+        4,
+        &[(0, 15, 1), (1, 15, 2), (2, 15, 3), (3, 15, 0), (1, 15, 0)],
+        &[],
+    );
+    assert_eq!(
+        [1, 2, 3, 4, 5].map(|n| b.all_circles(n).len()),
+        [0, 9, 0, 81, 0]
+    );
 }
 
 /// A drawing with its classes, in any order, at so many places, and arrows from each place
@@ -1559,8 +2279,15 @@ fn three_classes_and_true_slips() {
 fn drawing_of_places(dice: &mut Dice, k: usize, places: usize, wild: bool) -> Bench {
     let mut b = Bench::new(k);
     let aside = places;
-    let mut place: Vec<usize> =
-        (0..k).map(|c| if c < places { c } else { dice.under(places as u64 + 1) as usize }).collect();
+    let mut place: Vec<usize> = (0..k)
+        .map(|c| {
+            if c < places {
+                c
+            } else {
+                dice.under(places as u64 + 1) as usize
+            }
+        })
+        .collect();
     for i in (1..k).rev() {
         place.swap(i, dice.under(i as u64 + 1) as usize);
     }
@@ -1577,7 +2304,9 @@ fn drawing_of_places(dice: &mut Dice, k: usize, places: usize, wild: bool) -> Be
                     2 => [ER, EN, ER | EN, SN][dice.under(4) as usize],
                     _ => [SN, EN, SR, SR | SN][dice.under(4) as usize],
                 },
-                (true, false) if dice.under(places as u64) == 0 => [SN, SR | SN, ER, SR][dice.under(4) as usize],
+                (true, false) if dice.under(places as u64) == 0 => {
+                    [SN, SR | SN, ER, SR][dice.under(4) as usize]
+                }
                 (true, false) => [EN, EN | ER, EN | SN, EN | SR, 14, 15][dice.under(6) as usize],
                 (false, true) if dice.under(if k > 8 { 60 } else { 10 }) == 0 => {
                     [SR, SR, ER, SR | SN, EN][dice.under(5 - thin) as usize]
@@ -1592,7 +2321,10 @@ fn drawing_of_places(dice: &mut Dice, k: usize, places: usize, wild: bool) -> Be
     if dice.under(2) == 0 {
         // One place unsafe and the next safe, at one level or both.
         let at = dice.under(places as u64) as usize;
-        let (unsafe_, safe) = ([4, 8, 4 + 64, 8 + 128, 12 + 64][dice.under(5) as usize], dice.under(256) as u8 & 0x33);
+        let (unsafe_, safe) = (
+            [4, 8, 4 + 64, 8 + 128, 12 + 64][dice.under(5) as usize],
+            dice.under(256) as u8 & 0x33,
+        );
         for c in 0..k {
             if place[c] == at && dice.under(3) > 0 {
                 b.desk[MARKS + c] |= unsafe_;
@@ -1602,6 +2334,7 @@ fn drawing_of_places(dice: &mut Dice, k: usize, places: usize, wild: bool) -> Be
             }
         }
     }
+    b.settle();
     assert_eq!(b.unfit(), None);
     b
 }
@@ -1616,18 +2349,27 @@ fn small_drawings_against_the_list() {
         let places = 1 + dice.under(k as u64) as usize;
         let wild = dice.under(2) == 0;
         let mut b = drawing_of_places(&mut dice, k, places, wild);
-        let circle = least_circle(&b.desk, &b.sheet);
-        assert_eq!(circle, listed(&b), "{:?} {:?}", b.sheet, &b.desk[MARKS..HOLDS]);
+        let circle = b.least_circle();
+        assert_eq!(
+            circle,
+            listed(&b),
+            "{:?} {:?}",
+            b.sheet,
+            &b.desk[MARKS..HOLDS]
+        );
         assert_eq!(circle, by_choosing(&b));
         let n = circle.as_ref().map_or(0, |c| c.len());
         lengths[n] += 1;
-        several += u64::from(n > 2 && all_circles(&b.desk, &b.sheet, n).len() > 1);
+        several += u64::from(n > 2 && b.all_circles(n).len() > 1);
         interrupts += u64::from(n > 2 && circle.iter().flatten().any(|arrow| arrow.2 > 0));
         let slip = b.slip.clone();
         assert_eq!(b.step(&event(0, SOFT_ON)), u8::from(n > 0));
-        assert_eq!(b.slip, circle.map_or(slip.clone(), |c| shown_over(&slip, &c)));
+        assert_eq!(b.slip, b.shown_or_not(&slip, &circle));
     }
-    assert!(several > 3_000 && interrupts > 500, "{several} with several circles, {interrupts} with interrupts");
+    assert!(
+        several > 3_000 && interrupts > 500,
+        "{several} with several circles, {interrupts} with interrupts"
+    );
     assert!(lengths.iter().all(|&many| many > 400), "{lengths:?}");
 }
 
@@ -1652,7 +2394,9 @@ fn by_choosing(b: &Bench) -> Option<Vec<Triple>> {
     let mut ways: Vec<[Vec<Ways>; 2]> = (0..k)
         .map(|first| {
             [false, true].map(|first_is_s| {
-                vec![(0..k).map(|c| [c == first, c == first && !first_is_s]).collect()]
+                vec![(0..k)
+                    .map(|c| [c == first, c == first && !first_is_s])
+                    .collect()]
             })
         })
         .collect();
@@ -1670,7 +2414,9 @@ fn by_choosing(b: &Bench) -> Option<Vec<Triple>> {
                         };
                         joint && ways[left][to][usize::from(ends_with_r(kind))]
                     });
-                    let Some(&(kind, source, to)) = found else { break };
+                    let Some(&(kind, source, to)) = found else {
+                        break;
+                    };
                     circle.push((class as u8, kind, source));
                     class = to;
                 }
@@ -1682,10 +2428,16 @@ fn by_choosing(b: &Bench) -> Option<Vec<Triple>> {
         }
         for ways in ways.iter_mut().flatten() {
             let nearer = &ways[n - 1];
-            let leads = |&(kind, _, to): &(u8, u8, usize)| nearer[to][usize::from(ends_with_r(kind))];
+            let leads =
+                |&(kind, _, to): &(u8, u8, usize)| nearer[to][usize::from(ends_with_r(kind))];
             let more = out
                 .iter()
-                .map(|arrows| [arrows.iter().any(leads), arrows.iter().any(|a| !begins_with_s(a.0) && leads(a))])
+                .map(|arrows| {
+                    [
+                        arrows.iter().any(leads),
+                        arrows.iter().any(|a| !begins_with_s(a.0) && leads(a)),
+                    ]
+                })
                 .collect();
             ways.push(more);
         }
@@ -1698,16 +2450,30 @@ fn large_drawings_against_choosing() {
     let mut dice = Dice(0x1A26_ED2A_3106_5EED);
     let mut lengths = [0; 65];
     for round in 0..2_000 {
-        let k = if round % 2 == 0 { 64 } else { 8 + dice.under(57) as usize };
+        let k = if round % 2 == 0 {
+            64
+        } else {
+            8 + dice.under(57) as usize
+        };
         let places = 1 + dice.under(k as u64) as usize;
-        let places = if round % 4 == 0 { places.max(k - dice.under(8) as usize) } else { places };
+        let places = if round % 4 == 0 {
+            places.max(k - dice.under(8) as usize)
+        } else {
+            places
+        };
         let mut b = drawing_of_places(&mut dice, k, places, round % 5 == 0);
-        let circle = least_circle(&b.desk, &b.sheet);
-        assert_eq!(circle, by_choosing(&b), "{:?} {:?}", b.sheet, &b.desk[MARKS..HOLDS]);
+        let circle = b.least_circle();
+        assert_eq!(
+            circle,
+            by_choosing(&b),
+            "{:?} {:?}",
+            b.sheet,
+            &b.desk[MARKS..HOLDS]
+        );
         lengths[circle.as_ref().map_or(0, |c| c.len())] += 1;
         let slip = b.slip.clone();
         assert_eq!(b.step(&event(0, SOFT_ON)), u8::from(circle.is_some()));
-        assert_eq!(b.slip, circle.map_or(slip.clone(), |c| shown_over(&slip, &c)));
+        assert_eq!(b.slip, b.shown_or_not(&slip, &circle));
     }
     assert!(lengths.iter().all(|&many| many > 0), "{lengths:?}");
 }
@@ -1715,24 +2481,33 @@ fn large_drawings_against_choosing() {
 #[test]
 fn no_circle_and_unfit() {
     // 0 SR 1 hard beside either; 0 EN 1 SR 0 is strong all round, 0 ER 1 SN 0 isn't.
-    assert_least(8, &[(0, EN, 1), (1, SR, 0), (0, ER, 2)], &[(0, 8), (1, 2)], &[(0, EN, 0), (1, SR, 0)]);
+    assert_least(
+        8,
+        &[(0, EN, 1), (1, SR, 0), (0, ER, 2)],
+        &[(0, 8), (1, 2)],
+        &[(0, EN, 0), (1, SR, 0)],
+    );
     let clean = made(8, &[(0, ER, 1), (1, SN, 0), (2, SR, 2)], &[(0, 8), (1, 2)]);
-    assert_eq!(least_circle(&clean.desk, &clean.sheet), None);
-    assert!((0..9).all(|n| all_circles(&clean.desk, &clean.sheet, n).is_empty()));
+    assert_eq!(clean.least_circle(), None);
+    assert!((0..9).all(|n| clean.all_circles(n).is_empty()));
     let circle = made(8, &[(0, EN, 0)], &[]);
     assert_shows(&circle, &[(0, EN, 0)]);
-    let changes: [&dyn Fn(&mut Bench); 5] = [
-        &|b| b.desk.truncate(637),
+    let changes: [&dyn Fn(&mut Bench); 9] = [
+        &|b| b.desk.truncate(641),
         &|b| b.desk[0] = 65,
         &|b| b.sheet.truncate(63),
-        &|b| b.sheet[63] = 16,
+        &|b| (b.sheet[63], b.seen[252]) = (16, 1),
+        &|b| b.seen.truncate(255),
+        &|b| b.set_number(0, 0, 0),
+        &|b| b.set_number(7, 7, 1),
+        &|b| b.set_number(0, 0, b.count() + 1),
         &|b| b.desk[MARKS] = 64,
     ];
     for change in changes {
         let mut b = circle.clone();
         change(&mut b);
-        assert_eq!(least_circle(&b.desk, &b.sheet), None);
-        assert!(all_circles(&b.desk, &b.sheet, 1).is_empty());
+        assert_eq!(b.least_circle(), None);
+        assert!(b.all_circles(1).is_empty());
         b.refused(&event(0, HARD_ON), 11);
     }
 }
@@ -1766,14 +2541,22 @@ const ENDS: [(usize, usize); 5] = [(1, 0), (2, 0), (2, 1), (64, 0), (64, 63)];
 /// Core 0's hard off on a bench without holds: it draws and marks nothing. The answer is
 /// 1 with this arrow on the slip, or 0, and no other byte changes.
 fn assert_after_hard_off(b: &Bench, circle: Option<Triple>) {
-    assert!(b.desk[STATES..MARKS].iter().chain(&b.desk[HOLDS..]).all(|&byte| byte == 0));
+    assert!(b.desk[STATES..MARKS]
+        .iter()
+        .chain(&b.desk[HOLDS..COUNT])
+        .all(|&byte| byte == 0));
     let mut after = b.clone();
     assert_eq!(after.step(&event(0, HARD_OFF)), u8::from(circle.is_some()));
-    let mut expected = b.clone();
+    let mut expected = b.counted();
     expected.desk[1] = u8::from(circle.is_some());
     expected.desk[STATES] = 2;
     if let Some((class, kind, source)) = circle {
-        expected.slip[..4].copy_from_slice(&[1, class, kind, source]);
+        let number = if source == 0 {
+            b.number(class.into(), class.into())
+        } else {
+            0
+        };
+        expected.slip[..8].copy_from_slice(&entries(&[(class, kind, source, number)]));
     }
     assert_eq!(after, expected);
 }
@@ -1793,7 +2576,10 @@ fn the_list_of_clashes() {
     let fit: Vec<u8> = (0..=255).filter(fit).collect();
     assert_eq!(fit, fit_marks());
     assert_eq!(fit.len(), 144);
-    assert_eq!(fit.iter().filter(|&&m| CLASHES[m as usize] == 1).count(), 103);
+    assert_eq!(
+        fit.iter().filter(|&&m| CLASHES[m as usize] == 1).count(),
+        103
+    );
 }
 
 #[test]
@@ -1820,7 +2606,10 @@ fn clashes_by_letters() {
     assert!(!yes(&[8, 2, 128, 32]));
     // More marks never take a clash away.
     for m in 0..=255u8 {
-        assert!((0..8).all(|i| CLASHES[(m | 1 << i) as usize] >= CLASHES[m as usize]), "{m}");
+        assert!(
+            (0..8).all(|i| CLASHES[(m | 1 << i) as usize] >= CLASHES[m as usize]),
+            "{m}"
+        );
     }
 }
 
@@ -1832,15 +2621,26 @@ fn marks_of_one_class_alone() {
             assert_eq!(circle.is_some(), CLASHES[m as usize] == 1, "{m}");
             let b = made(k, &[], &[(class, m)]);
             assert_after_hard_off(&b, circle);
-            assert_eq!(least_circle(&b.desk, &b.sheet), circle.map(|arrow| vec![arrow]));
+            assert_eq!(b.least_circle(), circle.map(|arrow| vec![arrow]));
         }
     }
     // By hand: ER before EN before SN, and in each hard before soft.
     for (m, kind, source) in [
-        (4 + 2, ER, 1), (4 + 64 + 32, ER, 2), (4 + 64 + 2 + 32, ER, 1), (4 + 64 + 1 + 32, ER, 2), //
-        (4 + 1, EN, 1), (4 + 64 + 16, EN, 2), (4 + 64 + 1 + 16, EN, 1), (4 + 8 + 1, EN, 1), //
-        (8 + 1, SN, 1), (8 + 128 + 16, SN, 2), (8 + 128 + 2 + 16, SN, 2), (8 + 1 + 2, SN, 1), //
-        (4 + 8 + 64 + 1 + 16, EN, 1), (4 + 8 + 128 + 16 + 1, EN, 1), (4 + 8 + 128 + 16, SN, 2),
+        (4 + 2, ER, 1),
+        (4 + 64 + 32, ER, 2),
+        (4 + 64 + 2 + 32, ER, 1),
+        (4 + 64 + 1 + 32, ER, 2), //
+        (4 + 1, EN, 1),
+        (4 + 64 + 16, EN, 2),
+        (4 + 64 + 1 + 16, EN, 1),
+        (4 + 8 + 1, EN, 1), //
+        (8 + 1, SN, 1),
+        (8 + 128 + 16, SN, 2),
+        (8 + 128 + 2 + 16, SN, 2),
+        (8 + 1 + 2, SN, 1), //
+        (4 + 8 + 64 + 1 + 16, EN, 1),
+        (4 + 8 + 128 + 16 + 1, EN, 1),
+        (4 + 8 + 128 + 16, SN, 2),
     ] {
         assert_shows(&made(64, &[], &[(63, m)]), &[(63, kind, source)]);
     }
@@ -1854,32 +2654,54 @@ fn hold_circles_are_no_clash() {
         assert_eq!(b.step(&take(0, 0, second)), answer);
         assert_eq!(CLASHES[b.desk[MARKS] as usize], 0);
         if answer == 1 {
-            assert_eq!(b.slip[..4], [1, 0, shown, 0]);
+            assert_eq!(b.slip[..8], [1, 0, shown, 0, 2, 0, 0, 0]);
         }
     }
     // Each mark byte whose answer is no, with each hold arrow of the class to itself.
-    for m in fit_marks().into_iter().filter(|&m| CLASHES[m as usize] == 0) {
+    for m in fit_marks()
+        .into_iter()
+        .filter(|&m| CLASHES[m as usize] == 0)
+    {
         for (k, class) in ENDS {
             for kind in [ER, EN, SN] {
-                assert_after_hard_off(&made(k, &[(class, kind, class)], &[(class, m)]), Some((class as u8, kind, 0)));
+                assert_after_hard_off(
+                    &made(k, &[(class, kind, class)], &[(class, m)]),
+                    Some((class as u8, kind, 0)),
+                );
             }
             assert_after_hard_off(&made(k, &[(class, SR, class)], &[(class, m)]), None);
         }
     }
     // P11 is a fault by two arrows, and no class clashes.
     let mut b = Bench::new(8).clean(&[
-        event(0, ENTER_HARD), take(0, 4, E), release(0, 4), event(0, EXIT_HARD), //
-        event(0, HARD_OFF), take(0, 4, E), take(0, 5, E), release(0, 5), release(0, 4), //
+        event(0, ENTER_HARD),
+        take(0, 4, E),
+        release(0, 4),
+        event(0, EXIT_HARD), //
+        event(0, HARD_OFF),
+        take(0, 4, E),
+        take(0, 5, E),
+        release(0, 5),
+        release(0, 4), //
         event(0, HARD_ON),
     ]);
     assert_eq!(b.step(&take(0, 5, E)), 1);
-    assert_eq!(b.slip[..7], [2, 4, EN, 0, 5, EN, 1]);
-    assert!(b.desk[MARKS..HOLDS].iter().all(|&m| CLASHES[m as usize] == 0));
+    assert_eq!(
+        b.slip[..15],
+        [2, 4, EN, 0, 7, 0, 0, 0, 5, EN, 1, 0, 0, 0, 0]
+    );
+    assert!(b.desk[MARKS..HOLDS]
+        .iter()
+        .all(|&m| CLASHES[m as usize] == 0));
 }
 
 #[test]
 fn a_clash_and_a_hold_circle_at_two_classes() {
-    let clashing = || fit_marks().into_iter().filter(|&m| CLASHES[m as usize] == 1);
+    let clashing = || {
+        fit_marks()
+            .into_iter()
+            .filter(|&m| CLASHES[m as usize] == 1)
+    };
     for m in clashing() {
         for kind in [ER, EN, SN] {
             for (k, low, high) in [(2, 0, 1), (64, 0, 63), (64, 30, 31)] {
@@ -1898,9 +2720,15 @@ fn a_clash_and_a_hold_circle_at_two_classes() {
         }
     }
     // Two clashes: the lower class, though its kind and source be greater.
-    assert_shows(&made(64, &[], &[(5, 8 + 128 + 16), (6, 4 + 2)]), &[(5, SN, 2)]);
+    assert_shows(
+        &made(64, &[], &[(5, 8 + 128 + 16), (6, 4 + 2)]),
+        &[(5, SN, 2)],
+    );
     assert_shows(&made(64, &[(0, SN, 0)], &[(63, 4 + 2)]), &[(0, SN, 0)]);
-    assert_shows(&made(64, &[(63, ER, 63)], &[(0, 8 + 128 + 16)]), &[(0, SN, 2)]);
+    assert_shows(
+        &made(64, &[(63, ER, 63)], &[(0, 8 + 128 + 16)]),
+        &[(0, SN, 2)],
+    );
 }
 
 #[test]
@@ -1911,22 +2739,38 @@ fn a_clash_and_hold_arrows_at_one_class() {
                 let all = one_arrow(class, kinds, m);
                 let b = made(k, &[(class, kinds, class)], &[(class, m)]);
                 let lists: Vec<Vec<Triple>> = all.iter().map(|&arrow| vec![arrow]).collect();
-                assert_eq!(all_circles(&b.desk, &b.sheet, 1), lists);
+                assert_eq!(b.all_circles(1), lists);
                 // A clash, or a hold arrow to itself but SR.
-                assert_eq!(!all.is_empty(), CLASHES[m as usize] == 1 || kinds & !SR != 0);
+                assert_eq!(
+                    !all.is_empty(),
+                    CLASHES[m as usize] == 1 || kinds & !SR != 0
+                );
                 assert_after_hard_off(&b, all.first().copied());
             }
         }
     }
     // By hand: the least kind, and with one kind hold before hard before soft.
     for (kinds, m, kind, source) in [
-        (EN, 4 + 2, ER, 1), (EN, 4 + 64 + 32, ER, 2), (ER, 4 + 2, ER, 0), (EN, 4 + 1, EN, 0), //
-        (SN, 4 + 1, EN, 1), (SN, 4 + 64 + 16, EN, 2), (SN, 8 + 1, SN, 0), (SN, 8 + 2, SN, 0), //
-        (SR, 8 + 1, SN, 1), (SR, 8 + 128 + 16 + 2, SN, 2), (SR | SN, 8 + 128 + 1 + 16, SN, 0), (15, 255, ER, 0), //
-        (14, 255, ER, 1), (EN | SN, 4 + 8 + 64 + 1 + 32, ER, 2),
+        (EN, 4 + 2, ER, 1),
+        (EN, 4 + 64 + 32, ER, 2),
+        (ER, 4 + 2, ER, 0),
+        (EN, 4 + 1, EN, 0), //
+        (SN, 4 + 1, EN, 1),
+        (SN, 4 + 64 + 16, EN, 2),
+        (SN, 8 + 1, SN, 0),
+        (SN, 8 + 2, SN, 0), //
+        (SR, 8 + 1, SN, 1),
+        (SR, 8 + 128 + 16 + 2, SN, 2),
+        (SR | SN, 8 + 128 + 1 + 16, SN, 0),
+        (15, 255, ER, 0), //
+        (14, 255, ER, 1),
+        (EN | SN, 4 + 8 + 64 + 1 + 32, ER, 2),
     ] {
         for (k, class) in [(8, 0), (8, 7), (64, 63)] {
-            assert_shows(&made(k, &[(class, kinds, class)], &[(class, m)]), &[(class as u8, kind, source)]);
+            assert_shows(
+                &made(k, &[(class, kinds, class)], &[(class, m)]),
+                &[(class as u8, kind, source)],
+            );
         }
     }
 }
@@ -1935,8 +2779,15 @@ fn a_clash_and_hold_arrows_at_one_class() {
 fn clashes_of_logs() {
     // Each state by the shortest way from 0.
     let ways: [&[u8]; 9] = [
-        &[], &[SOFT_OFF], &[HARD_OFF], &[SOFT_OFF, HARD_OFF], &[ENTER_SOFT], &[ENTER_SOFT, HARD_OFF], //
-        &[ENTER_HARD], &[SOFT_OFF, ENTER_HARD], &[ENTER_SOFT, ENTER_HARD],
+        &[],
+        &[SOFT_OFF],
+        &[HARD_OFF],
+        &[SOFT_OFF, HARD_OFF],
+        &[ENTER_SOFT],
+        &[ENTER_SOFT, HARD_OFF], //
+        &[ENTER_HARD],
+        &[SOFT_OFF, ENTER_HARD],
+        &[ENTER_SOFT, ENTER_HARD],
     ];
     // Two cores take the class in all states and modes: no frame holds it twice, so all
     // arrows are interrupt arrows and a fault is a clash.
@@ -1945,7 +2796,8 @@ fn clashes_of_logs() {
         for (m1, m2) in MODES.into_iter().flat_map(|m1| MODES.map(|m2| (m1, m2))) {
             let mut b = Bench::new(1);
             for (core, state, mode) in [(0, one, m1), (1, two, m2)] {
-                let mut records: Vec<Rec> = ways[state].iter().map(|&kind| event(core, kind)).collect();
+                let mut records: Vec<Rec> =
+                    ways[state].iter().map(|&kind| event(core, kind)).collect();
                 records.push(take(core, 0, mode));
                 for r in records {
                     let answer = b.step(&r);
@@ -1970,23 +2822,33 @@ struct Naive {
     k: u8,
     state: [u8; 8],
     holds: Vec<Vec<(u8, u8)>>, // by frame: (class, mode as in the record)
-    arrows: Vec<(u8, u8, u8)>, // hold arrows (from, kind, to)
+    arrows: Vec<(u8, u8, u8, u32)>, // hold arrows (from, kind, to, record's number)
     marks: Vec<(u8, &'static str)>,
+    accepted: u32,
 }
 
 impl Naive {
     fn new(k: u8) -> Naive {
-        Naive { k, state: [0; 8], holds: vec![Vec::new(); 24], arrows: Vec::new(), marks: Vec::new() }
+        Naive {
+            k,
+            state: [0; 8],
+            holds: vec![Vec::new(); 24],
+            arrows: Vec::new(),
+            marks: Vec::new(),
+            accepted: 0,
+        }
     }
     /// The record is known to be accepted.
     fn accept(&mut self, r: &Rec) {
         let (core, kind, class, mode) = (r[2], r[3], r[4], r[5]);
         let at = frame(core, self.state[core as usize]);
+        self.accepted += 1;
         match kind {
             TAKE => {
                 for &(older, older_mode) in self.holds[at].iter().filter(|_| mode < 3) {
-                    let kind = [[2, 2, 1], [8, 8, 4], [8, 8, 4]][older_mode as usize % 3][mode as usize];
-                    self.arrows.push((older, kind, class));
+                    let kind =
+                        [[2, 2, 1], [8, 8, 4], [8, 8, 4]][older_mode as usize % 3][mode as usize];
+                    self.arrows.push((older, kind, class, self.accepted));
                 }
                 self.holds[at].push((class, mode));
             }
@@ -2017,15 +2879,18 @@ impl Naive {
                 (6..=8, _, _) => vec!["hard R"],
                 _ => vec![],
             };
-            self.marks.extend(names.into_iter().map(|name| (class, name)));
+            self.marks
+                .extend(names.into_iter().map(|name| (class, name)));
         }
     }
-    /// The desk and sheet as they should lie.
-    fn lie(&self, closed: bool) -> (Vec<u8>, Vec<u8>) {
+    /// The desk and both sheets as they should lie.
+    fn lie(&self, closed: bool) -> [Vec<u8>; 3] {
         let mut desk = vec![self.k, closed as u8];
         desk.extend(self.state);
         desk.extend(self.holds.iter().map(|h| h.len() as u8));
-        let order = ["hard N", "hard R", "hard E", "hard S", "soft N", "soft R", "soft E", "soft S"];
+        let order = [
+            "hard N", "hard R", "hard E", "hard S", "soft N", "soft R", "soft E", "soft S",
+        ];
         for class in 0..64 {
             let bits = (0..8).filter(|&i| self.marks.contains(&(class, order[i])));
             desk.push(bits.map(|i| 1u8 << i).sum());
@@ -2041,22 +2906,37 @@ impl Naive {
             origins.extend(holds.iter().map(|h| u8::from(h.1 >= 3)));
             origins.resize(origins.len() + 20 - holds.len(), 0);
         }
-        desk.extend(origins.chunks(8).map(|eight| eight.iter().rev().fold(0, |byte, bit| 2 * byte + bit)));
-        let mut sheet = Vec::new();
+        desk.extend(
+            origins
+                .chunks(8)
+                .map(|eight| eight.iter().rev().fold(0, |byte, bit| 2 * byte + bit)),
+        );
+        desk.extend(bytes_of(&[self.accepted]));
+        let (mut sheet, mut seen) = (Vec::new(), Vec::new());
         for from in 0..self.k {
             for to in 0..self.k {
-                let kinds = [1, 2, 4, 8].into_iter().filter(|&kind| self.arrows.contains(&(from, kind, to)));
-                sheet.push(kinds.sum());
+                let there = || self.arrows.iter().filter(|a| (a.0, a.2) == (from, to));
+                sheet.push(
+                    [1, 2, 4, 8]
+                        .into_iter()
+                        .filter(|&kind| there().any(|a| a.1 == kind))
+                        .sum(),
+                );
+                seen.extend(there().map(|a| a.3).min().unwrap_or(0).to_le_bytes());
             }
         }
-        (desk, sheet)
+        [desk, sheet, seen]
     }
 }
 
 fn random_record(dice: &mut Dice, k: u64, modes: &[u8]) -> Rec {
     let core = dice.under(3) as u8;
     match dice.under(16) {
-        0..=6 => take(core, dice.under(k) as u8, modes[dice.under(modes.len() as u64) as usize]),
+        0..=6 => take(
+            core,
+            dice.under(k) as u8,
+            modes[dice.under(modes.len() as u64) as usize],
+        ),
         7..=11 => release(core, dice.under(k) as u8),
         12 => {
             let mut r = take(core, dice.under(k + 2) as u8, dice.under(7) as u8);
@@ -2071,7 +2951,7 @@ fn random_record(dice: &mut Dice, k: u64, modes: &[u8]) -> Rec {
 fn random_logs_byte_by_byte() {
     let mut dice = Dice(0xFEED_BEEF_0BAD_F00D);
     let mut seen = [0u64; 12];
-    let mut tries_moved = 0;
+    let (mut tries_moved, mut later_kinds) = (0, 0);
     for round in 0..7_000u64 {
         let k = 1 + dice.under(if round % 10 == 0 { 64 } else { 6 });
         let modes: &[u8] = [
@@ -2085,33 +2965,53 @@ fn random_logs_byte_by_byte() {
         ][round as usize % 7];
         let mut b = Bench::new(k as usize);
         let mut naive = Naive::new(k as u8);
+        let mut books = Books::open(k).unwrap();
         for _ in 0..60 {
             let r = random_record(&mut dice, k, modes);
             let before = b.clone();
             let answer = b.step(&r);
             seen[answer as usize] += 1;
+            assert_eq!(books.enter(&r), answer < 2);
             if answer > 1 {
                 assert_eq!(b, before);
                 continue;
             }
             naive.accept(&r);
-            tries_moved += u64::from(r[3] == RELEASE && !b.origins().is_empty() && b.origins() != before.origins());
-            let (desk, sheet) = naive.lie(answer == 1);
+            tries_moved += u64::from(
+                r[3] == RELEASE && !b.origins().is_empty() && b.origins() != before.origins(),
+            );
+            let [desk, sheet, seen] = naive.lie(answer == 1);
             assert_eq!(b.desk, desk);
             assert_eq!(b.sheet, sheet);
+            assert_eq!(b.seen, seen);
+            assert_eq!(
+                (b.count(), &b.seen),
+                (books.accepted(), &bytes_of(books.numbers()))
+            );
+            later_kinds += (0..sheet.len())
+                .filter(|&p| ![0, sheet[p]].contains(&before.sheet[p]))
+                .count();
             assert_eq!(b.unfit(), None);
             if answer == 0 {
                 assert_eq!(b.slip, before.slip);
             } else {
-                assert_eq!(b.slip, shown_over(&before.slip, &listed(&b).unwrap()));
+                assert_eq!(b.slip, b.shown_over(&before.slip, &listed(&b).unwrap()));
                 b.refused(&r, 10);
                 break;
             }
         }
     }
     assert!(tries_moved > 1000, "{tries_moved} releases moved a try");
+    assert!(
+        later_kinds > 1000,
+        "{later_kinds} kinds came later to a pair"
+    );
     for answer in [0, 1, 3, 4, 5, 6, 7] {
-        assert!(seen[answer] > 100, "answer {answer} came {} times", seen[answer]);
+        assert!(
+            seen[answer] > 100,
+            "answer {answer} came {} times",
+            seen[answer]
+        );
     }
 }
 
@@ -2131,7 +3031,11 @@ fn balance_of_holds() {
             if r[3] == TAKE && [E, NR, TE, TR].contains(&r[5]) {
                 continue;
             }
-            let at = if r[2] < 8 { frame(r[2], b.desk[STATES + r[2] as usize]) } else { 0 };
+            let at = if r[2] < 8 {
+                frame(r[2], b.desk[STATES + r[2] as usize])
+            } else {
+                0
+            };
             let answer = b.step(&r);
             assert_ne!(answer, 1);
             refusals[answer as usize] += 1;
@@ -2152,7 +3056,10 @@ fn balance_of_holds() {
             }
         }
         for answer in [0, 3, 5, 6, 7, 8] {
-            assert!(refusals[answer] > 0 || (k == 1 && answer == 5), "K {k}, answer {answer}");
+            assert!(
+                refusals[answer] > 0 || (k == 1 && answer == 5),
+                "K {k}, answer {answer}"
+            );
         }
     }
 }
@@ -2189,20 +3096,38 @@ fn other_cores_records_never_undo_a_fault() {
 
 #[test]
 fn sizes() {
-    assert_eq!((STATES, DEPTHS, MARKS, HOLDS, ORIGINS, DESK), (2, 10, 34, 98, 578, 638));
+    assert_eq!(
+        (STATES, DEPTHS, MARKS, HOLDS, ORIGINS, COUNT, DESK),
+        (2, 10, 34, 98, 578, 638, 642)
+    );
+    assert_eq!(ENTRY, 7);
+    assert_eq!([1, 2, 8, 64].map(sheet_len), [1, 4, 64, 4096]);
+    assert_eq!([1, 2, 8, 64].map(seen_len), [4, 16, 256, 16384]);
+    assert_eq!([1, 2, 8, 64].map(slip_len), [8, 15, 57, 449]);
 }
 
 #[test]
 fn a_try_byte_by_byte() {
     // Core 1's task frame is frame 3, its places 60 to 79: bit 4 of byte 585 is the first.
-    let b = Bench::new(4).clean(&[take(1, 0, E), take(1, 1, TR), take(1, 2, R), take(1, 3, TE), take(1, 3, TRR)]);
+    let b = Bench::new(4).clean(&[
+        take(1, 0, E),
+        take(1, 1, TR),
+        take(1, 2, R),
+        take(1, 3, TE),
+        take(1, 3, TRR),
+    ]);
     let mut sheet = vec![0; 16];
     // To the tries of 1 and 3 nothing, from the try of 1 as from a read.
     sheet[2] = ER;
     sheet[4 + 2] = SR;
     assert_eq!(b.sheet, sheet);
-    let mut desk = vec![0; 638];
+    // Both by the third record.
+    let mut seen = vec![0; 64];
+    (seen[4 * 2], seen[4 * (4 + 2)]) = (3, 3);
+    assert_eq!(b.seen, seen);
+    let mut desk = vec![0; 642];
     desk[0] = 4;
+    desk[638] = 5;
     desk[10 + 3] = 5;
     desk[34..38].copy_from_slice(&[68, 136, 136, 68 + 136]);
     desk[98 + 60..98 + 65].copy_from_slice(&[0, 1 + 64, 2 + 128, 3, 3 + 128]);
@@ -2215,7 +3140,8 @@ fn a_try_byte_by_byte() {
     desk[98 + 60..98 + 65].copy_from_slice(&[1 + 64, 2 + 128, 3, 3 + 128, 0]);
     desk[585] = 0b1101_0000;
     desk[586] = 0;
-    assert_eq!((b.desk, b.sheet), (desk, sheet));
+    desk[638] = 6;
+    assert_eq!((b.desk, b.sheet, b.seen), (desk, sheet, seen));
 }
 
 #[test]
@@ -2234,7 +3160,13 @@ fn only_arrows_to_a_try_go() {
             let mut sheet = vec![0; 16];
             sheet[4 + 2] = if newer < 3 { kind } else { 0 };
             assert_eq!(b.sheet, sheet, "{older} then {newer}");
-            assert_eq!(b.desk[98..100], [1 + 64 * (older % 3), 2 + 64 * (newer % 3)]);
+            let mut seen = vec![0; 64];
+            seen[4 * (4 + 2)] = if newer < 3 { 2 } else { 0 };
+            assert_eq!(b.seen, seen, "{older} then {newer}");
+            assert_eq!(
+                b.desk[98..100],
+                [1 + 64 * (older % 3), 2 + 64 * (newer % 3)]
+            );
             assert_eq!(b.desk[578], u8::from(older >= 3) + 2 * u8::from(newer >= 3));
         }
     }
@@ -2249,9 +3181,15 @@ fn a_try_on_a_held_class() {
         }
     }
     for (older, newer, fault) in [
-        (TE, E, true), (TE, NR, true), (TE, R, true),
-        (TR, E, true), (TR, NR, true), (TR, R, false),
-        (TRR, E, true), (TRR, NR, true), (TRR, R, false),
+        (TE, E, true),
+        (TE, NR, true),
+        (TE, R, true),
+        (TR, E, true),
+        (TR, NR, true),
+        (TR, R, false),
+        (TRR, E, true),
+        (TRR, NR, true),
+        (TRR, R, false),
     ] {
         let records = [take(0, 1, older), take(0, 1, newer)];
         if fault {
@@ -2260,25 +3198,52 @@ fn a_try_on_a_held_class() {
             assert_clean(&records);
         }
     }
-    assert_eq!(program(&log(8, &[take(0, 1, TE), take(0, 1, E)])), "fault at record 2\n1 EN 1 hold\n");
+    assert_eq!(
+        program(&log(8, &[take(0, 1, TE), take(0, 1, E)])),
+        "fault at record 2\n1 EN 1 hold\n"
+    );
     // The lock order turned round by a try is clean, until a wait comes after it.
     assert_clean(&[take(0, 1, E), take(0, 2, E), take(1, 2, E), take(1, 1, TE)]);
     assert_fault(&[take(0, 1, E), take(0, 2, E), take(1, 2, TE), take(1, 1, E)]);
     assert_clean(&[take(0, 1, E), take(0, 2, TE), take(1, 2, E), take(1, 1, E)]);
-    assert_fault(&[take(0, 1, E), take(0, 2, TE), take(0, 3, E), take(1, 3, E), take(1, 2, E)]);
+    assert_fault(&[
+        take(0, 1, E),
+        take(0, 2, TE),
+        take(0, 3, E),
+        take(1, 3, E),
+        take(1, 2, E),
+    ]);
 }
 
 #[test]
 fn the_newest_goes_whatever_its_origin() {
     // Modes and origins differ, so that each hold of the class is another byte or bit.
-    let b = Bench::new(4).clean(&[take(0, 1, E), take(0, 1, TR), take(0, 2, TE), take(0, 1, TRR), take(0, 3, TE)]);
-    assert_eq!((&b.desk[98..104], b.origins()), (&[1, 65, 2, 129, 3, 0][..], vec![1, 2, 3, 4]));
+    let b = Bench::new(4).clean(&[
+        take(0, 1, E),
+        take(0, 1, TR),
+        take(0, 2, TE),
+        take(0, 1, TRR),
+        take(0, 3, TE),
+    ]);
+    assert_eq!(
+        (&b.desk[98..104], b.origins()),
+        (&[1, 65, 2, 129, 3, 0][..], vec![1, 2, 3, 4])
+    );
     let b = b.clean(&[release(0, 1)]);
-    assert_eq!((&b.desk[98..104], b.origins()), (&[1, 65, 2, 3, 0, 0][..], vec![1, 2, 3]));
+    assert_eq!(
+        (&b.desk[98..104], b.origins()),
+        (&[1, 65, 2, 3, 0, 0][..], vec![1, 2, 3])
+    );
     let b = b.clean(&[release(0, 1)]);
-    assert_eq!((&b.desk[98..104], b.origins()), (&[1, 2, 3, 0, 0, 0][..], vec![1, 2]));
+    assert_eq!(
+        (&b.desk[98..104], b.origins()),
+        (&[1, 2, 3, 0, 0, 0][..], vec![1, 2])
+    );
     let b = b.clean(&[release(0, 1)]);
-    assert_eq!((&b.desk[98..104], b.origins()), (&[2, 3, 0, 0, 0, 0][..], vec![0, 1]));
+    assert_eq!(
+        (&b.desk[98..104], b.origins()),
+        (&[2, 3, 0, 0, 0, 0][..], vec![0, 1])
+    );
     b.refused(&release(0, 1), 5);
     // A try under a wait of the same class and mode: the wait goes, the try stays.
     let b = Bench::new(4).clean(&[take(0, 1, TRR), take(0, 1, R), release(0, 1)]);
@@ -2315,8 +3280,11 @@ fn a_release_moves_origins_within_its_frame() {
         task.desk[13] = 20;
         task.desk[585..588].copy_from_slice(&[0xF0, 0xFF, 0xFF]);
         let b = task.clone().clean(&[release(0, released as u8)]);
-        let expected: Vec<usize> =
-            (0..20).filter(|p| p % 2 == 1 && *p != released).map(|p| if p > released { p - 1 } else { p }).chain(60..80).collect();
+        let expected: Vec<usize> = (0..20)
+            .filter(|p| p % 2 == 1 && *p != released)
+            .map(|p| if p > released { p - 1 } else { p })
+            .chain(60..80)
+            .collect();
         assert_eq!(b.origins(), expected, "release of {released}");
         assert_eq!(b.desk[98 + 19], 0);
     }
@@ -2354,9 +3322,10 @@ fn every_place_has_its_bit() {
             after[10 + at] += 1;
             after[98 + place] = 129;
             after[578 + place / 8] = 1 << (place % 8);
+            after[638] = 1;
             assert_eq!(b.desk, after);
             assert_eq!(b.step(&release(core as u8, 1)), 0);
-            assert_eq!(b.desk, gone);
+            assert_eq!((&b.desk[..638], b.count()), (&gone[..638], 2));
         }
     }
 }
@@ -2371,10 +3340,20 @@ fn no_safe_mark_then_or_later() {
         assert_eq!(b.desk[34 + 3], nothing_more);
         assert_eq!(b.origins().len(), 1);
     }
-    let b = Bench::new(8).clean(&[event(0, ENTER_SOFT), take(0, 3, TRR), event(0, HARD_OFF), event(0, HARD_ON)]);
+    let b = Bench::new(8).clean(&[
+        event(0, ENTER_SOFT),
+        take(0, 3, TRR),
+        event(0, HARD_OFF),
+        event(0, HARD_ON),
+    ]);
     assert_eq!(b.desk[34 + 3], 8);
     // The handler interrupted and come back to.
-    let b = b.clean(&[event(0, ENTER_HARD), take(0, 2, TE), release(0, 2), event(0, EXIT_HARD)]);
+    let b = b.clean(&[
+        event(0, ENTER_HARD),
+        take(0, 2, TE),
+        release(0, 2),
+        event(0, EXIT_HARD),
+    ]);
     assert_eq!(b.desk[34..42], [0, 0, 0, 8, 0, 0, 0, 0]);
     // On a desk that didn't come from opening, the bit decides alone.
     let mut b = Bench::new(8);
@@ -2385,22 +3364,55 @@ fn no_safe_mark_then_or_later() {
     let b = b.clean(&[take(0, 5, TE)]);
     assert_eq!(b.desk[34..42], [0, 0, 0, 0, 0, 0, 1, 0]);
     // No hard-safe mark, so no fault with a task that holds the class.
-    assert_clean(&[take(0, 3, E), release(0, 3), event(0, ENTER_HARD), take(0, 3, TE), release(0, 3)]);
-    assert_clean(&[take(0, 6, E), release(0, 6), event(0, ENTER_SOFT), take(0, 6, TE), event(0, HARD_OFF)]);
+    assert_clean(&[
+        take(0, 3, E),
+        release(0, 3),
+        event(0, ENTER_HARD),
+        take(0, 3, TE),
+        release(0, 3),
+    ]);
+    assert_clean(&[
+        take(0, 6, E),
+        release(0, 6),
+        event(0, ENTER_SOFT),
+        take(0, 6, TE),
+        event(0, HARD_OFF),
+    ]);
 }
 
 #[test]
 fn unsafe_marks_of_a_try_stay() {
     // Held over a hard on and a soft on.
-    let b = Bench::new(8).clean(&[event(0, SOFT_OFF), event(0, HARD_OFF), take(0, 3, TE), take(0, 4, TR)]);
+    let b = Bench::new(8).clean(&[
+        event(0, SOFT_OFF),
+        event(0, HARD_OFF),
+        take(0, 3, TE),
+        take(0, 4, TR),
+    ]);
     assert_eq!(b.desk[34..42], [0; 8]);
     let b = b.clean(&[event(0, HARD_ON)]);
     assert_eq!(b.desk[37..39], [4, 8]);
     let b = b.clean(&[event(0, SOFT_ON)]);
     assert_eq!(b.desk[37..39], [68, 136]);
-    assert_fault(&[event(0, HARD_OFF), take(0, 3, TE), event(1, ENTER_HARD), take(1, 3, E), event(0, HARD_ON)]);
-    assert_fault(&[take(0, 3, TE), release(0, 3), event(0, ENTER_HARD), take(0, 3, E)]);
-    assert_fault(&[event(0, ENTER_SOFT), take(0, 3, TE), event(1, ENTER_HARD), take(1, 3, R)]);
+    assert_fault(&[
+        event(0, HARD_OFF),
+        take(0, 3, TE),
+        event(1, ENTER_HARD),
+        take(1, 3, E),
+        event(0, HARD_ON),
+    ]);
+    assert_fault(&[
+        take(0, 3, TE),
+        release(0, 3),
+        event(0, ENTER_HARD),
+        take(0, 3, E),
+    ]);
+    assert_fault(&[
+        event(0, ENTER_SOFT),
+        take(0, 3, TE),
+        event(1, ENTER_HARD),
+        take(1, 3, R),
+    ]);
     // In a soft handler with hard off no mark, with hard on hard-unsafe alone.
     let b = Bench::new(8).clean(&[event(0, ENTER_SOFT), event(0, HARD_OFF), take(0, 3, TR)]);
     assert_eq!(b.desk[37], 0);
@@ -2410,9 +3422,14 @@ fn unsafe_marks_of_a_try_stay() {
 #[test]
 fn marks_are_by_class_and_origin_by_hold() {
     // In a hard handler: a try and a wait of one class, in both orders, and other modes.
-    for (first, second, mark) in
-        [(R, TE, 2), (R, TRR, 2), (NR, TE, 1), (E, TRR, 1), (TRR, R, 2), (TR, R, 2)]
-    {
+    for (first, second, mark) in [
+        (R, TE, 2),
+        (R, TRR, 2),
+        (NR, TE, 1),
+        (E, TRR, 1),
+        (TRR, R, 2),
+        (TR, R, 2),
+    ] {
         let b = Bench::new(8).clean(&[event(0, ENTER_HARD), take(0, 3, first)]);
         let alone = if first < 3 { mark } else { 0 };
         assert_eq!(b.desk[37], alone);
@@ -2421,9 +3438,19 @@ fn marks_are_by_class_and_origin_by_hold() {
         assert_eq!(b.origins(), [if first < 3 { 41 } else { 40 }]);
     }
     // The wait is in another frame, or on another core: the try has no part in it.
-    let b = Bench::new(8).clean(&[event(0, ENTER_SOFT), take(0, 3, R), event(0, ENTER_HARD), take(0, 3, TRR)]);
+    let b = Bench::new(8).clean(&[
+        event(0, ENTER_SOFT),
+        take(0, 3, R),
+        event(0, ENTER_HARD),
+        take(0, 3, TRR),
+    ]);
     assert_eq!(b.desk[37], 32 + 8);
-    let b = Bench::new(8).clean(&[event(0, HARD_OFF), take(0, 3, E), event(1, ENTER_HARD), take(1, 3, TE)]);
+    let b = Bench::new(8).clean(&[
+        event(0, HARD_OFF),
+        take(0, 3, E),
+        event(1, ENTER_HARD),
+        take(1, 3, TE),
+    ]);
     assert_eq!(b.desk[37], 0);
 }
 
@@ -2440,22 +3467,43 @@ fn tries_at_full_depth() {
     records[20] = take(0, 8, TE);
     assert_eq!(judge(8, &records), (21, 4));
     // Exits with a try standing, releases of what a try doesn't hold here.
-    assert_eq!(judge(8, &[event(0, ENTER_HARD), take(0, 0, TE), event(0, EXIT_HARD)]), (3, 7));
-    assert_eq!(judge(8, &[take(0, 0, TE), event(0, ENTER_HARD), release(0, 0)]), (3, 5));
-    assert_eq!(judge(8, &[take(0, 0, TE), [0x4C, 0x4B, 0, RELEASE, 0, TE]]), (2, 3));
-    assert_eq!(judge(8, &[take(0, 0, TE), release(0, 0), release(0, 0)]), (3, 5));
+    assert_eq!(
+        judge(
+            8,
+            &[event(0, ENTER_HARD), take(0, 0, TE), event(0, EXIT_HARD)]
+        ),
+        (3, 7)
+    );
+    assert_eq!(
+        judge(8, &[take(0, 0, TE), event(0, ENTER_HARD), release(0, 0)]),
+        (3, 5)
+    );
+    assert_eq!(
+        judge(8, &[take(0, 0, TE), [0x4C, 0x4B, 0, RELEASE, 0, TE]]),
+        (2, 3)
+    );
+    assert_eq!(
+        judge(8, &[take(0, 0, TE), release(0, 0), release(0, 0)]),
+        (3, 5)
+    );
 }
 
 // ------------------------------------------------------------------- the feed
 
 /// Buffers as they are lent, not opened yet.
-fn lent(desk: usize, sheet: usize, slip: usize) -> Bench {
-    Bench { desk: vec![0xA5; desk], sheet: vec![0xA5; sheet], slip: vec![0xA5; slip] }
+fn lent(desk: usize, sheet: usize, seen: usize, slip: usize) -> Bench {
+    let [desk, sheet, seen, slip] = [desk, sheet, seen, slip].map(|length| vec![0xA5; length]);
+    Bench {
+        desk,
+        sheet,
+        seen,
+        slip,
+    }
 }
 
 /// Just enough for this K.
 fn lent_for(k: usize) -> Bench {
-    lent(DESK, sheet_len(k), slip_len(k))
+    lent(DESK, sheet_len(k), seen_len(k), slip_len(k))
 }
 
 /// A feed, with four bytes past its size, and its bench.
@@ -2467,7 +3515,10 @@ struct Fed {
 
 impl Fed {
     fn new(b: Bench) -> Fed {
-        let mut fed = Fed { feed: vec![0xA5; 20], b };
+        let mut fed = Fed {
+            feed: vec![0xA5; 20],
+            b,
+        };
         assert_eq!(feed_start(&mut fed.feed), 0);
         fed
     }
@@ -2481,20 +3532,36 @@ impl Fed {
     }
     fn feed(&mut self, piece: &[u8]) -> (u8, u64) {
         let mut record = 99;
-        let Bench { desk, sheet, slip } = &mut self.b;
-        let answer = feed(&mut self.feed, desk, sheet, slip, piece, &mut record);
+        let Bench {
+            desk,
+            sheet,
+            seen,
+            slip,
+        } = &mut self.b;
+        let answer = feed(&mut self.feed, desk, sheet, seen, slip, piece, &mut record);
         (answer, record)
     }
     fn end(&mut self) -> (u8, u64) {
         let mut record = 99;
-        let Bench { desk, sheet, slip } = &mut self.b;
-        let answer = feed_end(&mut self.feed, desk, sheet, slip, &mut record);
+        let Bench {
+            desk,
+            sheet,
+            seen,
+            slip,
+        } = &mut self.b;
+        let answer = feed_end(&mut self.feed, desk, sheet, seen, slip, &mut record);
         (answer, record)
     }
     /// Further pieces and end calls all give this and change nothing.
     fn stands(&self, answer: u8, number: u64) {
         let mut copy = self.clone();
-        for piece in [&[][..], &[0x4C], &take(0, 0, E), &log(1, &p2_records()), &[0xFF; 40]] {
+        for piece in [
+            &[][..],
+            &[0x4C],
+            &take(0, 0, E),
+            &log(1, &p2_records()),
+            &[0xFF; 40],
+        ] {
             assert_eq!(copy.feed(piece), (answer, number));
             assert_eq!(&copy, self);
             assert_eq!(copy.end(), (answer, number));
@@ -2529,15 +3596,39 @@ struct Whole<'a> {
 
 impl<'a> Whole<'a> {
     fn new(b: &'a Bench, log: &'a [u8]) -> Whole<'a> {
-        Whole { b, log, told: vec![None; log.len() + 1] }
+        Whole {
+            b,
+            log,
+            told: vec![None; log.len() + 1],
+        }
     }
     fn upto(&mut self, length: usize) -> &[((u8, u64), Bench); 2] {
         let (b, log) = (self.b, self.log);
         self.told[length].get_or_insert_with(|| {
             [false, true].map(|ended| {
-                let Bench { mut desk, mut sheet, mut slip } = b.clone();
-                let told = whole_log(&log[..length], &mut desk, &mut sheet, &mut slip, ended);
-                (told, Bench { desk, sheet, slip })
+                let Bench {
+                    mut desk,
+                    mut sheet,
+                    mut seen,
+                    mut slip,
+                } = b.clone();
+                let told = whole_log(
+                    &log[..length],
+                    &mut desk,
+                    &mut sheet,
+                    &mut seen,
+                    &mut slip,
+                    ended,
+                );
+                (
+                    told,
+                    Bench {
+                        desk,
+                        sheet,
+                        seen,
+                        slip,
+                    },
+                )
             })
         })
     }
@@ -2555,11 +3646,19 @@ impl<'a> Whole<'a> {
         for &to in cuts.iter().chain([&log.len()]) {
             let [so_far, ended] = self.upto(to);
             let told = fed.feed(&log[from..to]);
-            assert_eq!((told, &fed.b), (so_far.0, &so_far.1), "{log:?} cut at {cuts:?}");
+            assert_eq!(
+                (told, &fed.b),
+                (so_far.0, &so_far.1),
+                "{log:?} cut at {cuts:?}"
+            );
             assert_eq!(fed.feed, lies(&log[..to], told));
             let mut end = fed.clone();
             let told = end.end();
-            assert_eq!((told, &end.b), (ended.0, &ended.1), "{log:?} cut at {cuts:?}, ended");
+            assert_eq!(
+                (told, &end.b),
+                (ended.0, &ended.1),
+                "{log:?} cut at {cuts:?}, ended"
+            );
             assert_eq!(end.feed, lies(&log[..to], told));
             if told.0 == 0 {
                 assert_eq!(end, fed);
@@ -2618,8 +3717,14 @@ fn a_fresh_feed() {
 #[test]
 fn the_whole_log_by_hand() {
     let told = |b: &Bench, log: &[u8]| {
-        let Bench { mut desk, mut sheet, mut slip } = b.clone();
-        [false, true].map(|ended| whole_log(log, &mut desk, &mut sheet, &mut slip, ended))
+        let Bench {
+            mut desk,
+            mut sheet,
+            mut seen,
+            mut slip,
+        } = b.clone();
+        [false, true]
+            .map(|ended| whole_log(log, &mut desk, &mut sheet, &mut seen, &mut slip, ended))
     };
     let b = lent_for(8);
     assert_eq!(told(&b, &[]), [(0, 0), (2, 0)]);
@@ -2632,10 +3737,20 @@ fn the_whole_log_by_hand() {
     assert_eq!(told(&b, &log(8, &p2_records())), [(1, 6); 2]);
     assert_eq!(told(&b, &log(8, &p2_records()[..5])), [(0, 5); 2]);
     assert_eq!(told(&b, &log(8, &p2_records())[..39]), [(0, 5), (3, 6)]);
-    assert_eq!(told(&b, &log(8, &[take(0, 8, E), take(0, 9, 9)])), [(4, 1); 2]);
-    assert_eq!(told(&lent(DESK, 64, 24), &log(8, &[])), [(0, 0); 2]);
-    assert_eq!(told(&lent(DESK, 64, 24), &log(8, &[take(0, 0, E)])), [(11, 1); 2]);
-    assert_eq!(told(&lent(DESK, 64, 24), &log(8, &[take(0, 0, E)])[..5]), [(0, 0), (11, 1)]);
+    assert_eq!(
+        told(&b, &log(8, &[take(0, 8, E), take(0, 9, 9)])),
+        [(4, 1); 2]
+    );
+    assert_eq!(told(&lent(DESK, 64, 255, 57), &log(8, &[])), [(2, 0); 2]);
+    assert_eq!(told(&lent(DESK, 64, 256, 56), &log(8, &[])), [(0, 0); 2]);
+    assert_eq!(
+        told(&lent(DESK, 64, 256, 56), &log(8, &[take(0, 0, E)])),
+        [(11, 1); 2]
+    );
+    assert_eq!(
+        told(&lent(DESK, 64, 256, 56), &log(8, &[take(0, 0, E)])[..5]),
+        [(0, 0), (11, 1)]
+    );
 }
 
 #[test]
@@ -2657,41 +3772,103 @@ fn all_cuts_of_short_logs() {
         (log(2, &[]), (0, 0), (0, 0)),
         (log(1, &[]), (0, 0), (0, 0)),
         (log(2, &[take(0, 0, E)]), (0, 1), (0, 1)),
-        (log(2, &[take(0, 0, E), take(0, 1, TR), release(0, 0)]), (0, 3), (0, 3)),
-        (stray(&[take(0, 0, E), take(0, 1, R)], &[0x4C]), (0, 2), (3, 3)),
-        (stray(&[take(0, 0, E), take(0, 1, R)], &[9, 9]), (0, 2), (3, 3)),
+        (
+            log(2, &[take(0, 0, E), take(0, 1, TR), release(0, 0)]),
+            (0, 3),
+            (0, 3),
+        ),
+        (
+            stray(&[take(0, 0, E), take(0, 1, R)], &[0x4C]),
+            (0, 2),
+            (3, 3),
+        ),
+        (
+            stray(&[take(0, 0, E), take(0, 1, R)], &[9, 9]),
+            (0, 2),
+            (3, 3),
+        ),
         (stray(&[take(0, 0, E)], &[0x4C, 0x4B, 0]), (0, 1), (3, 2)),
         (stray(&[take(0, 0, E)], &[0x4C, 0x4B, 0, 9]), (0, 1), (3, 2)),
         (stray(&[], &[0x4C, 0x4B, 0, 0, 0]), (0, 0), (3, 1)),
         // A fault, and records behind it that would be accepted or refused.
         (log(2, &[take(0, 0, E), take(0, 0, E)]), (1, 2), (1, 2)),
-        (log(2, &[take(0, 0, E), take(0, 0, E), take(1, 1, E)]), (1, 2), (1, 2)),
-        (stray(&[take(0, 0, E), take(0, 0, E)], &[0x4C, 0, 0, 0, 0, 0, 1]), (1, 2), (1, 2)),
+        (
+            log(2, &[take(0, 0, E), take(0, 0, E), take(1, 1, E)]),
+            (1, 2),
+            (1, 2),
+        ),
+        (
+            stray(&[take(0, 0, E), take(0, 0, E)], &[0x4C, 0, 0, 0, 0, 0, 1]),
+            (1, 2),
+            (1, 2),
+        ),
         // Refusals, and behind them a good record, a bad one, loose bytes.
-        (stray(&[take(0, 0, E), [0x4B; 6], take(0, 1, E)], &[1, 2]), (3, 2), (3, 2)),
-        (stray(&[[0x4C, 0x4B, 8, 0, 0, 0]], &[0x4C, 0x4B]), (3, 1), (3, 1)),
-        (log(2, &[take(0, 0, E), take(0, 2, E), take(0, 1, E)]), (4, 2), (4, 2)),
-        (log(2, &[take(0, 0, E), release(0, 1), take(0, 1, E)]), (5, 2), (5, 2)),
-        (log(2, &[event(1, EXIT_HARD), take(0, 1, E)]), (6, 1), (6, 1)),
-        (log(2, &[event(1, ENTER_SOFT), take(1, 0, R), event(1, EXIT_SOFT)]), (7, 3), (7, 3)),
+        (
+            stray(&[take(0, 0, E), [0x4B; 6], take(0, 1, E)], &[1, 2]),
+            (3, 2),
+            (3, 2),
+        ),
+        (
+            stray(&[[0x4C, 0x4B, 8, 0, 0, 0]], &[0x4C, 0x4B]),
+            (3, 1),
+            (3, 1),
+        ),
+        (
+            log(2, &[take(0, 0, E), take(0, 2, E), take(0, 1, E)]),
+            (4, 2),
+            (4, 2),
+        ),
+        (
+            log(2, &[take(0, 0, E), release(0, 1), take(0, 1, E)]),
+            (5, 2),
+            (5, 2),
+        ),
+        (
+            log(2, &[event(1, EXIT_HARD), take(0, 1, E)]),
+            (6, 1),
+            (6, 1),
+        ),
+        (
+            log(
+                2,
+                &[event(1, ENTER_SOFT), take(1, 0, R), event(1, EXIT_SOFT)],
+            ),
+            (7, 3),
+            (7, 3),
+        ),
         // A record that is a header, a header that is a record.
-        (stray(&[take(0, 0, E)], &[0x4C, 0x48, 1, 2, 0, 0]), (3, 2), (3, 2)),
+        (
+            stray(&[take(0, 0, E)], &[0x4C, 0x48, 1, 2, 0, 0]),
+            (3, 2),
+            (3, 2),
+        ),
         ([&take(0, 0, E)[..], &log(2, &[])].concat(), (2, 0), (2, 0)),
     ] {
         assert_eq!(all_cuts(&lent_for(2), &log), [told, ended], "{log:?}");
     }
     // P2 with buffers longer than they must be.
-    assert_eq!(all_cuts(&lent(DESK + 3, 9 + 3, 10 + 3), &log(3, &p2_records())), [(1, 6); 2]);
-    // Too short ones: a desk or sheet for opening, a slip for the first record.
+    assert_eq!(
+        all_cuts(
+            &lent(DESK + 3, 9 + 3, 36 + 3, 22 + 3),
+            &log(3, &p2_records())
+        ),
+        [(1, 6); 2]
+    );
+    // Too short ones: a desk or either sheet for opening, a slip for the first record.
     let records = log(2, &[take(0, 0, E), take(0, 1, E)]);
     for (b, answer) in [
-        (lent(DESK - 1, 4, 7), (2, 0)),
-        (lent(0, 4, 7), (2, 0)),
-        (lent(DESK, 3, 7), (2, 0)),
-        (lent(DESK, 0, 7), (2, 0)),
-        (lent(0, 0, 0), (2, 0)),
-        (lent(DESK, 4, 6), (11, 1)),
-        (lent(DESK, 4, 0), (11, 1)),
+        (lent(DESK - 1, 4, 16, 15), (2, 0)),
+        (lent(638, 4, 16, 15), (2, 0)),
+        (lent(0, 4, 16, 15), (2, 0)),
+        (lent(DESK, 3, 16, 15), (2, 0)),
+        (lent(DESK, 0, 16, 15), (2, 0)),
+        (lent(DESK, 4, 15, 15), (2, 0)),
+        (lent(DESK, 4, 4, 15), (2, 0)),
+        (lent(DESK, 4, 0, 15), (2, 0)),
+        (lent(0, 0, 0, 0), (2, 0)),
+        (lent(DESK, 4, 16, 14), (11, 1)),
+        (lent(DESK, 4, 16, 7), (11, 1)),
+        (lent(DESK, 4, 16, 0), (11, 1)),
     ] {
         assert_eq!(all_cuts(&b, &records), [answer; 2]);
     }
@@ -2723,7 +3900,8 @@ fn random_logs_in_random_pieces() {
     let mut longest = 0;
     for round in 0..6_000u64 {
         let k = 1 + dice.under(if round % 10 == 0 { 64 } else { 6 });
-        let modes: &[u8] = [&MODES[..], &[R], &[R, R, R, NR, TRR], &[TE, TR, TRR]][round as usize % 4];
+        let modes: &[u8] =
+            [&MODES[..], &[R], &[R, R, R, NR, TRR], &[TE, TR, TRR]][round as usize % 4];
         let mut bytes = log(k as u8, &[]);
         let mut ahead = Bench::new(k as usize);
         for _ in 0..dice.under(80) {
@@ -2737,7 +3915,11 @@ fn random_logs_in_random_pieces() {
         }
         match dice.under(8) {
             0 => bytes.truncate(dice.under(bytes.len() as u64 + 1) as usize),
-            1 => bytes.extend([0x4C, 0x4B, 0, 0, 0].iter().take(1 + dice.under(5) as usize)),
+            1 => bytes.extend(
+                [0x4C, 0x4B, 0, 0, 0]
+                    .iter()
+                    .take(1 + dice.under(5) as usize),
+            ),
             2 => {
                 let at = dice.under(bytes.len() as u64) as usize;
                 bytes[at] ^= 1 << dice.under(8);
@@ -2747,9 +3929,10 @@ fn random_logs_in_random_pieces() {
         }
         let mut b = lent_for(k as usize);
         match dice.under(40) {
-            0 => b.desk.truncate(637),
+            0 => b.desk.truncate(641),
             1 => b.sheet.truncate(b.sheet.len() - 1),
             2 => b.slip.truncate(b.slip.len() - 1),
+            3 => b.seen.truncate(b.seen.len() - 1),
             _ => {}
         }
         let mut whole = Whole::new(&b, &bytes);
@@ -2758,14 +3941,17 @@ fn random_logs_in_random_pieces() {
         seen[1][ended.0 as usize] += 1;
         longest = longest.max(ended.1);
         for _ in 0..5 {
-            let mut cuts: Vec<usize> =
-                (0..dice.under(12)).map(|_| dice.under(bytes.len() as u64 + 1) as usize).collect();
+            let mut cuts: Vec<usize> = (0..dice.under(12))
+                .map(|_| dice.under(bytes.len() as u64 + 1) as usize)
+                .collect();
             cuts.sort();
             whole.fed(&cuts);
         }
         // The program has buffers of its own, as long as they need be.
-        if [&b.desk, &b.sheet, &b.slip].map(|x| x.len()) == [DESK, sheet_len(k as usize), slip_len(k as usize)]
-            && bytes.get(3).map_or(true, |&header_k| u64::from(header_k) <= k)
+        if b == lent_for(k as usize)
+            && bytes
+                .get(3)
+                .map_or(true, |&header_k| u64::from(header_k) <= k)
         {
             let text = program(&bytes);
             let verdict = match ended {
@@ -2773,11 +3959,17 @@ fn random_logs_in_random_pieces() {
                 (1, number) => format!("fault at record {number}\n"),
                 (answer, number) => format!("refused {answer} at record {number}\n"),
             };
-            assert!(text.starts_with(&verdict) && (ended.0 == 1 || text == verdict), "{text}{verdict}");
+            assert!(
+                text.starts_with(&verdict) && (ended.0 == 1 || text == verdict),
+                "{text}{verdict}"
+            );
         }
     }
     for answer in [0, 1, 2, 3, 4, 5, 6, 7, 11] {
-        assert!(seen[0][answer] > 10 && seen[1][answer] > 10, "answer {answer}: {seen:?}");
+        assert!(
+            seen[0][answer] > 10 && seen[1][answer] > 10,
+            "answer {answer}: {seen:?}"
+        );
     }
     assert!(longest > 50, "{longest} records");
 }
@@ -2816,14 +4008,20 @@ fn the_header_is_judged_when_complete() {
         assert_eq!(fed.feed(&header[3..]), (0, 0));
         assert_eq!(fed.feed, [vec![0, 1], vec![0; 14], vec![0xA5; 4]].concat());
         let mut after = before.clone();
-        assert_eq!(open(header[3].into(), &mut after.desk, &mut after.sheet), 0);
+        assert_eq!(after.open(header[3].into()), 0);
         assert_eq!(fed.b, after);
     }
 }
 
 #[test]
 fn records_are_judged_when_complete() {
-    for record in [take(0, 1, E), take(0, 8, E), release(0, 1), [0; 6], [0xFF; 6]] {
+    for record in [
+        take(0, 1, E),
+        take(0, 8, E),
+        release(0, 1),
+        [0; 6],
+        [0xFF; 6],
+    ] {
         let mut fed = Fed::new(lent_for(8));
         assert_eq!(fed.feed(&log(8, &[take(1, 0, E)])), (0, 1));
         let mut after = fed.b.clone();
@@ -2836,7 +4034,10 @@ fn records_are_judged_when_complete() {
         let answer = after.step(&record);
         assert_eq!(fed.feed(&record[5..]), (answer, 2));
         assert_eq!(fed.b, after);
-        assert_eq!(fed.feed, [&[answer, 1, 0, 0, 0, 0, 0, 0, 2][..], &[0; 7], &[0xA5; 4]].concat());
+        assert_eq!(
+            fed.feed,
+            [&[answer, 1, 0, 0, 0, 0, 0, 0, 2][..], &[0; 7], &[0xA5; 4]].concat()
+        );
     }
 }
 
@@ -2845,12 +4046,15 @@ fn opening_by_the_header() {
     for k in 1..=64usize {
         let header = log(k as u8, &[]);
         let mut after = lent_for(k);
-        assert_eq!(open(k as u64, &mut after.desk, &mut after.sheet), 0);
+        assert_eq!(after.open(k as u64), 0);
         // The slip isn't looked at.
         for slip in [0, slip_len(k) - 1, slip_len(k)] {
-            let mut fed = Fed::new(lent(DESK, sheet_len(k), slip));
+            let mut fed = Fed::new(lent(DESK, sheet_len(k), seen_len(k), slip));
             assert_eq!(fed.feed(&header), (0, 0));
-            assert_eq!((&fed.b.desk, &fed.b.sheet), (&after.desk, &after.sheet));
+            assert_eq!(
+                (&fed.b.desk, &fed.b.sheet, &fed.b.seen),
+                (&after.desk, &after.sheet, &after.seen)
+            );
             assert_eq!(fed.b.slip, vec![0xA5; slip]);
             assert_eq!(fed.end(), (0, 0));
             if slip < slip_len(k) {
@@ -2860,11 +4064,21 @@ fn opening_by_the_header() {
                 fed.stands(11, 1);
             }
         }
-        for b in [lent(DESK - 1, sheet_len(k), 0), lent(DESK, sheet_len(k) - 1, 0)] {
+        for b in [
+            lent(DESK - 1, sheet_len(k), seen_len(k), 0),
+            lent(DESK, sheet_len(k) - 1, seen_len(k), 0),
+            lent(DESK, sheet_len(k), seen_len(k) - 1, 0),
+        ] {
             let mut fed = Fed::new(b.clone());
             assert_eq!(fed.feed(&header[..3]), (0, 0));
             assert_eq!(fed.feed(&[&header[3..], &take(0, 0, E)].concat()), (2, 0));
-            assert_eq!(fed, Fed { feed: lies(&header, (2, 0)), b });
+            assert_eq!(
+                fed,
+                Fed {
+                    feed: lies(&header, (2, 0)),
+                    b
+                }
+            );
             fed.stands(2, 0);
         }
     }
@@ -2873,11 +4087,15 @@ fn opening_by_the_header() {
     let (mut closed, mut unfit) = (used.clone(), used.clone());
     closed.desk[1] = 1;
     unfit.sheet.fill(255);
+    unfit.seen.fill(255);
     for b in [used, closed, unfit] {
         let mut fed = Fed::new(b);
         assert_eq!(fed.feed(&log(8, &[])), (0, 0));
         let fresh = Bench::new(8);
-        assert_eq!((&fed.b.desk, &fed.b.sheet), (&fresh.desk, &fresh.sheet));
+        assert_eq!(
+            (&fed.b.desk, &fed.b.sheet, &fed.b.seen),
+            (&fresh.desk, &fresh.sheet, &fresh.seen)
+        );
     }
 }
 
@@ -2894,6 +4112,7 @@ fn nothing_after_the_stop() {
         &(|_: &mut Bench| ()) as &dyn Fn(&mut Bench),
         &|b| b.desk.clear(),
         &|b| b.sheet.clear(),
+        &|b| b.seen.clear(),
         &|b| b.slip.clear(),
         &|b| b.desk[1] = 0,
         &|b| b.desk[0] = 0,
@@ -2904,14 +4123,14 @@ fn nothing_after_the_stop() {
         changed.stands(1, 6);
     }
     // Every answer that can stand.
-    for answer in [1, 3, 4, 5, 6, 7, 8, 10, 11] {
+    for answer in [1, 3, 4, 5, 6, 7, 8, 9, 10, 11] {
         for number in [1, 2, 256, 1 << 63, u64::MAX] {
-            for b in [Bench::new(2), lent(0, 0, 0), lent_for(2)] {
+            for b in [Bench::new(2), lent(0, 0, 0, 0), lent_for(2)] {
                 Fed::lying(answer, 1, 0, [0; 5], number, b).stands(answer, number);
             }
         }
     }
-    for b in [Bench::new(2), lent(0, 0, 0), lent_for(2)] {
+    for b in [Bench::new(2), lent(0, 0, 0, 0), lent_for(2)] {
         Fed::lying(2, 0, 0, [0; 5], 0, b).stands(2, 0);
     }
 }
@@ -2931,7 +4150,14 @@ fn an_end_between_records() {
     }
     assert_eq!(fed.end(), (1, 6));
     // With no loose bytes the bench isn't looked at.
-    for b in [lent(0, 0, 0), lent_for(2), Bench { desk: vec![255; DESK], ..lent_for(2) }] {
+    for b in [
+        lent(0, 0, 0, 0),
+        lent_for(2),
+        Bench {
+            desk: vec![255; DESK],
+            ..lent_for(2)
+        },
+    ] {
         let mut fed = Fed::lying(0, 1, 0, [0; 5], 77, b);
         let before = fed.clone();
         assert_eq!(fed.end(), (0, 77));
@@ -2944,7 +4170,7 @@ fn an_end_in_the_header() {
     let good = log(8, &[take(0, 0, E)]);
     for start in [&good[..3], &[0, 0, 0]] {
         for length in 0..4 {
-            for b in [lent_for(8), lent(0, 0, 0), Bench::new(8)] {
+            for b in [lent_for(8), lent(0, 0, 0, 0), Bench::new(8)] {
                 let mut fed = Fed::new(b.clone());
                 assert_eq!(fed.feed(&start[..length]), (0, 0));
                 assert_eq!(fed.end(), (2, 0));
@@ -2972,14 +4198,25 @@ fn an_end_with_loose_bytes() {
         (changed(&|b| b.desk[1] = 1), 10),
         (changed(&|b| b.desk[1] = 2), 11),
         (changed(&|b| b.desk[0] = 0), 11),
-        (changed(&|b| b.desk.truncate(637)), 11),
+        (changed(&|b| b.desk.truncate(641)), 11),
         (changed(&|b| b.sheet.truncate(63)), 11),
-        (changed(&|b| b.slip.truncate(24)), 11),
-        (changed(&|b| b.sheet[5] = 16), 11),
+        (changed(&|b| b.seen.truncate(255)), 11),
+        (changed(&|b| b.slip.truncate(56)), 11),
+        (changed(&|b| (b.sheet[5], b.seen[20]) = (16, 1)), 11),
+        (changed(&|b| b.sheet[5] = 1), 11),
+        (changed(&|b| b.seen[20] = 1), 11),
+        (changed(&|b| (b.sheet[5], b.seen[20]) = (1, 2)), 11),
+        (changed(&|b| (b.sheet[5], b.seen[20]) = (1, 1)), 3),
+        // 3 before 9.
+        (changed(&|b| b.set_count(u32::MAX)), 3),
         // Closed and unfit: 11 before 10.
-        (changed(&|b| (b.desk[1], b.sheet[5]) = (1, 16)), 11),
+        (
+            changed(&|b| (b.desk[1], b.sheet[5], b.seen[20]) = (1, 16, 1)),
+            11,
+        ),
+        (changed(&|b| (b.desk[1], b.seen[255]) = (1, 1)), 11),
         (changed(&|b| (b.desk[1], b.slip) = (1, vec![])), 11),
-        (lent(0, 0, 0), 11),
+        (lent(0, 0, 0, 0), 11),
     ] {
         for short in [[0x4C, 0x4B, 0, 0, 2], [0xFF; 5], [0; 5]] {
             for length in 1..=5usize {
@@ -2987,7 +4224,10 @@ fn an_end_with_loose_bytes() {
                     let mut fed = Fed::lying(0, 1, 0, [0; 5], number, b.clone());
                     // Kept without a look at the bench.
                     assert_eq!(fed.feed(&short[..length]), (0, number));
-                    assert_eq!(fed.feed[2..8][..1 + length], [&[length as u8], &short[..length]].concat());
+                    assert_eq!(
+                        fed.feed[2..8][..1 + length],
+                        [&[length as u8], &short[..length]].concat()
+                    );
                     assert_eq!(fed.b, b);
                     let named = number.saturating_add(1);
                     assert_eq!(fed.end(), (answer, named));
@@ -3002,7 +4242,8 @@ fn an_end_with_loose_bytes() {
 #[test]
 fn counts_near_the_limit() {
     // From 2^64 - 4 on, one record a piece and all in one.
-    let records = [HARD_OFF, HARD_ON, SOFT_OFF, SOFT_ON, HARD_OFF, HARD_ON].map(|kind| event(2, kind));
+    let records =
+        [HARD_OFF, HARD_ON, SOFT_OFF, SOFT_ON, HARD_OFF, HARD_ON].map(|kind| event(2, kind));
     let start = Fed::lying(0, 1, 0, [0; 5], u64::MAX - 3, Bench::new(2));
     let mut fed = start.clone();
     for (i, r) in records.iter().enumerate() {
@@ -3016,8 +4257,18 @@ fn counts_near_the_limit() {
     assert_eq!(at_once, fed);
     assert_eq!(at_once.feed(&[]), (0, u64::MAX));
     // The record that gets an answer but 0 counts too, and at the limit no more.
-    for (before, named) in [(0, 1), (u64::MAX - 2, u64::MAX - 1), (u64::MAX - 1, u64::MAX), (u64::MAX, u64::MAX)] {
-        for (record, answer) in [([0; 6], 3), (take(0, 2, E), 4), (event(0, EXIT_HARD), 6), (release(0, 0), 5)] {
+    for (before, named) in [
+        (0, 1),
+        (u64::MAX - 2, u64::MAX - 1),
+        (u64::MAX - 1, u64::MAX),
+        (u64::MAX, u64::MAX),
+    ] {
+        for (record, answer) in [
+            ([0; 6], 3),
+            (take(0, 2, E), 4),
+            (event(0, EXIT_HARD), 6),
+            (release(0, 0), 5),
+        ] {
             let mut fed = Fed::lying(0, 1, 1, [record[0], 0, 0, 0, 0], before, Bench::new(2));
             assert_eq!(fed.feed(&record[1..]), (answer, named));
             assert_eq!(fed, Fed::lying(answer, 1, 0, [0; 5], named, Bench::new(2)));
@@ -3041,23 +4292,46 @@ fn each_clause_of_the_unfit_feed() {
         assert_eq!(unfit_feed(&fed.feed), Some(clause), "{:?}", fed.feed);
         fed.stands(11, 0);
         // A desk that is closed, unfit, short: all the same.
-        for b in [lent(0, 0, 0), lent_for(8), Bench { desk: [&[8, 1][..], &[0; 636]].concat(), ..lent_for(8) }] {
+        for b in [
+            lent(0, 0, 0, 0),
+            lent_for(8),
+            Bench {
+                desk: [&[8, 1][..], &[0; 640]].concat(),
+                ..lent_for(8)
+            },
+        ] {
             Fed { b, ..fed.clone() }.stands(11, 0);
         }
         if !met.contains(&clause) {
             met.push(clause);
         }
     };
-    let lying = |answer, opened, kept, loose, number| Fed::lying(answer, opened, kept, loose, number, Bench::new(8));
+    let lying = |answer, opened, kept, loose, number| {
+        Fed::lying(answer, opened, kept, loose, number, Bench::new(8))
+    };
     let fit = |fed: &Fed| assert_eq!(unfit_feed(&fed.feed), None, "{:?}", fed.feed);
 
-    for fed in [lying(0, 0, 0, [0; 5], 0), lying(2, 0, 0, [0; 5], 0), lying(0, 1, 2, [1, 2, 0, 0, 0], 5), lying(4, 1, 0, [0; 5], 9)] {
+    for fed in [
+        lying(0, 0, 0, [0; 5], 0),
+        lying(2, 0, 0, [0; 5], 0),
+        lying(0, 1, 2, [1, 2, 0, 0, 0], 5),
+        lying(4, 1, 0, [0; 5], 9),
+    ] {
         fit(&fed);
         for length in 0..16 {
-            violate(FEED_CLAUSES[0], &Fed { feed: fed.feed[..length].to_vec(), ..fed.clone() });
+            violate(
+                FEED_CLAUSES[0],
+                &Fed {
+                    feed: fed.feed[..length].to_vec(),
+                    ..fed.clone()
+                },
+            );
         }
         for length in 16..20 {
-            fit(&Fed { feed: fed.feed[..length].to_vec(), ..fed.clone() });
+            fit(&Fed {
+                feed: fed.feed[..length].to_vec(),
+                ..fed.clone()
+            });
         }
         for opened in 2..=255 {
             let mut other = fed.clone();
@@ -3103,7 +4377,7 @@ fn each_clause_of_the_unfit_feed() {
         if kept <= 3 {
             violate(FEED_CLAUSES[4], &lying(2, 0, kept, [0; 5], 0));
         }
-        for answer in [1, 3, 4, 5, 6, 7, 8, 10, 11] {
+        for answer in [1, 3, 4, 5, 6, 7, 8, 9, 10, 11] {
             violate(FEED_CLAUSES[4], &lying(answer, 1, kept, [0; 5], 1));
         }
     }
@@ -3115,7 +4389,7 @@ fn each_clause_of_the_unfit_feed() {
             violate(FEED_CLAUSES[5], &before);
         }
         let after = lying(answer, 1, 0, [0; 5], 1);
-        if [0, 1, 3, 4, 5, 6, 7, 8, 10, 11].contains(&answer) {
+        if [0, 1, 3, 4, 5, 6, 7, 8, 9, 10, 11].contains(&answer) {
             fit(&after);
         } else {
             violate(FEED_CLAUSES[7], &after);
@@ -3123,14 +4397,17 @@ fn each_clause_of_the_unfit_feed() {
     }
     for number in (0..64).map(|bit| 1 << bit).chain([u64::MAX]) {
         violate(FEED_CLAUSES[6], &lying(0, 0, 0, [0; 5], number));
-        violate(FEED_CLAUSES[6], &lying(0, 0, 3, [0x4C, 0x48, 1, 0, 0], number));
+        violate(
+            FEED_CLAUSES[6],
+            &lying(0, 0, 3, [0x4C, 0x48, 1, 0, 0], number),
+        );
         violate(FEED_CLAUSES[6], &lying(2, 0, 0, [0; 5], number));
-        for answer in [0, 1, 3, 4, 5, 6, 7, 8, 10, 11] {
+        for answer in [0, 1, 3, 4, 5, 6, 7, 8, 9, 10, 11] {
             fit(&lying(answer, 1, 0, [0; 5], number));
         }
         fit(&lying(0, 1, 5, [255; 5], number));
     }
-    for answer in [1, 3, 4, 5, 6, 7, 8, 10, 11] {
+    for answer in [1, 3, 4, 5, 6, 7, 8, 9, 10, 11] {
         violate(FEED_CLAUSES[8], &lying(answer, 1, 0, [0; 5], 0));
     }
     fit(&lying(0, 1, 0, [0; 5], 0));
@@ -3157,7 +4434,7 @@ fn fit_shape(feed: &[u8]) -> bool {
         (0, 1, 3, [_, _, _, 0, 0]) => true,
         (0, 1, 4, [_, _, _, _, 0]) => true,
         (0, 1, 5, _) => true,
-        (1 | 3..=8 | 10 | 11, 1, 0, [0, 0, 0, 0, 0]) => !zero,
+        (1 | 3..=11, 1, 0, [0, 0, 0, 0, 0]) => !zero,
         _ => false,
     }
 }
@@ -3171,7 +4448,7 @@ fn fit_feeds_by_their_shapes() {
                 for pattern in 0..32u8 {
                     for number in [0, 1, 256, u64::MAX] {
                         let loose = [0, 1, 2, 3, 4].map(|i| (pattern >> i & 1) * 0x4C);
-                        let fed = Fed::lying(answer, opened, kept, loose, number, lent(0, 0, 0));
+                        let fed = Fed::lying(answer, opened, kept, loose, number, lent(0, 0, 0, 0));
                         let fit = fit_shape(&fed.feed);
                         assert_eq!(unfit_feed(&fed.feed).is_none(), fit, "{:?}", fed.feed);
                         if fit {
@@ -3197,15 +4474,19 @@ fn any_bytes_at_all() {
     let mut unfits = 0;
     for _ in 0..60_000 {
         let mut b = match dice.under(4) {
-            0 => lent(dice.under(700) as usize, dice.under(30) as usize, dice.under(20) as usize),
+            0 => {
+                let [desk, sheet, seen, slip] = [700, 30, 100, 40].map(|n| dice.under(n) as usize);
+                lent(desk, sheet, seen, slip)
+            }
             1 => lent_for(3),
             _ => Bench::new(3),
         };
         if dice.under(3) == 0 {
             for _ in 0..1 + dice.under(3) {
-                let buffer = match dice.under(8) {
+                let buffer = match dice.under(9) {
                     0 => &mut b.sheet,
                     1 => &mut b.slip,
+                    2 => &mut b.seen,
                     _ => &mut b.desk,
                 };
                 if !buffer.is_empty() {
@@ -3213,19 +4494,44 @@ fn any_bytes_at_all() {
                     buffer[at] = dice.under(4) as u8;
                 }
             }
+            if dice.under(2) == 0
+                && b.desk.get(0) == Some(&3)
+                && b.desk.len() >= 642
+                && b.seen.len() >= 36
+            {
+                b.set_count([1, 2, 3, 0x0403_0201, u32::MAX - 1, u32::MAX][dice.under(6) as usize]);
+                for pair in 0..9 {
+                    if b.sheet[pair] != 0 || dice.under(40) == 0 {
+                        b.seen[4 * pair] = dice.under(3) as u8;
+                    }
+                }
+            }
         }
-        let answer = if dice.under(3) == 0 { dice.under(13) as u8 } else { 0 };
+        let answer = if dice.under(3) == 0 {
+            dice.under(13) as u8
+        } else {
+            0
+        };
         let opened = u8::from(dice.under(4) != 0);
         let kept = if answer == 0 { dice.under(7) as u8 } else { 0 };
         let stream: Vec<u8> = match dice.under(4) {
             0 => (0..dice.under(40)).map(|_| dice.next() as u8).collect(),
-            1 => log(dice.under(5) as u8, &[take(0, 1, E), take(0, 2, E), take(0, 1, E)]),
-            _ => (0..1 + dice.under(5)).flat_map(|_| random_record(&mut dice, 3, &MODES)).collect(),
+            1 => log(
+                dice.under(5) as u8,
+                &[take(0, 1, E), take(0, 2, E), take(0, 1, E)],
+            ),
+            _ => (0..1 + dice.under(5))
+                .flat_map(|_| random_record(&mut dice, 3, &MODES))
+                .collect(),
         };
         let kept_here = stream.len().min(usize::from(kept)).min(5);
         let mut loose = [0; 5];
         loose[..kept_here].copy_from_slice(&stream[..kept_here]);
-        let number = if opened == 0 { 0 } else { dice.next() >> dice.under(64) };
+        let number = if opened == 0 {
+            0
+        } else {
+            dice.next() >> dice.under(64)
+        };
         let mut fed = Fed::lying(answer, opened, kept_here as u8, loose, number, b);
         if dice.under(10) == 0 {
             fed.feed[dice.under(20) as usize] = dice.next() as u8;
@@ -3262,7 +4568,7 @@ fn any_bytes_at_all() {
                 }
                 answer = 2;
                 if item.len() == 4 && item[..3] == [0x4C, 0x48, 1] {
-                    answer = open(item[3].into(), &mut expected.b.desk, &mut expected.b.sheet);
+                    answer = expected.b.open(item[3].into());
                 }
                 opened = u8::from(answer == 0);
             }
@@ -3272,10 +4578,22 @@ fn any_bytes_at_all() {
             let mut loose = [0; 5];
             loose[..row.len()].copy_from_slice(&row);
             let past = before.feed[16..].to_vec();
-            expected.feed = Fed::lying(answer, opened, row.len() as u8, loose, number, lent(0, 0, 0)).feed;
+            expected.feed = Fed::lying(
+                answer,
+                opened,
+                row.len() as u8,
+                loose,
+                number,
+                lent(0, 0, 0, 0),
+            )
+            .feed;
             expected.feed.truncate(16);
             expected.feed.extend(past);
-            assert_eq!((told, &fed), ((answer, number), &expected), "{before:?} {piece:?}");
+            assert_eq!(
+                (told, &fed),
+                ((answer, number), &expected),
+                "{before:?} {piece:?}"
+            );
             assert!(fit_shape(&fed.feed));
             if !ended {
                 told = fed.end();
@@ -3287,7 +4605,7 @@ fn any_bytes_at_all() {
         }
     }
     assert!(unfits > 3_000, "{unfits} unfit");
-    for answer in [0, 1, 2, 3, 4, 5, 6, 7, 8, 10, 11] {
+    for answer in 0..12 {
         assert!(seen[answer] > 20, "answer {answer}: {seen:?}");
     }
 }
@@ -3302,11 +4620,18 @@ fn a_bench_written_meanwhile() {
         (&(|_: &mut Bench| ()) as &dyn Fn(&mut Bench), 0),
         (&|b| b.desk[1] = 1, 10),
         (&|b| b.desk[1] = 2, 11),
-        (&|b| b.desk.truncate(637), 11),
+        (&|b| b.desk.truncate(641), 11),
         (&|b| b.sheet.truncate(63), 11),
-        (&|b| b.slip.truncate(24), 11),
+        (&|b| b.seen.truncate(255), 11),
+        (&|b| b.slip.truncate(56), 11),
         (&|b| b.desk[0] = 2, 4),
-        (&|b| b.sheet[2 * 8 + 1] = EN, 1),
+        (&|b| b.sheet[2 * 8 + 1] = EN, 11),
+        (&|b| b.set_number(2, 1, 1), 11),
+        (&|b| (b.sheet[2 * 8 + 1], b.seen[4 * 17]) = (EN, 2), 11),
+        (&|b| (b.sheet[2 * 8 + 1], b.seen[4 * 17]) = (EN, 1), 1),
+        (&|b| b.set_count(u32::MAX), 9),
+        (&|b| b.set_count(u32::MAX - 1), 0),
+        (&|b| b.set_count(0), 0),
     ] {
         let mut fed = start.clone();
         change(&mut fed.b);
@@ -3327,6 +4652,1174 @@ fn a_bench_written_meanwhile() {
     assert_eq!(start.feed(&log(8, &[take(0, 2, E)])), (3, 2));
 }
 
+// --------------------------------------------------------- where first seen
+
+/// A fit bench that didn't come from opening, with this count.
+fn at_count(k: usize, count: u32) -> Bench {
+    let mut b = Bench::new(k);
+    b.set_count(count);
+    assert_eq!(b.unfit(), None);
+    b
+}
+
+#[test]
+fn accepted_records_are_counted_and_no_others() {
+    let mut b = Bench::new(3);
+    assert_eq!((b.count(), &b.desk[638..]), (0, &[0, 0, 0, 0][..]));
+    let mut accepted = 0;
+    let mut place = 0;
+    let mut next = |record: &[u8], answer: u8| {
+        place += 1;
+        let before = b.clone();
+        assert_eq!(b.step(record), answer, "record {place}");
+        if answer > 1 {
+            assert_eq!(b, before);
+        } else {
+            accepted += 1;
+        }
+        assert_eq!(b.desk[638..642], [accepted, 0, 0, 0], "record {place}");
+        (b.number(1, 2), b.number(2, 1))
+    };
+    assert_eq!(next(&[], 3), (0, 0));
+    next(&take(0, 3, E), 4);
+    next(&release(0, 1), 5);
+    next(&event(0, EXIT_HARD), 6);
+    // The first accepted has the number 1.
+    assert_eq!(next(&take(0, 1, E), 0), (0, 0));
+    next(&[0; 6], 3);
+    next(&release(0, 2), 5);
+    // The second, eighth in the list.
+    assert_eq!(next(&take(0, 2, E), 0), (2, 0));
+    // Each of the ten kinds counts, those that change nothing too, and a try.
+    for kind in [
+        HARD_ON, SOFT_ON, HARD_OFF, HARD_ON, SOFT_OFF, SOFT_ON, ENTER_SOFT, ENTER_HARD,
+    ] {
+        next(&event(1, kind), 0);
+    }
+    next(&take(1, 0, TRR), 0);
+    next(&event(1, EXIT_HARD), 7);
+    next(&release(1, 0), 0);
+    next(&event(1, EXIT_HARD), 0);
+    next(&event(1, EXIT_SOFT), 0);
+    for _ in 0..20 {
+        next(&take(2, 0, R), 0);
+    }
+    next(&take(2, 0, R), 8);
+    assert_eq!(next(&take(3, 2, R), 0), (2, 0));
+    // The record answered 1 is accepted, and has a number.
+    assert_eq!(next(&take(3, 1, R), 1), (2, 36));
+    // On the closed desk no more are.
+    assert_eq!(next(&take(4, 1, E), 10), (2, 36));
+    assert_eq!(next(&[], 10), (2, 36));
+    assert_eq!(b.count(), 36);
+    assert_eq!(
+        b.slip[..15],
+        [2, 1, EN, 0, 2, 0, 0, 0, 2, SR, 0, 36, 0, 0, 0]
+    );
+}
+
+#[test]
+fn numbers_of_the_logs() {
+    // By hand; each log also with a refused record before every record and at the end.
+    let task = |core, a, ma, b, mb| [take(core, a, ma), take(core, b, mb)];
+    let p9 = vec![
+        take(0, 0, E),
+        take(0, 1, R),
+        take(0, 2, E),
+        take(1, 2, E),
+        take(1, 0, E),
+    ];
+    let p10 = vec![
+        take(0, 3, E),
+        release(0, 3),
+        event(0, ENTER_HARD),
+        take(0, 3, E),
+    ];
+    let p11 = vec![
+        event(0, ENTER_HARD),
+        take(0, 4, E),
+        release(0, 4),
+        event(0, EXIT_HARD), //
+        event(0, HARD_OFF),
+        take(0, 4, E),
+        take(0, 5, E),
+        release(0, 5),
+        release(0, 4), //
+        event(0, HARD_ON),
+        take(0, 5, E),
+    ];
+    let p12 = vec![
+        take(0, 6, E),
+        release(0, 6),
+        event(0, ENTER_SOFT),
+        take(0, 6, E),
+    ];
+    let none = vec![(0, 0, 0)];
+    type Arrows = Vec<(u8, u8, u8, u32)>;
+    let logs: [(&str, Vec<Rec>, Arrows, Vec<(usize, usize, u32)>); 9] = [
+        (
+            "P2",
+            p2_records().to_vec(),
+            vec![(1, EN, 0, 2), (2, EN, 0, 6)],
+            vec![(1, 2, 2), (2, 1, 6)],
+        ),
+        (
+            "P3",
+            [task(0, 0, R, 1, E), task(1, 1, R, 0, E)].concat(),
+            vec![(0, SN, 0, 2), (1, SN, 0, 4)],
+            vec![(0, 1, 2), (1, 0, 4)],
+        ),
+        (
+            "P5",
+            [task(0, 0, E, 1, R), task(1, 1, E, 0, R)].concat(),
+            vec![(0, ER, 0, 2), (1, ER, 0, 4)],
+            vec![(0, 1, 2), (1, 0, 4)],
+        ),
+        (
+            "P7",
+            task(0, 0, R, 0, NR).to_vec(),
+            vec![(0, SN, 0, 2)],
+            vec![(0, 0, 2)],
+        ),
+        (
+            "P8",
+            task(0, 0, E, 0, R).to_vec(),
+            vec![(0, ER, 0, 2)],
+            vec![(0, 0, 2)],
+        ),
+        (
+            "P9",
+            p9,
+            vec![(0, EN, 0, 3), (2, EN, 0, 5)],
+            vec![(0, 1, 2), (0, 2, 3), (1, 2, 3), (2, 0, 5)],
+        ),
+        ("P10", p10, vec![(3, EN, 1, 0)], none.clone()),
+        (
+            "P11",
+            p11,
+            vec![(4, EN, 0, 7), (5, EN, 1, 0)],
+            vec![(4, 5, 7)],
+        ),
+        ("P12", p12, vec![(6, EN, 2, 0)], none),
+    ];
+    for (name, records, arrows, numbers) in logs {
+        for refused in [
+            None,
+            Some(vec![]),
+            Some(take(7, 8, E).to_vec()),
+            Some(release(7, 0).to_vec()),
+        ] {
+            let mut list: Vec<Vec<u8>> = Vec::new();
+            for r in &records {
+                list.extend(refused.clone());
+                list.push(r.to_vec());
+            }
+            list.extend(refused.clone());
+            let mut b = Bench::new(8);
+            let answers: Vec<u8> = list
+                .iter()
+                .map(|r| b.step(r))
+                .filter(|&answer| answer < 3)
+                .collect();
+            assert_eq!(
+                answers,
+                [vec![0; records.len() - 1], vec![1]].concat(),
+                "{name}"
+            );
+            assert_eq!(b.count() as usize, records.len(), "{name}");
+            let mut expected = vec![0; 64];
+            for &(from, to, number) in &numbers {
+                expected[8 * from + to] = number;
+            }
+            assert_eq!(b.seen, bytes_of(&expected), "{name}");
+            assert_eq!(first_seen(8, &list), Some(expected), "{name}");
+            let shown = entries(&arrows);
+            assert_eq!(
+                b.slip,
+                [&shown[..], &vec![0xA5; 57 - shown.len()]].concat(),
+                "{name}"
+            );
+        }
+    }
+}
+
+#[test]
+fn a_later_kind_keeps_the_number() {
+    // 1 and then 2 by records 1 and 2, then by 5 and 6, in all modes: pair 1, 2 has one
+    // or two kinds and the number 2, whichever came first.
+    let kind = |older, newer| match (older == E, newer == R) {
+        (true, true) => ER,
+        (true, false) => EN,
+        (false, true) => SR,
+        (false, false) => SN,
+    };
+    let mut shown_later = 0;
+    for (a, b, c, d) in (0..81).map(|i| (i % 3, i / 3 % 3, i / 9 % 3, i / 27)) {
+        let mut bench =
+            Bench::new(3).clean(&[take(0, 1, a), take(0, 2, b), release(0, 2), release(0, 1)]);
+        bench = bench.clean(&[take(0, 1, c), take(0, 2, d), release(0, 2), release(0, 1)]);
+        assert_eq!(bench.sheet[5], kind(a, b) | kind(c, d));
+        let mut seen = vec![0; 36];
+        seen[4 * 5] = 2;
+        assert_eq!(bench.seen, seen);
+        // 2 EN 1 closes it: the slip shows the least kind, with the number 2 all the same.
+        let mut bench = bench.clean(&[take(1, 2, E)]);
+        assert_eq!(bench.step(&take(1, 1, E)), 1);
+        let least = kind(a, b).min(kind(c, d));
+        assert_eq!(
+            bench.slip[..15],
+            entries(&[(1, least, 0, 2), (2, EN, 0, 10)])
+        );
+        shown_later += usize::from(least != kind(a, b));
+    }
+    assert!(shown_later > 20);
+    // A try of one class beside it: two kinds of one pair by one record.
+    let b = Bench::new(3).clean(&[take(0, 1, E), take(0, 1, TRR), take(0, 2, E)]);
+    assert_eq!((b.sheet[5], b.number(1, 2)), (EN | SN, 3));
+    // By another core, and in a handler.
+    let b = b.clean(&[event(1, HARD_OFF), take(1, 1, NR), take(1, 2, R)]);
+    assert_eq!(
+        (b.sheet[5], b.number(1, 2), b.count()),
+        (EN | SN | SR, 3, 6)
+    );
+    let b = Bench::new(3).clean(&[
+        event(1, HARD_OFF),
+        take(1, 1, NR),
+        take(1, 2, R),
+        event(0, ENTER_HARD),
+    ]);
+    let b = b.clean(&[take(0, 1, E), take(0, 2, R)]);
+    assert_eq!((b.sheet[5], b.number(1, 2), b.count()), (SR | ER, 3, 6));
+    // A number of any size that stands on a foreign desk.
+    for number in [1, 0x0403_0201, 0x0403_0200, u32::MAX - 9] {
+        let mut b = at_count(3, u32::MAX - 9);
+        b.sheet[5] = SR;
+        b.set_number(1, 2, number);
+        let b = b.clean(&[take(0, 1, E), take(0, 2, E)]);
+        assert_eq!(
+            (b.sheet[5], b.number(1, 2), b.count()),
+            (SR | EN, number, u32::MAX - 7)
+        );
+        let mut b = b.clean(&[take(1, 2, E)]);
+        assert_eq!(b.step(&take(1, 1, E)), 1);
+        assert_eq!(
+            b.slip[..15],
+            entries(&[(1, EN, 0, number), (2, EN, 0, u32::MAX - 5)])
+        );
+    }
+}
+
+#[test]
+fn an_interrupt_arrow_has_no_number() {
+    // 1R in a handler; in the task 0E, and 1E after hard off; the other core takes 1E
+    // and 0E. Pair 0, 1 has 0 EN 1 hold and, by the handler, 0 ER 1, which is shown.
+    for (enter, exit, source) in [(ENTER_HARD, EXIT_HARD, 1), (ENTER_SOFT, EXIT_SOFT, 2)] {
+        let handler: Vec<Rec> = match source {
+            1 => vec![
+                event(0, enter),
+                take(0, 1, R),
+                release(0, 1),
+                event(0, exit),
+            ],
+            _ => vec![
+                event(0, enter),
+                event(0, HARD_OFF),
+                take(0, 1, R),
+                release(0, 1),
+                event(0, HARD_ON),
+                event(0, exit),
+            ],
+        };
+        let mut b = Bench::new(2)
+            .clean(&handler)
+            .clean(&[take(0, 0, E), event(0, HARD_OFF)]);
+        b = b.clean(&[take(0, 1, E), event(1, HARD_OFF), take(1, 1, E)]);
+        let drawn = handler.len() as u32 + 3;
+        assert_eq!(
+            (b.sheet[1], b.number(0, 1), b.count()),
+            (EN, drawn, drawn + 2)
+        );
+        assert_eq!(b.step(&take(1, 0, E)), 1);
+        assert_eq!(
+            b.slip,
+            entries(&[(0, ER, source, 0), (1, EN, 0, drawn + 3)])
+        );
+        assert_eq!(b.number(0, 1), drawn);
+        assert!(b.true_circle(&b.slip));
+    }
+    // By hand: all four bytes are zero, whatever stood in the slip and on the sheet.
+    for (marks, kind, source) in [
+        ([4, 2], ER, 1),
+        ([4 + 64, 32], ER, 2),
+        ([4, 1], EN, 1),
+        ([4 + 64, 16], EN, 2),
+    ] {
+        let mut b = made(
+            2,
+            &[(0, SN, 1), (1, EN, 0)],
+            &[(0, marks[0]), (1, marks[1])],
+        );
+        b.set_count(u32::MAX - 1);
+        b.set_number(0, 1, 0xF1F2_F3F4);
+        b.set_number(1, 0, 0x0403_0201);
+        for rubbish in [0, 0xA5, 0xFF] {
+            let mut b = b.clone();
+            b.slip.fill(rubbish);
+            assert_eq!(b.step(&event(0, HARD_ON)), 1);
+            assert_eq!(
+                b.slip,
+                [2, 0, kind, source, 0, 0, 0, 0, 1, EN, 0, 1, 2, 3, 4]
+            );
+        }
+    }
+    // The same kind by hold: then the pair's number.
+    let mut b = made(2, &[(0, ER, 1), (1, EN, 0)], &[(0, 4), (1, 2)]);
+    b.set_number(0, 1, 0x0102);
+    b.set_number(1, 0, 0x0300);
+    assert_eq!(b.step(&event(0, HARD_ON)), 1);
+    assert_eq!(b.slip, [2, 0, ER, 0, 2, 1, 0, 0, 1, EN, 0, 0, 3, 0, 0]);
+    // One class: a hard arrow, with a number of the pair for SN.
+    let mut b = made(1, &[(0, SN, 0)], &[(0, 4 + 1)]);
+    assert_eq!(b.step(&event(0, HARD_ON)), 1);
+    assert_eq!(b.slip, [1, 0, EN, 1, 0, 0, 0, 0]);
+}
+
+#[test]
+fn the_fault_records_own_number() {
+    for count in [
+        0,
+        1,
+        254,
+        255,
+        256,
+        0xFFFF,
+        0x0403_01FF,
+        0x0403_0200,
+        u32::MAX - 3,
+    ] {
+        // P8: of the two records the second closes it.
+        let mut b = at_count(2, count);
+        assert_eq!([take(5, 1, E), take(5, 1, R)].map(|r| b.step(&r)), [0, 1]);
+        assert_eq!(b.slip[..8], entries(&[(1, ER, 0, count + 2)]));
+        assert_eq!((b.number(1, 1), b.count()), (count + 2, count + 2));
+        assert!(b.slip[8..].iter().all(|&x| x == 0xA5));
+        b.refused(&event(0, HARD_ON), 10);
+        // Two arrows of one record: 0 EN 1 and 2 EN 1 are new with it.
+        let mut b = at_count(3, count).clean(&[take(0, 0, E)]);
+        assert_eq!(b.step(&take(0, 2, TE)), 0);
+        assert_eq!(b.step(&take(0, 1, E)), 0);
+        assert_eq!(
+            (b.number(0, 1), b.number(2, 1), b.number(0, 2)),
+            (count + 3, count + 3, 0)
+        );
+    }
+    // A record's arrows all go to one class, so one of a circle's is its own: 0 EN 2 here,
+    // and not 2 EN 0; 1 EN 2 is its own too, and not shown.
+    let mut b = made(3, &[(2, EN, 0)], &[]);
+    b.set_count(0x8000_0000);
+    b.set_number(2, 0, 0x7FFF_0001);
+    let mut b = b.clean(&[take(0, 0, E), take(0, 1, TE)]);
+    assert_eq!(b.step(&take(0, 2, NR)), 1);
+    assert_eq!(
+        b.slip[..15],
+        entries(&[(0, EN, 0, 0x8000_0003), (2, EN, 0, 0x7FFF_0001)])
+    );
+    assert_eq!(b.number(1, 2), 0x8000_0003);
+}
+
+#[test]
+fn low_byte_first() {
+    let mut b = at_count(2, 0);
+    b.desk[638..642].copy_from_slice(&[0xFF, 1, 3, 4]);
+    assert_eq!(b.step(&take(0, 0, E)), 0);
+    assert_eq!(b.desk[638..642], [0, 2, 3, 4]);
+    assert_eq!(b.step(&take(0, 1, R)), 0);
+    assert_eq!(b.desk[638..642], [1, 2, 3, 4]);
+    assert_eq!(b.seen, [0, 0, 0, 0, 1, 2, 3, 4, 0, 0, 0, 0, 0, 0, 0, 0]);
+    assert_eq!([take(1, 1, E), take(1, 0, E)].map(|r| b.step(&r)), [0, 1]);
+    assert_eq!(b.seen, [0, 0, 0, 0, 1, 2, 3, 4, 3, 2, 3, 4, 0, 0, 0, 0]);
+    assert_eq!(b.slip, [2, 0, ER, 0, 1, 2, 3, 4, 1, EN, 0, 3, 2, 3, 4]);
+    // Carries.
+    for (before, after) in [
+        ([0, 0, 0, 0], [1, 0, 0, 0]),
+        ([255, 0, 0, 0], [0, 1, 0, 0]),
+        ([255, 255, 0, 0], [0, 0, 1, 0]),
+        ([255, 255, 255, 0], [0, 0, 0, 1]),
+        ([255, 255, 255, 127], [0, 0, 0, 128]),
+        ([254, 255, 255, 255], [255, 255, 255, 255]),
+        ([0, 255, 255, 255], [1, 255, 255, 255]),
+    ] {
+        let mut b = Bench::new(2);
+        b.desk[638..642].copy_from_slice(&before);
+        b.desk[10] = 1;
+        b.desk[98] = 1;
+        assert_eq!(b.step(&take(0, 0, R)), 0);
+        assert_eq!(b.desk[638..642], after);
+        assert_eq!(b.seen, [&[0; 8][..], &after, &[0; 4]].concat());
+    }
+}
+
+#[test]
+fn every_pair_has_its_four_bytes() {
+    for k in [1, 2, 3, 8, 33, 63, 64usize] {
+        let mut dice = Dice(0x5EE1_0000 + k as u64);
+        for pair in 0..k * k {
+            if k > 8 && pair != 0 && pair != k * k - 1 && dice.under(k as u64) > 3 {
+                continue;
+            }
+            let (from, to) = (pair / k, pair % k);
+            let count = dice.under((1 << 32) - 4) as u32;
+            let b = at_count(k, count).clean(&[take(3, from as u8, R), take(3, to as u8, R)]);
+            let mut seen = vec![0; 4 * k * k];
+            seen[4 * pair..4 * pair + 4].copy_from_slice(&(count + 2).to_le_bytes());
+            assert_eq!(b.seen, seen);
+            // A try draws nothing there.
+            let b = at_count(k, count).clean(&[take(3, from as u8, R), take(3, to as u8, TRR)]);
+            assert_eq!(b.seen, vec![0; 4 * k * k]);
+        }
+    }
+}
+
+/// A bench of K = 2 with 1R held by core 0, a soft handler on core 1 and a hard one on core
+/// 2, and records that it accepts: of each kind, and takes of all modes.
+fn a_bench_and_what_it_accepts() -> (Bench, Vec<Rec>) {
+    let b = Bench::new(2).clean(&[take(0, 1, R), event(1, ENTER_SOFT), event(2, ENTER_HARD)]);
+    let mut records = vec![
+        release(0, 1),
+        event(0, HARD_ON),
+        event(0, HARD_OFF),
+        event(0, SOFT_ON),
+        event(0, SOFT_OFF), //
+        event(0, ENTER_SOFT),
+        event(1, EXIT_SOFT),
+        event(0, ENTER_HARD),
+        event(2, EXIT_HARD),
+        event(7, HARD_ON),
+    ];
+    for mode in MODES {
+        // Draws nothing in core 3's empty frame, an arrow in core 0's.
+        records.extend([take(3, 0, mode), take(0, 0, mode)]);
+    }
+    (b, records)
+}
+
+#[test]
+fn refusal_9() {
+    let (b, records) = a_bench_and_what_it_accepts();
+    let kinds: std::collections::BTreeSet<u8> = records.iter().map(|r| r[3]).collect();
+    assert_eq!(kinds.len(), 10);
+    // Some that close the desk: 1 EN 1, or a circle that stands.
+    let closing = [take(0, 1, E), take(0, 1, NR)];
+    for count in [3, 0x0403_0201, u32::MAX - 2, u32::MAX - 1, u32::MAX] {
+        let mut b = b.clone();
+        b.set_count(count);
+        let mut circle = b.clone();
+        circle.sheet[0] = EN;
+        circle.set_number(0, 0, count);
+        for (b, records, answer) in [
+            (&b, &records[..], 0),
+            (&b, &closing[..], 1),
+            (&circle, &records[..], 1),
+        ] {
+            assert_eq!(b.unfit(), None);
+            for r in records {
+                if count == u32::MAX {
+                    b.refused(r, 9);
+                    continue;
+                }
+                let mut after = b.clone();
+                assert_eq!(after.step(r), answer, "{r:?}");
+                assert_eq!(after.count(), count + 1);
+                if count == u32::MAX - 1 {
+                    // One more is accepted, and then none.
+                    assert_eq!(after.desk[638..642], [255; 4]);
+                    after.refused(&event(7, HARD_ON), if answer == 0 { 9 } else { 10 });
+                }
+            }
+        }
+        // The question has nothing to do with it.
+        assert_eq!(b.ask(1), (0, 0, 0));
+        assert_eq!(circle.ask(0), (0, 1, 1));
+    }
+}
+
+#[test]
+fn the_highest_number() {
+    // 4,294,967,294 accepted so far: the next draws 0 ER 1 and has the highest number.
+    let mut b = at_count(2, u32::MAX - 2).clean(&[take(0, 0, E), take(0, 1, R)]);
+    assert_eq!(b.desk[638..642], [255; 4]);
+    assert_eq!(b.seen, [[0; 4], [255; 4], [0; 4], [0; 4]].concat());
+    assert_eq!(b.unfit(), None);
+    for r in [
+        release(0, 1),
+        event(0, HARD_OFF),
+        take(1, 1, TE),
+        take(0, 1, R),
+    ] {
+        b.refused(&r, 9);
+    }
+    assert_eq!(b.ask(0), (0, 0b10, 1));
+    // It closes the desk with its own number.
+    b = at_count(1, u32::MAX - 2).clean(&[take(0, 0, E)]);
+    assert_eq!(b.step(&take(0, 0, E)), 1);
+    assert_eq!(b.slip, [1, 0, EN, 0, 255, 255, 255, 255]);
+    b.refused(&event(0, HARD_ON), 10);
+    // A number of 4,294,967,295 stands where the count does too, and nowhere else.
+    let mut b = made(2, &[(0, ER, 1)], &[]);
+    b.set_number(0, 1, u32::MAX);
+    for (count, answer) in [(u32::MAX, 9), (u32::MAX - 1, 11), (1, 11), (0, 11)] {
+        b.set_count(count);
+        b.refused(&event(0, HARD_ON), answer);
+        assert_eq!(
+            b.ask(0),
+            if answer == 9 {
+                (0, 0b10, 1)
+            } else {
+                (11, 0, 0)
+            }
+        );
+    }
+}
+
+#[test]
+fn all_other_refusals_before_9() {
+    let at_the_limit = |mut b: Bench| {
+        b.set_count(u32::MAX);
+        assert_eq!(b.unfit(), None);
+        b
+    };
+    let b = at_the_limit(Bench::new(8).clean(&[take(0, 0, E)]));
+    b.refused(&take(0, 1, E), 9);
+    b.refused(&[], 3);
+    b.refused(&take(0, 1, 6), 3);
+    b.refused(&[&take(0, 1, E)[..], &[0]].concat(), 3);
+    b.refused(&event(8, HARD_ON), 3);
+    b.refused(&take(0, 8, E), 4);
+    b.refused(&release(0, 8), 4);
+    b.refused(&release(0, 1), 5);
+    b.refused(&release(1, 0), 5);
+    b.refused(&release(0, 0), 9);
+    b.refused(&event(0, EXIT_HARD), 6);
+    b.refused(&event(0, EXIT_SOFT), 6);
+    let soft = at_the_limit(Bench::new(8).clean(&[event(0, ENTER_SOFT), take(0, 0, E)]));
+    soft.refused(&event(0, EXIT_SOFT), 7);
+    soft.refused(&event(0, ENTER_SOFT), 6);
+    soft.refused(&event(0, HARD_OFF), 9);
+    let hard = at_the_limit(Bench::new(8).clean(&[event(0, ENTER_HARD), take(0, 0, TE)]));
+    hard.refused(&event(0, EXIT_HARD), 7);
+    hard.refused(&event(1, ENTER_HARD), 9);
+    let full = at_the_limit(Bench::new(8).clean(&[take(0, 0, R); 20]));
+    for mode in MODES {
+        full.refused(&take(0, 1, mode), 8);
+        full.refused(&take(1, 1, mode), 9);
+    }
+    full.refused(&release(0, 0), 9);
+    let mut closed = b.clone();
+    closed.desk[1] = 1;
+    for r in [take(0, 1, E), event(0, HARD_ON), [0; 6], take(0, 8, E)] {
+        closed.refused(&r, 10);
+    }
+    let mut unfit = closed.clone();
+    unfit.sheet[9] = EN;
+    unfit.refused(&take(0, 1, E), 11);
+    unfit.desk[1] = 0;
+    unfit.refused(&take(0, 1, E), 11);
+    unfit.refused(&event(0, HARD_ON), 11);
+    unfit.set_number(1, 1, 1);
+    unfit.refused(&take(0, 1, E), 9);
+}
+
+#[test]
+fn numbers_and_the_count() {
+    // Fit up to the count and itself; unfit 1 above it, and all further up.
+    for count in [
+        1,
+        2,
+        255,
+        256,
+        0xFFFF,
+        0x0403_0201,
+        0x0102_0304,
+        0x8000_0000,
+        u32::MAX - 1,
+        u32::MAX,
+    ] {
+        let mut numbers = vec![
+            1,
+            count - 1,
+            count,
+            count.saturating_add(1),
+            count.saturating_add(2),
+            u32::MAX,
+        ];
+        // The same bytes the other way round, and one bit more or less.
+        numbers.extend([count.swap_bytes(), 0x0403_0201, 0x0102_0304]);
+        numbers.extend((0..32).flat_map(|bit| [1 << bit, count ^ 1 << bit, count | 1 << bit]));
+        for (k, pair) in [
+            (1, 0),
+            (2, 0),
+            (2, 3),
+            (8, 0),
+            (8, 63),
+            (8, 21),
+            (64, 0),
+            (64, 4095),
+        ] {
+            for &number in numbers.iter().filter(|&&number| number > 0) {
+                let mut b = at_count(k, count);
+                b.sheet[pair] = SR;
+                b.set_number(pair / k, pair % k, number);
+                let fit = number <= count;
+                assert_eq!(
+                    b.unfit(),
+                    if fit {
+                        None
+                    } else {
+                        Some("number above the count")
+                    }
+                );
+                let c = (pair / k) as u64;
+                let reached = 1 << (pair % k);
+                assert_eq!(b.ask(c), if fit { (0, reached, 1) } else { (11, 0, 0) });
+                if !fit {
+                    b.refused(&event(0, HARD_ON), 11);
+                } else if count == u32::MAX {
+                    b.refused(&event(0, HARD_ON), 9);
+                } else {
+                    let after = b.counted();
+                    assert_eq!(b.step(&event(0, HARD_ON)), 0);
+                    assert_eq!(b, after);
+                }
+            }
+        }
+    }
+    // With a count of 0 no number is fit, and no kinds are.
+    let mut b = Bench::new(2);
+    b.sheet[0] = SR;
+    assert_eq!(b.unfit(), Some("kinds but number 0"));
+    b.set_number(0, 0, 1);
+    assert_eq!(b.unfit(), Some("number above the count"));
+    b.sheet[0] = 0;
+    assert_eq!(b.unfit(), Some("number but no kinds"));
+    // Two pairs with one number, more accepted than numbers: fit.
+    let mut b = at_count(2, 7);
+    b.sheet[..2].fill(SR);
+    b.set_number(0, 0, 3);
+    b.set_number(0, 1, 3);
+    assert_eq!(b.unfit(), None);
+}
+
+#[test]
+fn only_the_pairs_below_k_are_looked_at() {
+    for k in 1..=64usize {
+        let size = k * k;
+        let mut b = lent(DESK + 4, size + 4, 4 * size + 16, slip_len(k) + 4);
+        assert_eq!(b.open(k as u64), 0);
+        // Past the pairs: kinds without a number, a number without kinds, one above the
+        // count, a sheet byte over 15; past the desk another count.
+        b.sheet[size..].copy_from_slice(&[EN, 0, EN, 255]);
+        b.seen[4 * size..]
+            .copy_from_slice(&[0, 0, 0, 0, 1, 0, 0, 0, 255, 255, 255, 255, 1, 0, 0, 0]);
+        b.desk[642..].fill(255);
+        assert_eq!(b.unfit(), None, "{k}");
+        assert_eq!(b.ask(k as u64 - 1), (0, 0, 0));
+        let mut after = b.counted();
+        after.desk[2] = 2;
+        assert_eq!(b.step(&event(0, HARD_OFF)), 0);
+        assert_eq!(b, after);
+        // The last pair is.
+        for (kinds, number) in [(EN, 0), (0, 1), (EN, 2), (16, 1)] {
+            let mut b = b.clone();
+            b.sheet[size - 1] = kinds;
+            b.set_number(k - 1, k - 1, number);
+            b.refused(&event(0, HARD_OFF), 11);
+            assert_eq!(b.ask(0), (11, 0, 0));
+        }
+        b.sheet[size - 1] = EN;
+        b.set_number(k - 1, k - 1, 1);
+        assert_eq!(b.step(&event(0, HARD_OFF)), 1);
+        assert_eq!(b.slip[..8], [1, k as u8 - 1, EN, 0, 1, 0, 0, 0]);
+        assert!(b.slip[8..].iter().all(|&x| x == 0xA5));
+    }
+    // K decides which they are: the sheets of 3 classes read with 2 and with 4.
+    let mut b = made(3, &[(2, SR, 2)], &[]);
+    b.slip.resize(100, 0xA5);
+    assert_eq!(b.unfit(), None);
+    b.desk[0] = 2;
+    assert_eq!(b.unfit(), None);
+    assert_eq!(b.ask(1), (0, 0, 0));
+    b.desk[0] = 4;
+    assert_eq!(b.unfit(), Some("sheet too short"));
+    b.sheet.resize(16, 0);
+    assert_eq!(b.unfit(), Some("second sheet too short"));
+    b.seen.resize(64, 0);
+    assert_eq!(b.unfit(), None);
+    assert_eq!(b.ask(2), (0, 1, 1));
+}
+
+#[test]
+fn lengths_of_second_sheet_and_slip() {
+    for k in 1..=64usize {
+        let good = Bench::new(k);
+        for (seen, slip, answer, asked) in [
+            (4 * k * k, 1 + 7 * k, 0, 0),
+            (4 * k * k + 1, 8 + 7 * k, 0, 0),
+            (4 * k * k, 7 * k, 11, 0),
+            (4 * k * k, 1 + 3 * k, 11, 0),
+            (4 * k * k, 0, 11, 0),
+            (4 * k * k - 1, 1 + 7 * k, 11, 11),
+            (4 * k * k - 4, 1 + 7 * k, 11, 11),
+            (0, 1 + 7 * k, 11, 11),
+        ] {
+            let mut b = good.clone();
+            b.seen.resize(seen, 0);
+            b.slip.resize(slip, 0xA5);
+            assert_eq!(b.ask(0), (asked, 0, 0));
+            assert_eq!(b.ask(64), (if asked == 0 { 4 } else { 11 }, 0, 0));
+            if answer == 11 {
+                b.refused(&take(0, 0, E), 11);
+                b.refused(&[], 11);
+            } else {
+                assert_eq!(b.step(&take(0, 0, E)), 0);
+            }
+        }
+        // A ring through all classes fills the slip to its last byte.
+        let mut b = good;
+        for c in 0..k {
+            b.sheet[c * k + (c + 1) % k] = EN;
+            b.set_number(c, (c + 1) % k, 0x0403_0201);
+        }
+        b.set_count(0x0403_0201);
+        b.slip.push(0xA5);
+        assert_eq!(b.step(&event(0, HARD_ON)), 1);
+        let entry = |c| [c, EN, 0, 1, 2, 3, 4];
+        assert_eq!(
+            b.slip,
+            [
+                vec![k as u8],
+                (0..k as u8).flat_map(entry).collect(),
+                vec![0xA5]
+            ]
+            .concat()
+        );
+    }
+}
+
+#[test]
+fn bytes_past_the_circle_stay() {
+    // Rings of n of 8 classes: 1 + 7n bytes are written and no more.
+    for n in 1..=8usize {
+        for rubbish in [0, 0xA5, 0xFF] {
+            let holds: Vec<_> = (0..n).map(|c| (c, EN, (c + 1) % n)).collect();
+            let mut b = made(8, &holds, &[]);
+            b.slip = vec![rubbish; 70];
+            assert_eq!(b.step(&event(0, HARD_ON)), 1);
+            let shown: Vec<_> = (0..n)
+                .map(|c| (c as u8, EN, 0, b.number(c, (c + 1) % n)))
+                .collect();
+            assert_eq!(
+                b.slip,
+                [entries(&shown), vec![rubbish; 69 - 7 * n]].concat()
+            );
+        }
+    }
+}
+
+#[test]
+fn the_order_reads_no_numbers() {
+    // For each drawing: the circle, whatever numbers stand at its pairs.
+    let check =
+        |k: usize, holds: &[(usize, u8, usize)], marks: &[(usize, u8)], circle: &[Triple]| {
+            let mut pairs: Vec<(usize, usize)> =
+                holds.iter().map(|&(from, _, to)| (from, to)).collect();
+            pairs.sort();
+            pairs.dedup();
+            for order in 0..2 * pairs.len() {
+                for base in [1u32, 250, 0x00FF_FFF0, 0x0403_0201, u32::MAX - 20] {
+                    let mut b = made(k, holds, marks);
+                    for (i, &(from, to)) in pairs.iter().enumerate() {
+                        let turned = (i + order) % pairs.len();
+                        let place = if order < pairs.len() {
+                            turned
+                        } else {
+                            pairs.len() - 1 - turned
+                        };
+                        b.set_number(from, to, base + place as u32);
+                    }
+                    b.set_count(u32::MAX - 1);
+                    assert_eq!(b.unfit(), None);
+                    assert_eq!(b.least_circle().as_deref(), Some(circle));
+                    let slip = b.slip.clone();
+                    assert_eq!(b.step(&event(0, HARD_ON)), 1);
+                    assert_eq!(b.slip, b.shown_over(&slip, circle));
+                }
+            }
+        };
+    // 0 EN 1 EN 0 and 0 EN 2 EN 0: the next class decides, not the number before it.
+    let two = [(0, EN, 1), (1, EN, 0), (0, EN, 2), (2, EN, 0)];
+    check(3, &two, &[], &[(0, EN, 0), (1, EN, 0)]);
+    // 0 EN 1 hold and 0 EN 1 hard, whose number is 0: the source decides.
+    check(
+        2,
+        &[(0, EN, 1), (1, EN, 0)],
+        &[(0, 4), (1, 1)],
+        &[(0, EN, 0), (1, EN, 0)],
+    );
+    // 0 EN 1 and 0 EN 2 both hard, and back by hold.
+    check(
+        3,
+        &[(1, EN, 0), (2, EN, 0)],
+        &[(0, 4), (1, 1), (2, 1)],
+        &[(0, EN, 1), (1, EN, 0)],
+    );
+    // One arrow each: the lower class. A lesser kind: the kind.
+    check(3, &[(1, EN, 1), (2, ER, 2)], &[], &[(1, EN, 0)]);
+    check(
+        3,
+        &[(0, EN, 1), (1, EN, 0), (0, ER, 2), (2, SN | EN, 0)],
+        &[],
+        &[(0, ER, 0), (2, EN, 0)],
+    );
+    // Three arrows against two: the fewest.
+    let three = [(0, EN, 1), (1, EN, 2), (2, EN, 0), (2, EN, 3), (3, EN, 2)];
+    check(4, &three, &[], &[(2, EN, 0), (3, EN, 0)]);
+    // A diamond, where only the middle differs.
+    let diamond = [(0, EN, 1), (0, EN, 2), (1, EN, 3), (2, EN, 3), (3, EN, 0)];
+    check(4, &diamond, &[], &[(0, EN, 0), (1, EN, 0), (3, EN, 0)]);
+}
+
+#[test]
+fn over_256_accepted_before_an_arrow() {
+    // So many records first, one in three refused, and then P2's with K = 3.
+    for before in [
+        253u32, 254, 255, 256, 300, 511, 65_533, 65_534, 65_535, 66_051,
+    ] {
+        let mut list: Vec<Rec> = Vec::new();
+        for i in 0..before {
+            list.push(event(4, [HARD_OFF, HARD_ON][i as usize % 2]));
+            if i % 2 == 0 {
+                list.push([take(4, 3, E), release(4, 1), event(4, EXIT_SOFT)][i as usize / 2 % 3]);
+            }
+        }
+        list.extend(p2_records());
+        let mut b = Bench::new(3);
+        let last = list.len() - 1;
+        for (i, r) in list.iter().enumerate() {
+            assert_eq!(b.step(r) == 1, i == last);
+        }
+        assert_eq!(b.count(), before + 6);
+        let mut numbers = vec![0; 9];
+        (numbers[5], numbers[7]) = (before + 2, before + 6);
+        assert_eq!(b.seen, bytes_of(&numbers));
+        assert_eq!(
+            b.slip[..15],
+            entries(&[(1, EN, 0, before + 2), (2, EN, 0, before + 6)])
+        );
+        assert_eq!(first_seen(3, &list), Some(numbers));
+        // By feed and program the same, without those that are refused; no number printed.
+        let accepted: Vec<Rec> = (0..before)
+            .map(|i| event(4, [HARD_OFF, HARD_ON][i as usize % 2]))
+            .chain(p2_records())
+            .collect();
+        let bytes = log(3, &accepted);
+        let mut fed = Fed::new(lent_for(3));
+        for piece in bytes.chunks(1000) {
+            fed.feed(piece);
+        }
+        assert_eq!(fed.end(), (1, before as u64 + 6));
+        assert_eq!(fed.b, b);
+        let text = format!("fault at record {}\n1 EN 2 hold\n2 EN 1 hold\n", before + 6);
+        assert_eq!(program(&bytes), text);
+    }
+    // By hand for 300: 302 is 46 and 256, 306 is 50 and 256.
+    let b = Bench::new(3)
+        .clean(&[event(0, HARD_ON); 300])
+        .clean(&p2_records()[..5]);
+    assert_eq!(
+        (b.seen[20..24].to_vec(), b.count()),
+        (vec![46, 1, 0, 0], 305)
+    );
+}
+
+#[test]
+fn what_writes_the_second_sheet() {
+    // Any fit desk, any record: where a pair gets its first kind the number is the
+    // count after, and nothing else there changes.
+    let mut dice = Dice(0x5EC0_2D5A_EE70_0001);
+    let mut seen = [0u64; 12];
+    let (mut first, mut later) = (0, 0);
+    for round in 0..40_000u64 {
+        let k = 1 + dice.under(5) as usize;
+        let mut b = Bench::new(k);
+        for pair in 0..k * k {
+            if dice.under(3) == 0 {
+                b.sheet[pair] = [SR, SR, SR, ER, SN, EN][dice.under(6 - round % 3) as usize];
+            }
+        }
+        // Core 0 in any state, with holds in its current frame.
+        let state = dice.under(9) as u8;
+        b.desk[STATES] = state;
+        let here = frame(0, state);
+        let depth = dice.under(5) as usize + if dice.under(20) == 0 { 16 } else { 0 };
+        b.desk[DEPTHS + here] = depth as u8;
+        for place in 0..depth {
+            b.desk[HOLDS + 20 * here + place] = (dice.under(k as u64) + 64 * dice.under(3)) as u8;
+        }
+        b.settle();
+        let highest = b.count();
+        b.set_count(match dice.under(6) {
+            0 => highest,
+            1 => u32::MAX,
+            2 => u32::MAX - 1,
+            3 => highest.max(0x0403_0200),
+            _ => highest + dice.under(1 << 20) as u32,
+        });
+        assert_eq!(b.unfit(), None);
+        let mut r = random_record(&mut dice, k as u64, &MODES);
+        r[2] = if dice.under(4) > 0 { 0 } else { r[2] };
+        let before = b.clone();
+        let answer = b.step(&r);
+        seen[answer as usize] += 1;
+        if answer > 1 {
+            assert_eq!(b, before);
+            if answer == 9 {
+                // With one less it is accepted.
+                let mut b = before.clone();
+                b.set_count(u32::MAX - 1);
+                assert!(b.step(&r) < 2);
+            } else {
+                // With the highest count it is refused as before.
+                let mut b = before.clone();
+                b.set_count(u32::MAX);
+                b.refused(&r, answer);
+            }
+            continue;
+        }
+        assert_eq!(b.count(), before.count() + 1);
+        for pair in 0..k * k {
+            let (from, to) = (pair / k, pair % k);
+            let new = before.sheet[pair] == 0 && b.sheet[pair] != 0;
+            let expected = if new {
+                b.count()
+            } else {
+                before.number(from, to)
+            };
+            assert_eq!(b.number(from, to), expected);
+            first += u64::from(new);
+            later += u64::from(!new && b.sheet[pair] != before.sheet[pair]);
+        }
+        assert_eq!(b.unfit(), None);
+        assert_eq!(b.slip, b.shown_or_not(&before.slip, &listed(&b)));
+    }
+    assert!(
+        first > 2_000 && later > 500,
+        "{first} first, {later} later kinds"
+    );
+    for answer in [0, 1, 3, 4, 5, 6, 7, 8, 9] {
+        assert!(seen[answer] > 20, "answer {answer}: {seen:?}");
+    }
+}
+
+#[test]
+fn the_feed_and_refusal_9() {
+    // 9 is the answer of a record like any other: it stands, with its record's number.
+    let records = [
+        take(0, 0, E),
+        take(0, 1, E),
+        take(0, 2, TE),
+        event(1, HARD_OFF),
+    ];
+    for room in 0..4u32 {
+        let bench = at_count(8, u32::MAX - room);
+        for cut in 0..=24 {
+            let mut fed = Fed::lying(0, 1, 0, [0; 5], 700, bench.clone());
+            let bytes = records.concat();
+            let told = [fed.feed(&bytes[..cut]), fed.feed(&bytes[cut..])];
+            let stop = (9, 701 + u64::from(room));
+            let first = if cut as u32 / 6 > room {
+                stop
+            } else {
+                (0, 700 + cut as u64 / 6)
+            };
+            assert_eq!(told, [first, stop]);
+            let after = bench.clone().clean(&records[..room as usize]);
+            assert_eq!(fed, Fed::lying(9, 1, 0, [0; 5], stop.1, after));
+            fed.stands(9, stop.1);
+        }
+        // Short last records are a 3.
+        let mut fed = Fed::lying(
+            0,
+            1,
+            0,
+            [0; 5],
+            700,
+            bench.clone().clean(&records[..room as usize]),
+        );
+        assert_eq!(fed.feed(&records[3][..5]), (0, 700));
+        assert_eq!(fed.end(), (3, 701));
+    }
+    // At the limit, what is refused otherwise is refused so.
+    for (r, answer) in [
+        (take(0, 8, E), 4),
+        (release(0, 0), 5),
+        (event(0, EXIT_HARD), 6),
+        ([0; 6], 3),
+    ] {
+        let mut fed = Fed::lying(0, 1, 0, [0; 5], 0, at_count(8, u32::MAX));
+        assert_eq!(fed.feed(&r), (answer, 1));
+    }
+}
+
+#[test]
+fn numbers_may_differ_with_other_cores_records() {
+    // Demand 3 "reads answers, kinds and marks, not the numbers": records of another core
+    // put in leave the answers, and raise the numbers.
+    let short = p2_records();
+    let put_in = [
+        event(7, HARD_OFF),
+        take(7, 0, E),
+        event(7, EXIT_HARD),
+        release(7, 0),
+    ];
+    let (mut a, mut b) = (Bench::new(3), Bench::new(3));
+    for r in short {
+        let answers = put_in.map(|other| b.step(&other));
+        assert!(answers == [0, 0, 6, 0]);
+        assert_eq!(a.step(&r), b.step(&r));
+    }
+    assert_eq!((&a.sheet, &a.desk[35..37]), (&b.sheet, &b.desk[35..37]));
+    assert_eq!(a.slip[..15], entries(&[(1, EN, 0, 2), (2, EN, 0, 6)]));
+    assert_eq!(b.slip[..15], entries(&[(1, EN, 0, 8), (2, EN, 0, 24)]));
+}
+
+#[test]
+fn first_seen_by_the_records_alone() {
+    for k in [0, 65, 256, u64::MAX] {
+        assert_eq!(first_seen(k, &p2_records()), None);
+        assert!(Books::open(k).is_none());
+    }
+    let none: [Rec; 0] = [];
+    assert_eq!(first_seen(2, &none), Some(vec![0; 4]));
+    assert_eq!(first_seen(64, &none).unwrap().len(), 4096);
+    // By hand, with refused records of all sorts, and after the fault nothing more.
+    let list: Vec<Vec<u8>> = vec![
+        vec![],
+        take(0, 0, E).to_vec(),
+        vec![0; 7],
+        take(0, 2, E).to_vec(), // class K
+        take(0, 1, R).to_vec(),
+        event(0, EXIT_SOFT).to_vec(),
+        release(0, 1).to_vec(),
+        release(0, 1).to_vec(),
+        take(0, 1, E).to_vec(), // pair 0, 1 has its number
+        take(1, 1, E).to_vec(),
+        take(1, 0, TE).to_vec(), // a try
+        release(1, 0).to_vec(),
+        take(1, 0, E).to_vec(), // the fault
+        take(2, 0, E).to_vec(),
+        take(2, 0, E).to_vec(),
+    ];
+    assert_eq!(first_seen(2, &list), Some(vec![0, 2, 8, 0]));
+    let mut books = Books::open(2).unwrap();
+    let entered: Vec<u8> = list.iter().map(|r| u8::from(books.enter(r))).collect();
+    assert_eq!(entered, [0, 1, 0, 0, 1, 0, 1, 0, 1, 1, 1, 1, 1, 0, 0]);
+    assert_eq!((books.accepted(), books.numbers()), (8, &[0, 2, 8, 0][..]));
+    // P10 and P12: no hold arrow, but a fault after which nothing is drawn.
+    let p10 = [
+        take(0, 3, E),
+        release(0, 3),
+        event(0, ENTER_HARD),
+        take(0, 3, E),
+        take(0, 4, E),
+    ];
+    assert_eq!(first_seen(8, &p10), Some(vec![0; 64]));
+    let p12 = [
+        take(0, 6, E),
+        release(0, 6),
+        event(0, ENTER_SOFT),
+        take(0, 6, E),
+        take(0, 4, E),
+    ];
+    assert_eq!(first_seen(8, &p12), Some(vec![0; 64]));
+    // P6 is clean: the third record counts, and the pair 0, 1 has it.
+    let p6 = [take(0, 0, R), take(0, 0, R), take(0, 1, E)];
+    assert_eq!(first_seen(2, &p6), Some(vec![2, 3, 0, 0]));
+    // A closed strong path that passes a class twice is found too: 0 ER 1, 1 SN 0 alone is
+    // clean, and with 1 ER 2 and 2 SN 1 still; with 2 EN 1 it isn't.
+    let twice = |mode| {
+        vec![
+            take(0, 0, E),
+            take(0, 1, R),
+            release(0, 1),
+            release(0, 0), //
+            take(0, 1, R),
+            take(0, 0, E),
+            release(0, 0),
+            release(0, 1), //
+            take(0, 1, E),
+            take(0, 2, R),
+            release(0, 2),
+            release(0, 1), //
+            take(0, 2, mode),
+            take(0, 1, E),
+            release(0, 1),
+            take(0, 0, E),
+        ]
+    };
+    assert_eq!(
+        first_seen(3, &twice(R)),
+        Some(vec![0, 2, 0, 6, 0, 10, 16, 14, 0])
+    );
+    assert_eq!(
+        first_seen(3, &twice(E)),
+        Some(vec![0, 2, 0, 6, 0, 10, 0, 14, 0])
+    );
+}
+
+#[test]
+fn first_seen_against_the_step() {
+    // Lists of any records, any length, at all K, past refusals and past the fault.
+    let mut dice = Dice(0xF125_75EE_4BAD_5EED);
+    let (mut faults, mut numbers) = (0, 0);
+    for round in 0..2_500u64 {
+        let k = if round % 5 == 0 {
+            40 + dice.under(25)
+        } else {
+            1 + dice.under(7)
+        };
+        let modes: &[u8] = [
+            &MODES[..],
+            &[R, R, R, NR, TRR],
+            &[R, R, R, R, R, R, E],
+            &[E, TE, R],
+            &[R, TRR],
+        ][round as usize / 5 % 5];
+        let mut b = Bench::new(k as usize);
+        let mut books = Books::open(k).unwrap();
+        let mut list: Vec<Vec<u8>> = Vec::new();
+        for _ in 0..20 + dice.under(150) {
+            let mut r = random_record(&mut dice, k, modes).to_vec();
+            match dice.under(60) {
+                0 => r.truncate(dice.under(6) as usize),
+                1 => r.push(0),
+                _ => {}
+            }
+            let answer = b.step(&r);
+            assert_eq!(books.enter(&r), answer < 2, "{list:?} {r:?}");
+            assert_eq!(books.accepted(), b.count());
+            faults += u64::from(answer == 1);
+            list.push(r);
+        }
+        assert_eq!(b.seen, bytes_of(books.numbers()));
+        assert_eq!(first_seen(k, &list).as_deref(), Some(books.numbers()));
+        numbers += books.numbers().iter().filter(|&&number| number > 0).count();
+    }
+    assert!(
+        faults > 500 && numbers > 10_000,
+        "{faults} faults, {numbers} numbers"
+    );
+}
+
 // ----------------------------------------------------------------------- time
 
 #[test]
@@ -3341,6 +5834,7 @@ fn time_of_a_step() {
                 }
             }
         }
+        b.settle();
         let rounds = 20_000;
         let start = std::time::Instant::now();
         for _ in 0..rounds / 2 {
@@ -3364,20 +5858,45 @@ fn time_of_a_step() {
                 b.sheet[from * 64 + to] = arrow(from, to);
             }
         }
+        b.settle();
         b
     };
     let mut cases = vec![
         ("every arrow".to_string(), 1, every(&|_, _| 15)),
-        ("every arrow but those to itself".to_string(), 2, every(&|a, b| if a == b { 0 } else { 15 })),
-        ("a ring, and every SR".to_string(), 64, every(&|a, b| if (a + 1) % 64 == b { SN | SR } else { SR })),
-        ("two rings, every arrow from one to the other".to_string(), 32, every(&|a, b| {
-            let next = a / 32 == b / 32 && (a + 1) % 32 == b % 32;
-            if next || a / 32 < b / 32 { 15 } else { 0 }
-        })),
-        ("a ring, and every arrow from it to a line".to_string(), 32, every(&|a, b| {
-            let ring = a < 32 && b < 32 && (a + 1) % 32 == b;
-            if ring || b >= 32 && a < b { 15 } else { 0 }
-        })),
+        (
+            "every arrow but those to itself".to_string(),
+            2,
+            every(&|a, b| if a == b { 0 } else { 15 }),
+        ),
+        (
+            "a ring, and every SR".to_string(),
+            64,
+            every(&|a, b| if (a + 1) % 64 == b { SN | SR } else { SR }),
+        ),
+        (
+            "two rings, every arrow from one to the other".to_string(),
+            32,
+            every(&|a, b| {
+                let next = a / 32 == b / 32 && (a + 1) % 32 == b % 32;
+                if next || a / 32 < b / 32 {
+                    15
+                } else {
+                    0
+                }
+            }),
+        ),
+        (
+            "a ring, and every arrow from it to a line".to_string(),
+            32,
+            every(&|a, b| {
+                let ring = a < 32 && b < 32 && (a + 1) % 32 == b;
+                if ring || b >= 32 && a < b {
+                    15
+                } else {
+                    0
+                }
+            }),
+        ),
     ];
     for n in [2usize, 3, 4, 8, 16, 32, 64] {
         cases.push((

@@ -85,8 +85,9 @@ def long_log(number):
 
 
 def counted_log(number):
-    """A clean log of very many records."""
-    return header(1) + (record(0, ACQUIRE) + record(0, RELEASE)) * (number // 2) + record(0, HARD_ON) * (number % 2)
+    """A clean log of very many records, the second of which draws a dependency."""
+    drawn = record(0, ACQUIRE) + record(0, ACQUIRE, 1) + record(0, RELEASE, 1) + record(0, RELEASE)
+    return header(2) + drawn + (record(0, ACQUIRE) + record(0, RELEASE)) * (number // 2 - 2) + record(0, HARD_ON) * (number % 2)
 
 
 def divided_logs():

@@ -1,17 +1,17 @@
--- What a well-formed record does to an open desk and its sheet.
+-- What a well-formed record does to an open desk and its sheets.
 use mathlib.Core.Path.{_≡_}
 use mathlib.Core.Bool.{Bool, false}
 use mathlib.Core.List.{List}
 use mathlib.Core.Option.{none, some}
-use Prim.Native.Nat.{ℕ, _*_, _≤_}
+use Prim.Native.Nat.{ℕ, _≤_}
 use Rattle.rules.specs.Limits.{maxClasses}
 use Rattle.rules.specs.HeldLocks.{Core}
 use Rattle.rules.specs.Marks.{Marks}
 use Rattle.rules.specs.Verdict.{Refusal, refusalNumber, refusal}
 use Rattle.rules.specs.Run.{State, situation, accept}
 use Rattle.validity.specs.Valid.{ValidCore, Valid}
-use Rattle.layout.specs.Layout.{deskSize, classesOf, KeepsPast}
-use Rattle.layout.specs.Encoding.{DeskBytes, SheetBytes, Encodes}
+use Rattle.layout.specs.Layout.{acceptedAt, sheetSize, seenSize, classesOf, KeepsPast}
+use Rattle.layout.specs.Encoding.{DeskBytes, SheetBytes, SeenBytes, Encodes}
 
 -- The desk encodes valid cores.
 pub record Cored (desk : List ℕ) : Type 0 where
@@ -22,14 +22,16 @@ pub record Cored (desk : List ℕ) : Type 0 where
   pub encodes : DeskBytes (classesOf desk) is-closed cores marks desk
   pub valid : (i : ℕ) → ValidCore (classesOf desk) (cores i)
 
--- A refusal leaves both buffers; an accepted record leaves the cores and the lock dependencies that the rules give, and the marks as they were.
-pub data ActedOn (K : ℕ) (s : State) (bytes desk sheet : List ℕ) : (answer : ℕ) (desk′ sheet′ : List ℕ) → Type 0 where
-  refuses : (x : Refusal) → refusal (situation K s bytes) ≡ some x → ActedOn K s bytes desk sheet (refusalNumber x) desk sheet
-  accepts : {desk′ sheet′ : List ℕ} → refusal (situation K s bytes) ≡ none
+-- A refusal leaves the buffers; an accepted record leaves the cores, the lock dependencies and their numbers that the rules give, and the marks and the count
+-- as they were.
+pub data ActedOn (K : ℕ) (s : State) (bytes desk sheet seen : List ℕ) : (answer : ℕ) (desk′ sheet′ seen′ : List ℕ) → Type 0 where
+  refuses : (x : Refusal) → refusal (situation K s bytes) ≡ some x → ActedOn K s bytes desk sheet seen (refusalNumber x) desk sheet seen
+  accepts : {desk′ sheet′ seen′ : List ℕ} → refusal (situation K s bytes) ≡ none
       → DeskBytes K (s .is-closed) (accept s bytes .cores) (s .graph .marks) desk′ → SheetBytes K (accept s bytes .graph .locks) sheet′
-      → KeepsPast deskSize desk desk′ → KeepsPast (K * K) sheet sheet′ → ActedOn K s bytes desk sheet 0 desk′ sheet′
+      → SeenBytes K (accept s bytes .journal .seen) seen′ → KeepsPast acceptedAt desk desk′ → KeepsPast (sheetSize K) sheet sheet′
+      → KeepsPast (seenSize K) seen seen′ → ActedOn K s bytes desk sheet seen 0 desk′ sheet′ seen′
 
 -- Of every state of the rules that the buffers encode.
-pub record Acted (desk sheet bytes : List ℕ) (answer : ℕ) (desk′ sheet′ : List ℕ) : Type 0 where
-  pub acted : (s : State) → s .is-closed ≡ false → Valid (classesOf desk) s → Encodes (classesOf desk) s desk sheet
-      → ActedOn (classesOf desk) s bytes desk sheet answer desk′ sheet′
+pub record Acted (desk sheet seen bytes : List ℕ) (answer : ℕ) (desk′ sheet′ seen′ : List ℕ) : Type 0 where
+  pub acted : (s : State) → s .is-closed ≡ false → Valid (classesOf desk) s → Encodes (classesOf desk) s desk sheet seen
+      → ActedOn (classesOf desk) s bytes desk sheet seen answer desk′ sheet′ seen′

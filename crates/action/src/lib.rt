@@ -1,4 +1,5 @@
 // What a well-formed record does to fit buffers: it is refused with nothing changed, or its core, frame and lock dependencies are updated.
+use answers::COUNT_FULL;
 use answers::NO_CLASS;
 use answers::NO_TRANSITION;
 use answers::NOT_HELD;
@@ -10,11 +11,14 @@ use context::EXIT_HARD;
 use context::EXIT_SOFT;
 use context::NO_STATE;
 use context::next;
+use layout::ACCEPTED_AT;
 use layout::CLASSES_AT;
 use layout::DEPTHS_AT;
 use layout::FRAMES_PER_CORE;
+use layout::MAX_ACCEPTED;
 use layout::MAX_DEPTH;
 use layout::STATES_AT;
+use numbers::number_at;
 use record::ACQUIRE;
 use record::CLASS_AT;
 use record::CORE_AT;
@@ -24,17 +28,19 @@ use record::MODE_AT;
 use record::RELEASE;
 use update::draw;
 use update::newest;
+use update::number_pairs;
 use update::push;
 use update::remove;
 ghost use mathlib.Core.Path.{_≡_};
 ghost use mathlib.Core.List.{List};
 ghost use Prim.Native.Nat.{ℕ, _*_, _<_, _≤_};
+ghost use lib.Dec.{leb};
 ghost use lib.ListN.{length};
 ghost use Rattle.rules.specs.Context.{frameOf, leavesHandler};
 ghost use Rattle.rules.specs.Record.{kindOf};
 ghost use Rattle.rules.specs.WellFormed.{WellFormed};
-ghost use Rattle.rules.specs.Limits.{coreCount};
-ghost use Rattle.layout.specs.Layout.{deskSize, frameNumber, classesOf, stateOf};
+ghost use Rattle.rules.specs.Limits.{coreCount, maxAccepted};
+ghost use Rattle.layout.specs.Layout.{deskSize, sheetSize, seenSize, frameNumber, classesOf, stateOf, acceptedOf};
 ghost use Rattle.action.specs.Action.{Cored, Acted};
 
 // The number of the frame in which a core holds locks now.
@@ -46,9 +52,17 @@ pub fn frame_of(desk: &[u8], core: usize) -> usize
     FRAMES_PER_CORE * core + frame as usize
 }
 
-fn acquire(desk: &mut [u8], sheet: &mut [u8], bytes: &[u8]) -> u8
-    requires { ⌜ Cored (now desk) × (classesOf (now desk) * classesOf (now desk) ≤ length (now sheet)) × WellFormed (now bytes) × (kindOf (now bytes) ≡ 0) ⌝ }
-    ensures { λ r. ⌜ Acted (now (desk .entry)) (now (sheet .entry)) (now (bytes .entry)) r (now (desk .exit)) (now (sheet .exit)) ⌝ }
+// The count can take no record more.
+fn is_full(desk: &[u8]) -> bool
+    requires { ⌜ deskSize ≤ length (now desk) ⌝ }
+    ensures { λ r. ⌜ r ≡ leb maxAccepted (acceptedOf (now (desk .entry))) ⌝ }
+{
+    MAX_ACCEPTED <= number_at(desk, ACCEPTED_AT)
+}
+
+fn acquire(desk: &mut [u8], sheet: &mut [u8], seen: &mut [u8], bytes: &[u8]) -> u8
+    requires { ⌜ Cored (now desk) × (sheetSize (classesOf (now desk)) ≤ length (now sheet)) × (seenSize (classesOf (now desk)) ≤ length (now seen)) × WellFormed (now bytes) × (kindOf (now bytes) ≡ 0) ⌝ }
+    ensures { λ r. ⌜ Acted (now (desk .entry)) (now (sheet .entry)) (now (seen .entry)) (now (bytes .entry)) r (now (desk .exit)) (now (sheet .exit)) (now (seen .exit)) ⌝ }
 {
     let k = desk[CLASSES_AT];
     let class = bytes[CLASS_AT];
@@ -59,6 +73,9 @@ fn acquire(desk: &mut [u8], sheet: &mut [u8], bytes: &[u8]) -> u8
     if MAX_DEPTH <= desk[DEPTHS_AT + frame] as usize {
         return TOO_DEEP;
     }
+    if is_full(desk) {
+        return COUNT_FULL;
+    }
     let mode = bytes[MODE_AT];
     draw(
         desk,
@@ -68,13 +85,14 @@ fn acquire(desk: &mut [u8], sheet: &mut [u8], bytes: &[u8]) -> u8
         class as usize,
         mode as usize,
     );
+    number_pairs(desk, seen, k as usize, frame, class as usize, mode as usize);
     push(desk, frame, class, mode);
     OK
 }
 
 fn release(desk: &mut [u8], bytes: &[u8]) -> u8
     requires { ⌜ Cored (now desk) × WellFormed (now bytes) × (kindOf (now bytes) ≡ 1) ⌝ }
-    ensures { λ r. ⌜ ((sheet : List ℕ) → Acted (now (desk .entry)) sheet (now (bytes .entry)) r (now (desk .exit)) sheet) ⌝ }
+    ensures { λ r. ⌜ ((sheet seen : List ℕ) → Acted (now (desk .entry)) sheet seen (now (bytes .entry)) r (now (desk .exit)) sheet seen) ⌝ }
 {
     let class = bytes[CLASS_AT];
     if desk[CLASSES_AT] <= class {
@@ -84,6 +102,9 @@ fn release(desk: &mut [u8], bytes: &[u8]) -> u8
     let place = newest(desk, frame, class);
     if place == 0 {
         return NOT_HELD;
+    }
+    if is_full(desk) {
+        return COUNT_FULL;
     }
     remove(desk, frame, place - 1);
     OK
@@ -100,7 +121,7 @@ fn leaves_handler(event: u8) -> bool
 
 fn interrupt(desk: &mut [u8], bytes: &[u8]) -> u8
     requires { ⌜ Cored (now desk) × WellFormed (now bytes) × (2 ≤ kindOf (now bytes)) ⌝ }
-    ensures { λ r. ⌜ ((sheet : List ℕ) → Acted (now (desk .entry)) sheet (now (bytes .entry)) r (now (desk .exit)) sheet) ⌝ }
+    ensures { λ r. ⌜ ((sheet seen : List ℕ) → Acted (now (desk .entry)) sheet seen (now (bytes .entry)) r (now (desk .exit)) sheet seen) ⌝ }
 {
     let core = bytes[CORE_AT] as usize;
     let event = bytes[KIND_AT] - FIRST_EVENT;
@@ -114,18 +135,21 @@ fn interrupt(desk: &mut [u8], bytes: &[u8]) -> u8
             return STILL_HELD;
         }
     }
+    if is_full(desk) {
+        return COUNT_FULL;
+    }
     desk[STATES_AT + core] = to;
     OK
 }
 
 // The record's event: 0 if it is accepted, or the number of its refusal.
-pub fn act(desk: &mut [u8], sheet: &mut [u8], bytes: &[u8]) -> u8
-    requires { ⌜ Cored (now desk) × (classesOf (now desk) * classesOf (now desk) ≤ length (now sheet)) × WellFormed (now bytes) ⌝ }
-    ensures { λ r. ⌜ Acted (now (desk .entry)) (now (sheet .entry)) (now (bytes .entry)) r (now (desk .exit)) (now (sheet .exit)) ⌝ }
+pub fn act(desk: &mut [u8], sheet: &mut [u8], seen: &mut [u8], bytes: &[u8]) -> u8
+    requires { ⌜ Cored (now desk) × (sheetSize (classesOf (now desk)) ≤ length (now sheet)) × (seenSize (classesOf (now desk)) ≤ length (now seen)) × WellFormed (now bytes) ⌝ }
+    ensures { λ r. ⌜ Acted (now (desk .entry)) (now (sheet .entry)) (now (seen .entry)) (now (bytes .entry)) r (now (desk .exit)) (now (sheet .exit)) (now (seen .exit)) ⌝ }
 {
     let kind = bytes[KIND_AT];
     if kind == ACQUIRE {
-        return acquire(desk, sheet, bytes);
+        return acquire(desk, sheet, seen, bytes);
     }
     if kind == RELEASE {
         return release(desk, bytes);

@@ -18,6 +18,8 @@ pub const STILL_HELD: u8 = 7;
 
 pub const TOO_DEEP: u8 = 8;
 
+pub const COUNT_FULL: u8 = 9;
+
 pub const CLOSED: u8 = 10;
 
 pub const UNFIT: u8 = 11;

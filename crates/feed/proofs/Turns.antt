@@ -45,9 +45,9 @@ module _ {opened : Bool} {number answer : ℕ} {b b′ : Buffers} {unit : List �
       → UnitValidated opened number b unit f b′
   is-record n o t e q = rw (q, e) (a-record o t)
 
-  pub is-header : (K : ℕ) → opened ≡ false → K ≡ headerClasses unit → Opened K (b .desk) (b .sheet) answer (b′ .desk) (b′ .sheet) → b′ .slip ≡ b .slip
+  pub is-header : (K : ℕ) → opened ≡ false → K ≡ headerClasses unit → Opened K (b .desk) (b .sheet) (b .seen) answer (b′ .desk) (b′ .sheet) (b′ .seen) → b′ .slip ≡ b .slip
       → f ≡ unitBegun answer (eqb answer 0) number → UnitValidated opened number b unit f b′
-  is-header K o k p s q = rw q (header o (subst (λ (n : ℕ). Opened n (b .desk) (b .sheet) answer (b′ .desk) (b′ .sheet)) k p) s)
+  is-header K o k p s q = rw q (header o (subst (λ (n : ℕ). Opened n (b .desk) (b .sheet) (b .seen) answer (b′ .desk) (b′ .sheet) (b′ .seen)) k p) s)
 
 -- ---- A part of a piece.
 

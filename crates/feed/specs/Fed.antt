@@ -15,9 +15,9 @@ use Rattle.progress.specs.Feed.{Feed, unitBegun, withPart}
 unfoldable pub more : ℕ → ℕ
 more n = cond (ltb n (2 ^ 64 - 1)) (suc n) n
 
--- A unit is validated: the header opens desk and sheet, or is refused with 2; a record is handed to the step and counted.
+-- A unit is validated: the header opens desk and sheets, or is refused with 2; a record is handed to the step and counted.
 pub data UnitValidated (opened : Bool) (number : ℕ) (b : Buffers) (unit : List ℕ) : Feed → Buffers → Type 0 where
-  header : {answer : ℕ} {b′ : Buffers} → opened ≡ false → Opened (headerClasses unit) (b .desk) (b .sheet) answer (b′ .desk) (b′ .sheet)
+  header : {answer : ℕ} {b′ : Buffers} → opened ≡ false → Opened (headerClasses unit) (b .desk) (b .sheet) (b .seen) answer (b′ .desk) (b′ .sheet) (b′ .seen)
       → b′ .slip ≡ b .slip → UnitValidated opened number b unit (unitBegun answer (eqb answer 0) number) b′
   a-record : {answer : ℕ} {b′ : Buffers} → opened ≡ true → Called b unit answer b′
       → UnitValidated opened number b unit (unitBegun answer true (more number)) b′

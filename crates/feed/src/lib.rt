@@ -70,18 +70,19 @@ fn one_more(number: u64) -> u64
 fn validate_unit(
     desk: &mut [u8],
     sheet: &mut [u8],
+    seen: &mut [u8],
     slip: &mut [u8],
     opened: bool,
     number: u64,
     unit: &[u8],
 ) -> Progress
-    ensures { λ r. ⌜ UnitValidated opened number (buffers (now (desk .entry)) (now (sheet .entry)) (now (slip .entry))) (now (unit .entry)) (feedOf r) (buffers (now (desk .exit)) (now (sheet .exit)) (now (slip .exit))) × (r .count ≡ 0) ⌝ }
+    ensures { λ r. ⌜ UnitValidated opened number (buffers (now (desk .entry)) (now (sheet .entry)) (now (seen .entry)) (now (slip .entry))) (now (unit .entry)) (feedOf r) (buffers (now (desk .exit)) (now (sheet .exit)) (now (seen .exit)) (now (slip .exit))) × (r .count ≡ 0) ⌝ }
 {
     if opened {
-        let answer = step(desk, sheet, slip, unit);
+        let answer = step(desk, sheet, seen, slip, unit);
         return between_units(answer, true, one_more(number));
     }
-    let answer = open(header_classes(unit), desk, sheet);
+    let answer = open(header_classes(unit), desk, sheet, seen);
     between_units(answer, answer == OK, number)
 }
 
@@ -89,16 +90,17 @@ fn validate_unit(
 fn take_part(
     desk: &mut [u8],
     sheet: &mut [u8],
+    seen: &mut [u8],
     slip: &mut [u8],
     p: Progress,
     part: &[u8],
 ) -> Progress
     requires { ⌜ Counted p × (p .count + length (now part) ≤ unitSize (p .opened)) ⌝ }
-    ensures { λ r. ⌜ PartTaken (feedOf p) (buffers (now (desk .entry)) (now (sheet .entry)) (now (slip .entry))) (now (part .entry)) (feedOf r) (buffers (now (desk .exit)) (now (sheet .exit)) (now (slip .exit))) × Counted r ⌝ }
+    ensures { λ r. ⌜ PartTaken (feedOf p) (buffers (now (desk .entry)) (now (sheet .entry)) (now (seen .entry)) (now (slip .entry))) (now (part .entry)) (feedOf r) (buffers (now (desk .exit)) (now (sheet .exit)) (now (seen .exit)) (now (slip .exit))) × Counted r ⌝ }
 {
     let size = unit_size(p.opened);
     if part.len() == size {
-        return validate_unit(desk, sheet, slip, p.opened, p.number, part);
+        return validate_unit(desk, sheet, seen, slip, p.opened, p.number, part);
     }
     let next = with_part(p, part);
     let count = next.count;
@@ -106,19 +108,20 @@ fn take_part(
         return next;
     }
     let unit = next.loose;
-    validate_unit(desk, sheet, slip, p.opened, p.number, &unit[..count])
+    validate_unit(desk, sheet, seen, slip, p.opened, p.number, &unit[..count])
 }
 
 // Takes a piece, up to the first answer but 0.
 fn take_piece(
     desk: &mut [u8],
     sheet: &mut [u8],
+    seen: &mut [u8],
     slip: &mut [u8],
     first: Progress,
     piece: &[u8],
 ) -> Progress
     requires { ⌜ Counted first × (first .count < unitSize (first .opened)) ⌝ }
-    ensures { λ r. ⌜ Fed (feedOf first) (buffers (now (desk .entry)) (now (sheet .entry)) (now (slip .entry))) (now (piece .entry)) (feedOf r) (buffers (now (desk .exit)) (now (sheet .exit)) (now (slip .exit))) × (r .count ≤ mostLoose) ⌝ }
+    ensures { λ r. ⌜ Fed (feedOf first) (buffers (now (desk .entry)) (now (sheet .entry)) (now (seen .entry)) (now (slip .entry))) (now (piece .entry)) (feedOf r) (buffers (now (desk .exit)) (now (sheet .exit)) (now (seen .exit)) (now (slip .exit))) × (r .count ≤ mostLoose) ⌝ }
 {
     let mut now = first;
     let mut at = 0;
@@ -128,15 +131,21 @@ fn take_piece(
         }
         let part = next_part(piece, at, unit_size(now.opened) - now.count);
         at += part.len();
-        now = take_part(desk, sheet, slip, now, part);
+        now = take_part(desk, sheet, seen, slip, now, part);
     }
     now
 }
 
 // The end of the log.
-fn take_end(desk: &mut [u8], sheet: &mut [u8], slip: &mut [u8], p: Progress) -> Progress
+fn take_end(
+    desk: &mut [u8],
+    sheet: &mut [u8],
+    seen: &mut [u8],
+    slip: &mut [u8],
+    p: Progress,
+) -> Progress
     requires { ⌜ Counted p × (p .count ≤ mostLoose) ⌝ }
-    ensures { λ r. ⌜ Ended (feedOf p) (buffers (now (desk .entry)) (now (sheet .entry)) (now (slip .entry))) (feedOf r) (buffers (now (desk .exit)) (now (sheet .exit)) (now (slip .exit))) × (r .count ≤ mostLoose) ⌝ }
+    ensures { λ r. ⌜ Ended (feedOf p) (buffers (now (desk .entry)) (now (sheet .entry)) (now (seen .entry)) (now (slip .entry))) (feedOf r) (buffers (now (desk .exit)) (now (sheet .exit)) (now (seen .exit)) (now (slip .exit))) × (r .count ≤ mostLoose) ⌝ }
 {
     if p.answer != OK {
         return p;
@@ -149,7 +158,7 @@ fn take_end(desk: &mut [u8], sheet: &mut [u8], slip: &mut [u8], p: Progress) -> 
         return p;
     }
     let unit = p.loose;
-    validate_unit(desk, sheet, slip, true, p.number, &unit[..count])
+    validate_unit(desk, sheet, seen, slip, true, p.number, &unit[..count])
 }
 
 // What a call of the feed says: the standing answer and its number.
@@ -174,10 +183,11 @@ pub fn feed_piece(
     feed: &mut [u8],
     desk: &mut [u8],
     sheet: &mut [u8],
+    seen: &mut [u8],
     slip: &mut [u8],
     piece: &[u8],
 ) -> Said
-    ensures { λ r. ⌜ FedPiece (now (feed .entry)) (buffers (now (desk .entry)) (now (sheet .entry)) (now (slip .entry))) (now (piece .entry)) (r .answer) (r .number) (now (feed .exit)) (buffers (now (desk .exit)) (now (sheet .exit)) (now (slip .exit))) ⌝ }
+    ensures { λ r. ⌜ FedPiece (now (feed .entry)) (buffers (now (desk .entry)) (now (sheet .entry)) (now (seen .entry)) (now (slip .entry))) (now (piece .entry)) (r .answer) (r .number) (now (feed .exit)) (buffers (now (desk .exit)) (now (sheet .exit)) (now (seen .exit)) (now (slip .exit))) ⌝ }
 {
     if !fits_feed(feed) {
         return Said {
@@ -185,7 +195,7 @@ pub fn feed_piece(
             number: 0,
         };
     }
-    let next = take_piece(desk, sheet, slip, load(feed), piece);
+    let next = take_piece(desk, sheet, seen, slip, load(feed), piece);
     save(feed, next);
     Said {
         answer: next.answer,
@@ -194,8 +204,14 @@ pub fn feed_piece(
 }
 
 // The end of the log.
-pub fn feed_end(feed: &mut [u8], desk: &mut [u8], sheet: &mut [u8], slip: &mut [u8]) -> Said
-    ensures { λ r. ⌜ FedEnd (now (feed .entry)) (buffers (now (desk .entry)) (now (sheet .entry)) (now (slip .entry))) (r .answer) (r .number) (now (feed .exit)) (buffers (now (desk .exit)) (now (sheet .exit)) (now (slip .exit))) ⌝ }
+pub fn feed_end(
+    feed: &mut [u8],
+    desk: &mut [u8],
+    sheet: &mut [u8],
+    seen: &mut [u8],
+    slip: &mut [u8],
+) -> Said
+    ensures { λ r. ⌜ FedEnd (now (feed .entry)) (buffers (now (desk .entry)) (now (sheet .entry)) (now (seen .entry)) (now (slip .entry))) (r .answer) (r .number) (now (feed .exit)) (buffers (now (desk .exit)) (now (sheet .exit)) (now (seen .exit)) (now (slip .exit))) ⌝ }
 {
     if !fits_feed(feed) {
         return Said {
@@ -203,7 +219,7 @@ pub fn feed_end(feed: &mut [u8], desk: &mut [u8], sheet: &mut [u8], slip: &mut [
             number: 0,
         };
     }
-    let next = take_end(desk, sheet, slip, load(feed));
+    let next = take_end(desk, sheet, seen, slip, load(feed));
     save(feed, next);
     Said {
         answer: next.answer,

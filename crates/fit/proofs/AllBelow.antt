@@ -13,7 +13,7 @@ pub all-none : (p : ℕ → Bool) → allBelow 0 p ≡ true
 unfolding allBelow
 all-none p = refl
 
-all-step : (n : ℕ) (p : ℕ → Bool) → allBelow (n + 1) p ≡ (allBelow n p && p n)
+pub all-step : (n : ℕ) (p : ℕ → Bool) → allBelow (n + 1) p ≡ (allBelow n p && p n)
 unfolding allBelow
 all-step n p = rw add-one
 

@@ -1,6 +1,6 @@
 -- What the fit test says, clause by clause, both ways. Assumes nothing.
-use mathlib.Core.Path.{_≡_}
-use mathlib.Core.Bool.{Bool, true, _&&_, _||_}
+use mathlib.Core.Path.{_≡_, refl, sym}
+use mathlib.Core.Bool.{Bool, true, false, _&&_, _||_, Bool·beq}
 use mathlib.Core.List.{List}
 use mathlib.Core.Logic.{⊎-elim}
 use Prim.Native.Nat.{ℕ, _/_, _%_, _≤_, _<_}
@@ -12,8 +12,8 @@ use borrow.Author.Tests.{ltb-true, leb-true, eqb-true, lt-ltb, le-ltb, le-leb, e
 use Rattle.rules.specs.Limits.{coreCount, maxClasses, maxDepth, heldModes}
 use Rattle.rules.specs.Context.{hardOverSoft, soft, hard, mayHoldSoft, mayHoldHard}
 use Rattle.rules.proofs.Booleans.{or-cases, or-left, or-right, and-cases, and-both}
-use Rattle.layout.specs.Layout.{frameCount, placeCount, deskSize, sheetSize, frameNumber, classesOf, closedOf, stateOf, depthOf, markOf, heldOf, originBit}
-use Rattle.layout.specs.Fit.{allBelow, classesFit, coreFits, heldFits, frameFits, originFits, markFits, kindsFit, fits}
+use Rattle.layout.specs.Layout.{frameCount, placeCount, deskSize, sheetSize, seenSize, frameNumber, classesOf, closedOf, stateOf, depthOf, markOf, heldOf, originBit, acceptedOf, pairNumber}
+use Rattle.layout.specs.Fit.{allBelow, classesFit, coreFits, heldFits, frameFits, originFits, markFits, kindsFit, graphFits, numberFits, numbersFit, fits}
 use Rattle.fit.proofs.AllBelow.{all-at, all-of}
 
 pub record CoreFacts (desk : List ℕ) (i : ℕ) : Type 0 where
@@ -139,9 +139,9 @@ module _ (K : ℕ) (desk : List ℕ) (c : ℕ) where
       (and-both (le-leb _ _ (f .exclusive)) (le-leb _ _ (f .shared)))
 
 module _ (desk sheet : List ℕ) where
-  pub facts : fits desk sheet ≡ true → Facts desk sheet
-  unfolding fits
-  facts e =
+  pub graph-facts : graphFits desk sheet ≡ true → Facts desk sheet
+  unfolding graphFits
+  graph-facts e =
       let K = classesOf desk in
       let a = and-cases (leb deskSize (length desk)) _ e in
       let b = and-cases (classesFit K) _ (a .1) in
@@ -165,9 +165,9 @@ module _ (desk sheet : List ℕ) where
         kinds = λ j l. leb-true _ _ (all-at (sheetSize K) (kindsFit sheet) (m .1) j l);
       }
 
-  pub fits-of : Facts desk sheet → fits desk sheet ≡ true
-  unfolding fits
-  fits-of f =
+  graph-fits : Facts desk sheet → graphFits desk sheet ≡ true
+  unfolding graphFits
+  graph-fits f =
       and-both (le-leb _ _ (f .long))
       (and-both (and-both (le-leb _ _ (f .some)) (le-leb _ _ (f .few)))
       (and-both (le-leb _ _ (f .square))
@@ -177,3 +177,43 @@ module _ (desk sheet : List ℕ) where
       (and-both (all-of placeCount (originFits desk) (λ i l. origin-fits desk i (f .origins i l)))
       (and-both (all-of maxClasses (markFits (classesOf desk) desk) (λ c l. mark-fits _ desk c (f .marks c l)))
       (all-of (sheetSize (classesOf desk)) (kindsFit sheet) (λ j l. le-leb _ _ (f .kinds j l))))))))))
+
+-- Of the second sheet.
+pub record NumberFacts (desk sheet seen : List ℕ) : Type 0 where
+  pub long : seenSize (classesOf desk) ≤ length seen
+  pub at-most : (j : ℕ) → j < sheetSize (classesOf desk) → pairNumber seen j ≤ acceptedOf desk
+  pub numbered : (j : ℕ) → j < sheetSize (classesOf desk) → eqb (pairNumber seen j) 0 ≡ eqb (getD sheet j 0) 0
+
+beq-same : (a b : Bool) → Bool·beq a b ≡ true → a ≡ b
+beq-same true true h = refl
+beq-same false false h = refl
+beq-same true false h = sym h
+beq-same false true h = h
+
+same-beq : (a : Bool) → Bool·beq a a ≡ true
+same-beq true = refl
+same-beq false = refl
+
+module _ (desk sheet seen : List ℕ) where
+  pub facts : fits desk sheet seen ≡ true → Facts desk sheet
+  unfolding fits
+  facts e = graph-facts desk sheet (and-cases (graphFits desk sheet) _ e .0)
+
+  pub number-facts : fits desk sheet seen ≡ true → NumberFacts desk sheet seen
+  unfolding fits numbersFit numberFits
+  number-facts e =
+      let a = and-cases (leb (seenSize (classesOf desk)) (length seen)) _ (and-cases (graphFits desk sheet) _ e .1) in
+      let at = all-at (sheetSize (classesOf desk)) (numberFits (acceptedOf desk) sheet seen) (a .1) in
+      record {
+        long = leb-true _ _ (a .0);
+        at-most = λ j l. leb-true _ _ (and-cases (leb (pairNumber seen j) (acceptedOf desk)) _ (at j l) .0);
+        numbered = λ j l. beq-same _ _ (and-cases (leb (pairNumber seen j) (acceptedOf desk)) _ (at j l) .1);
+      }
+
+  pub fits-of : Facts desk sheet → NumberFacts desk sheet seen → fits desk sheet seen ≡ true
+  unfolding fits numbersFit numberFits
+  fits-of f n =
+      and-both (graph-fits desk sheet f)
+      (and-both (le-leb _ _ (n .long))
+      (all-of (sheetSize (classesOf desk)) (numberFits (acceptedOf desk) sheet seen)
+      (λ j l. and-both (le-leb _ _ (n .at-most j l)) (rw (n .numbered j l) (same-beq (eqb (getD sheet j 0) 0))))))

@@ -20,19 +20,21 @@ use Rattle.rules.specs.HeldLocks.{First, E, S, HeldLock, heldAs, Core, freshCor
 use Rattle.rules.specs.Marks.{Marks, Level, hardIrq, softIrq, Usage, unsafe, markBit}
 use Rattle.rules.specs.Graph.{Kind, kindBit, Dependencies, Graph}
 use Rattle.rules.specs.Decision.{tabulate}
-use Rattle.rules.specs.Run.{State}
+use Rattle.rules.specs.Run.{Journal, State}
 use Rattle.rules.proofs.Booleans.{and-cases, and-both}
 use Rattle.rules.proofs.Closure.{length-tabulate, getD-tabulate}
 use Rattle.layout.proofs.Flags.{markFlags, kindFlags, mark-packed, kind-packed, mark-digit, kind-digit}
 use Rattle.layout.proofs.Buffers.{cell-inside}
 use Rattle.layout.proofs.Held.{unheld, mode-back, value-at}
-use Rattle.layout.specs.Layout.{framesPerCore, frameCount, marksAt, originsAt, placeCount, deskSize, sheetSize, frameNumber, classesOf, closedOf, depthOf, markOf, heldOf, originBit, originOf, kindsOf, AreBytes}
+use Rattle.layout.specs.Layout.{framesPerCore, frameCount, marksAt, originsAt, placeCount, acceptedAt, numberSize, deskSize, sheetSize, seenSize, frameNumber, classesOf, closedOf, depthOf, markOf, heldOf, originBit, originOf, kindsOf, AreBytes}
+use Rattle.layout.proofs.Numbers.{value-small, bytes-of, byte-small}
 use Rattle.layout.specs.Encoding.{markByte, kindByte, heldByte, heldByteAt, heldOrigin, originAt, DeskBytes, SheetBytes, Encodes}
 use Rattle.layout.specs.Fit.{fits}
 use Rattle.validity.specs.Valid.{ValidLock, ValidLocks, ValidCore, Valid}
-use Rattle.layout.specs.Decoding.{heldLockOf, heldLocks, viewCore, viewMarks, viewLocks, view, StandFor}
-use Rattle.fit.proofs.Places.{AtPlaces, by-frame, by-place, by-origin, by-pair}
-use Rattle.fit.proofs.Facts.{CoreFacts, FrameFacts, MarkFacts, Facts, facts, fits-of}
+use Rattle.layout.specs.Decoding.{heldLockOf, heldLocks, viewCore, viewCores, viewMarks, viewLocks, viewGraph, view, StandFor}
+use Rattle.fit.proofs.Places.{AtPlaces, by-frame, by-place, by-origin, by-pair, by-number}
+use Rattle.fit.proofs.Facts.{CoreFacts, FrameFacts, MarkFacts, Facts, NumberFacts, facts, number-facts, fits-of}
+use Rattle.fit.proofs.Journals.{fit-seen, fit-journal, journal-is, encoded-numbers}
 
 -- The lock at place p of frame n.
 abbrev lockAt : List ℕ → ℕ → ℕ → HeldLock
@@ -62,7 +64,7 @@ bits-packed n a b e h =
 module _ (desk sheet : List ℕ) (f : Facts desk sheet) where
   -- ---- What fit buffers encode.
 
-  core-at : (i : ℕ) → i < coreCount → view desk sheet .cores i ≡ viewCore desk i
+  core-at : (i : ℕ) → i < coreCount → viewCores desk i ≡ viewCore desk i
   core-at i l = rw (lt-ltb i coreCount l)
 
   held-at : (i : ℕ) (g : Frame) → g < framesPerCore → viewCore desk i .held g ≡ heldLocks desk (frameNumber i g)
@@ -106,7 +108,7 @@ module _ (desk sheet : List ℕ) (f : Facts desk sheet) where
       sym (kind-packed (viewLocks K sheet) from to ∙ bits-packed 4 (kindsOf sheet K from to) (ltb from K && ltb to K) (and-both (lt-ltb from K l) (lt-ltb to K h)) small)
 
   fit-desk : AreBytes deskSize desk
-      → DeskBytes (classesOf desk) (view desk sheet .is-closed) (view desk sheet .cores) (viewMarks desk) desk
+      → DeskBytes (classesOf desk) (eqb (closedOf desk) 1) (viewCores desk) (viewMarks desk) desk
   fit-desk bytes =
       record {
         long = f .long;
@@ -123,13 +125,19 @@ module _ (desk sheet : List ℕ) (f : Facts desk sheet) where
   fit-sheet : SheetBytes (classesOf desk) (viewLocks (classesOf desk) sheet) sheet
   fit-sheet = record { long = f .square; kinds = kinds-view }
 
--- A fit pair of buffers encodes its view.
-pub fit-encodes : (desk sheet : List ℕ) → fits desk sheet ≡ true → AreBytes deskSize desk
-    → Encodes (classesOf desk) (view desk sheet) desk sheet
-fit-encodes desk sheet e bytes =
-    let f = facts desk sheet e in record { in-desk = fit-desk desk sheet f bytes; in-sheet = fit-sheet desk sheet f }
+-- Fit buffers encode their view.
+pub fit-encodes : (desk sheet seen : List ℕ) → fits desk sheet seen ≡ true → AreBytes deskSize desk → AreBytes (seenSize (classesOf desk)) seen
+    → Encodes (classesOf desk) (view desk sheet seen) desk sheet seen
+fit-encodes desk sheet seen e bytes numbers =
+    let f = facts desk sheet seen e in
+    record {
+      in-desk = fit-desk desk sheet f bytes;
+      in-count = bytes-of desk numberSize acceptedAt (λ j l. bytes (acceptedAt + j) (omega arith));
+      in-sheet = fit-sheet desk sheet f;
+      in-seen = fit-seen desk sheet seen (number-facts desk sheet seen e) numbers;
+    }
 
--- ---- A fit pair of buffers is valid.
+-- ---- Fit buffers are valid.
 
 fresh-valid : (K : ℕ) → ValidCore K freshCore
 fresh-valid K =
@@ -171,7 +179,7 @@ module _ (desk sheet : List ℕ) (f : Facts desk sheet) where
         no-more = λ g l. rw (le-ltb g framesPerCore (omega arith));
       }
 
-  cores-valid : (i : ℕ) → ValidCore (classesOf desk) (view desk sheet .cores i)
+  cores-valid : (i : ℕ) → ValidCore (classesOf desk) (viewCores desk i)
   cores-valid i =
       elim (decLt i coreCount) [
         | yes l ↦ rw (lt-ltb i coreCount l) (core-valid i l)
@@ -211,9 +219,9 @@ module _ (desk sheet : List ℕ) (f : Facts desk sheet) where
       let a = and-cases (ltb from K) _ (and-cases (ltb from K && ltb to K) _ e .0) in
       (ltb-true _ _ (a .0), ltb-true _ _ (a .1))
 
-pub fit-valid : (desk sheet : List ℕ) → fits desk sheet ≡ true → Valid (classesOf desk) (view desk sheet)
-fit-valid desk sheet e =
-    let f = facts desk sheet e in
+pub fit-valid : (desk sheet seen : List ℕ) → fits desk sheet seen ≡ true → AreBytes deskSize desk → Valid (classesOf desk) (view desk sheet seen)
+fit-valid desk sheet seen e bytes =
+    let f = facts desk sheet seen e in
     record {
       cores = cores-valid desk sheet f;
       no-more = λ i l. rw (le-ltb i coreCount l);
@@ -222,6 +230,8 @@ fit-valid desk sheet e =
         soft-unsafe = soft-unsafe-hard desk sheet f;
         locks-in-range = locks-in-range desk sheet f;
       };
+      journal = fit-journal desk sheet seen (number-facts desk sheet seen e) (value-small desk numberSize acceptedAt (λ j l. bytes (acceptedAt + j) (omega arith)))
+          (λ from to l h. kinds-view desk sheet f from to l h);
     }
 
 -- ---- Buffers that encode a valid state are fit.
@@ -234,8 +244,8 @@ not-true-false : (b : Bool) → (b ≡ true → ⊥) → b ≡ false
 not-true-false true h = absurd (h refl)
 not-true-false false h = refl
 
-module _ (desk sheet : List ℕ) (some : 1 ≤ classesOf desk) (few : classesOf desk ≤ maxClasses)
-    (s : State) (v : Valid (classesOf desk) s) (e : Encodes (classesOf desk) s desk sheet) where
+module _ (desk sheet seen : List ℕ) (some : 1 ≤ classesOf desk) (few : classesOf desk ≤ maxClasses)
+    (s : State) (v : Valid (classesOf desk) s) (e : Encodes (classesOf desk) s desk sheet seen) where
   core-fact : (i : ℕ) → i < coreCount → CoreFacts desk i
   core-fact i l =
       record {
@@ -356,14 +366,15 @@ module _ (desk sheet : List ℕ) (some : 1 ≤ classesOf desk) (few : classesOf 
           (λ t. let r = v .graph .locks-in-range from to k t in
           true≢false (sym (and-both (lt-ltb _ _ (r .0)) (lt-ltb _ _ (r .1))) ∙ h)))
 
-  view-of : view desk sheet ≡ s
+  view-of : view desk sheet seen ≡ s
   view-of =
       let closed : eqb (closedOf desk) 1 ≡ s .is-closed = rw (e .in-desk .closed) (flag-back (s .is-closed)) in
-      let graph : view desk sheet .graph ≡ s .graph =
+      let graph : viewGraph desk sheet ≡ s .graph =
       ap₂ (λ (d : Dependencies) (m : Marks). record { locks = d; marks = m })
       (fun-ext (λ f. fun-ext (λ t. fun-ext (locks-are f t)))) (fun-ext (λ c. fun-ext (λ l. fun-ext (marks-are c l)))) in
-      ap (λ (b : Bool). record { is-closed = b; cores = view desk sheet .cores; graph = view desk sheet .graph }) closed
-      ∙ ap₂ (λ (c : ℕ → Core) (g : Graph). record { is-closed = s .is-closed; cores = c; graph = g }) (fun-ext core-is) graph
+      ap₂ (λ (b : Bool) (j : Journal). record { is-closed = b; cores = viewCores desk; graph = viewGraph desk sheet; journal = j }) closed
+      (journal-is desk seen (s .graph) (s .journal) (v .graph) (v .journal) (e .in-count) (e .in-seen))
+      ∙ ap₂ (λ (c : ℕ → Core) (g : Graph). record { is-closed = s .is-closed; cores = c; graph = g; journal = s .journal }) (fun-ext core-is) graph
 
   all-facts : Facts desk sheet
   all-facts =
@@ -395,37 +406,35 @@ module _ (desk sheet : List ℕ) (some : 1 ≤ classesOf desk) (few : classesOf 
               | no k ↦ let z = F .unused p q (omega arith) in omega arith
             ];
         origins = e .in-desk .eight;
+        accepted = λ j l. rw (e .in-count j l) (byte-small numberSize (s .journal .accepted) j l);
       }
 
-pub encodes-fit : (K : ℕ) (s : State) (desk sheet : List ℕ) → 1 ≤ K → K ≤ maxClasses → Valid K s → Encodes K s desk sheet
-    → fits desk sheet ≡ true
-encodes-fit K s desk sheet some few v e =
-    let k : classesOf desk ≡ K = e .in-desk .classes in
-    fits-of desk sheet (all-facts desk sheet (rw k some) (rw k few) s (rw k v) (subst (λ (n : ℕ). Encodes n s desk sheet) (sym k) e))
+  number-fact : NumberFacts desk sheet seen
+  number-fact = encoded-numbers desk sheet seen some (s .graph .locks) (s .journal) (v .journal) (e .in-count) (e .in-sheet) (e .in-seen)
 
--- A valid state is the view of the buffers that encode it.
-view-is : (K : ℕ) (s : State) (desk sheet : List ℕ) → 1 ≤ K → K ≤ maxClasses → Valid K s → Encodes K s desk sheet → view desk sheet ≡ s
-view-is K s desk sheet some few v e =
-    let k : classesOf desk ≡ K = e .in-desk .classes in
-    view-of desk sheet (rw k some) (rw k few) s (rw k v) (subst (λ (n : ℕ). Encodes n s desk sheet) (sym k) e)
-
-bytes-are : (K : ℕ) (s : State) (desk sheet : List ℕ) → 1 ≤ K → K ≤ maxClasses → Valid K s → Encodes K s desk sheet
-    → AreBytes deskSize desk
-bytes-are K s desk sheet some few v e =
-    let k : classesOf desk ≡ K = e .in-desk .classes in
-    by-place (λ j. getD desk j 0 < 256) (byte-places desk sheet (rw k some) (rw k few) s (rw k v) (subst (λ (n : ℕ). Encodes n s desk sheet) (sym k) e))
+-- What encodes a valid state stands for it.
+stands-at : {s : State} {desk sheet seen : List ℕ} → 1 ≤ classesOf desk → classesOf desk ≤ maxClasses → Valid (classesOf desk) s
+    → Encodes (classesOf desk) s desk sheet seen → StandFor (classesOf desk) s desk sheet seen
+stands-at {s} {desk} {sheet} {seen} some few v e =
+    record {
+      fit = fits-of desk sheet seen (all-facts desk sheet seen some few s v e) (number-fact desk sheet seen some few s v e);
+      classes = refl;
+      bytes = by-place (λ j. getD desk j 0 < 256) (byte-places desk sheet seen some few s v e);
+      numbers = by-number (classesOf desk) some (λ j. getD seen j 0 < 256)
+          (λ from to b l h k. rw (e .in-seen .numbers from to l h b k) (byte-small numberSize (s .journal .seen from to) b k));
+      is-view = view-of desk sheet seen some few s v e;
+    }
 
 -- ---- Standing for a state and encoding it are the same.
 
-pub stand-encodes : {K : ℕ} {s : State} {desk sheet : List ℕ} → StandFor K s desk sheet → Encodes K s desk sheet
-stand-encodes {desk = desk} {sheet} f =
-    subst₂ (λ (k : ℕ) (s : State). Encodes k s desk sheet) (f .classes) (f .is-view) (fit-encodes desk sheet (f .fit) (f .bytes))
+pub stand-encodes : {K : ℕ} {s : State} {desk sheet seen : List ℕ} → StandFor K s desk sheet seen → Encodes K s desk sheet seen
+stand-encodes {K} {s} {desk} {sheet} {seen} f =
+    subst₂ (λ (k : ℕ) (s : State). Encodes k s desk sheet seen) (f .classes) (f .is-view)
+    (fit-encodes desk sheet seen (f .fit) (f .bytes) (subst (λ (k : ℕ). AreBytes (seenSize k) seen) (sym (f .classes)) (f .numbers)))
 
-pub encodes-stand : {K : ℕ} {s : State} {desk sheet : List ℕ} → 1 ≤ K → K ≤ maxClasses → Valid K s → Encodes K s desk sheet → StandFor K s desk sheet
-encodes-stand {K} {s} {desk} {sheet} some few v e =
-    record {
-      fit = encodes-fit K s desk sheet some few v e;
-      classes = e .in-desk .classes;
-      bytes = bytes-are K s desk sheet some few v e;
-      is-view = view-is K s desk sheet some few v e;
-    }
+pub encodes-stand : {K : ℕ} {s : State} {desk sheet seen : List ℕ} → 1 ≤ K → K ≤ maxClasses → Valid K s → Encodes K s desk sheet seen
+    → StandFor K s desk sheet seen
+encodes-stand {K} {s} {desk} {sheet} {seen} some few v e =
+    let k : classesOf desk ≡ K = e .in-desk .classes in
+    subst (λ (n : ℕ). StandFor n s desk sheet seen) k
+    (stands-at (rw k some) (rw k few) (rw k v) (subst (λ (n : ℕ). Encodes n s desk sheet seen) (sym k) e))

@@ -3,5 +3,6 @@ pub mod Origins
 pub mod MarkTests
 pub mod Facts
 pub mod Places
+pub mod Journals
 pub mod Fitting
 pub mod Settled

@@ -1,4 +1,4 @@
--- Every byte of the desk and of the sheet has a name: what holds at each named place holds of every byte. Assumes nothing.
+-- Every byte of the desk and of the sheets has a name: what holds at each named place holds of every byte. Assumes nothing.
 use mathlib.Core.Path.{_≡_, subst}
 use Prim.Native.Nat.{ℕ, _+_, _-_, _*_, _/_, _%_, _≤_, _<_}
 use native.Mathlib.Nat.{mod-lt, div-add-mod', div-lt-iff-lt-mul}
@@ -6,7 +6,7 @@ use native.Mathlib.Decide.{decLt}
 use native.Mathlib.Omega.{arith}
 use Rattle.rules.specs.Limits.{coreCount, maxClasses, maxDepth}
 use Rattle.rules.specs.Context.{Frame}
-use Rattle.layout.specs.Layout.{framesPerCore, frameCount, classesAt, closedAt, statesAt, depthsAt, marksAt, heldAt, originsAt, placeCount, originBytes, deskSize, sheetSize, frameNumber}
+use Rattle.layout.specs.Layout.{framesPerCore, frameCount, classesAt, closedAt, statesAt, depthsAt, marksAt, heldAt, originsAt, placeCount, originBytes, acceptedAt, numberSize, deskSize, sheetSize, seenSize, frameNumber}
 
 -- Every frame is one of a core's.
 pub by-frame : (P : ℕ → Type 0) → ((i : ℕ) (f : Frame) → i < coreCount → f < framesPerCore → P (frameNumber i f))
@@ -25,6 +25,7 @@ pub record AtPlaces (P : ℕ → Type 0) : Type 0 where
   pub held : (i : ℕ) (f : Frame) (p : ℕ) → i < coreCount → f < framesPerCore → p < maxDepth
       → P (heldAt + maxDepth * frameNumber i f + p)
   pub origins : (b : ℕ) → b < originBytes → P (originsAt + b)
+  pub accepted : (b : ℕ) → b < numberSize → P (acceptedAt + b)
 
 -- Every byte below deskSize has a named place.
 pub by-place : (P : ℕ → Type 0) → AtPlaces P → (j : ℕ) → j < deskSize → P j
@@ -48,7 +49,10 @@ by-place P a j l =
                     subst P e
                     (by-frame (λ n. P (heldAt + maxDepth * n + q % maxDepth)) (λ i f h g. a .held i f (q % maxDepth) h g (omega arith))
                     (q / maxDepth) (omega arith))
-                | no h₅ ↦ let e : originsAt + (j - originsAt) ≡ j = omega arith in subst P e (a .origins (j - originsAt) (omega arith))
+                | no h₅ ↦ elim (decLt j acceptedAt) [
+                  | yes h ↦ let e : originsAt + (j - originsAt) ≡ j = omega arith in subst P e (a .origins (j - originsAt) (omega arith))
+                  | no h₆ ↦ let e : acceptedAt + (j - acceptedAt) ≡ j = omega arith in subst P e (a .accepted (j - acceptedAt) (omega arith))
+                ]
               ]
             ]
           ]
@@ -67,3 +71,11 @@ by-origin P a k l =
 pub by-pair : (K : ℕ) → 1 ≤ K → (P : ℕ → Type 0) → ((from to : ℕ) → from < K → to < K → P (from * K + to))
     → (j : ℕ) → j < sheetSize K → P j
 by-pair K some P a j l = subst P (div-add-mod' j K) (a (j / K) (j % K) (div-lt-iff-lt-mul some .1 l) (mod-lt j some))
+
+-- Every byte of the second sheet is one of the number of a pair.
+pub by-number : (K : ℕ) → 1 ≤ K → (P : ℕ → Type 0)
+    → ((from to b : ℕ) → from < K → to < K → b < numberSize → P (numberSize * (from * K + to) + b)) → (j : ℕ) → j < seenSize K → P j
+by-number K some P a j l =
+    let e : numberSize * (j / numberSize) + j % numberSize ≡ j = omega arith in
+    subst P e
+    (by-pair K some (λ i. P (numberSize * i + j % numberSize)) (λ from to lf lt. a from to (j % numberSize) lf lt (omega arith)) (j / numberSize) (omega arith))

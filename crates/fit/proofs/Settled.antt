@@ -11,9 +11,9 @@ use Rattle.words.proofs.Words.{bits-same, bit-shift, bit-high}
 use Rattle.rules.specs.HeldLocks.{Core}
 use Rattle.rules.specs.Marks.{Marks}
 use Rattle.rules.specs.Graph.{Dependencies}
-use Rattle.layout.specs.Layout.{originsAt, placeCount, deskSize, sheetSize, originBit, KeepsPast}
-use Rattle.layout.specs.Encoding.{DeskBytes, SheetBytes}
-use Rattle.fit.proofs.Places.{AtPlaces, by-place, by-origin, by-pair}
+use Rattle.layout.specs.Layout.{originsAt, placeCount, acceptedAt, deskSize, sheetSize, seenSize, originBit, KeepsPast}
+use Rattle.layout.specs.Encoding.{DeskBytes, SheetBytes, NumberBytes, SeenBytes}
+use Rattle.fit.proofs.Places.{AtPlaces, by-place, by-origin, by-pair, by-number}
 
 -- Two lists of one length are equal if they are below n and from n on.
 meets : (n : ℕ) (x y : List ℕ) → length x ≡ length y → ((j : ℕ) → j < n → getD x j 0 ≡ getD y j 0)
@@ -34,8 +34,9 @@ same-byte w v l h e =
       | no q ↦ bit-high 8 w t l (omega arith) ∙ sym (bit-high 8 v t h (omega arith))
     ])
 
-module _ (K : ℕ) (is-closed : Bool) (cores : ℕ → Core) (marks : Marks) (x y : List ℕ)
-    (a : DeskBytes K is-closed cores marks x) (b : DeskBytes K is-closed cores marks y) where
+module _ (K : ℕ) (is-closed : Bool) (cores : ℕ → Core) (marks : Marks) (accepted : ℕ) (x y : List ℕ)
+    (a : DeskBytes K is-closed cores marks x) (b : DeskBytes K is-closed cores marks y) (n : NumberBytes accepted x acceptedAt)
+    (m : NumberBytes accepted y acceptedAt) where
   same-origins : (k : ℕ) → k < placeCount → originBit x k ≡ originBit y k
   same-origins = by-origin (λ k. originBit x k ≡ originBit y k) (λ i f p l h q. a .origins i f p l h q ∙ sym (b .origins i f p l h q))
 
@@ -52,8 +53,9 @@ module _ (K : ℕ) (is-closed : Bool) (cores : ℕ → Core) (marks : Marks) (x 
             same-byte (getD x (originsAt + k) 0) (getD y (originsAt + k) 0) (a .eight k l) (b .eight k l)
             (λ t h.
             let e : (8 * k + t) / 8 ≡ k = omega arith in
-            let m : (8 * k + t) % 8 ≡ t = omega arith in
-            rw (e, m) at (same-origins (8 * k + t) (omega arith)));
+            let r : (8 * k + t) % 8 ≡ t = omega arith in
+            rw (e, r) at (same-origins (8 * k + t) (omega arith)));
+        accepted = λ j l. n j l ∙ sym (m j l);
       }
 
   pub settled-desk : length x ≡ length y → ((j : ℕ) → deskSize ≤ j → getD x j 0 ≡ getD y j 0) → x ≡ y
@@ -71,3 +73,9 @@ module _ (K : ℕ) (some : 1 ≤ K) (locks : Dependencies) (x y : List ℕ) (a :
 
   pub settled-sheet-after : (before : List ℕ) → KeepsPast (sheetSize K) before x → KeepsPast (sheetSize K) before y → x ≡ y
   settled-sheet-after before = both-keep (sheetSize K) before x y same-pairs
+
+module _ (K : ℕ) (some : 1 ≤ K) (seen : ℕ → ℕ → ℕ) (x y : List ℕ) (a : SeenBytes K seen x) (b : SeenBytes K seen y) where
+  pub settled-seen-after : (before : List ℕ) → KeepsPast (seenSize K) before x → KeepsPast (seenSize K) before y → x ≡ y
+  settled-seen-after before =
+      both-keep (seenSize K) before x y
+      (by-number K some (λ j. getD x j 0 ≡ getD y j 0) (λ from to i l h k. a .numbers from to l h i k ∙ sym (b .numbers from to l h i k)))

@@ -1,17 +1,18 @@
-// The fit test of document 01: whether desk and sheet are such as opening and steps leave.
+// The fit test of document 01: whether desk and both sheets are such as opening and steps leave.
 ghost use mathlib.Core.Path.{_≡_};
 ghost use mathlib.Core.Bool.{_&&_, _||_};
-ghost use Prim.Native.Nat.{_<_, _≤_, _/_, _%_};
+ghost use Prim.Native.Nat.{_<_, _≤_, _*_, _/_, _%_};
 ghost use lib.Dec.{leb, eqb};
 ghost use Rattle.rules.specs.Context.{mayHoldSoft, mayHoldHard};
 ghost use lib.ListN.{length};
 ghost use Rattle.rules.specs.Limits.{coreCount, maxClasses, maxDepth};
-ghost use Rattle.layout.specs.Layout.{frameCount, placeCount, originBytes, deskSize};
+ghost use Rattle.layout.specs.Layout.{frameCount, placeCount, originBytes, deskSize, sheetSize, numberSize};
 ghost use Rattle.fit.specs.Empty.{emptyAt, noTryIn, byteFits};
-ghost use Rattle.layout.specs.Fit.{allBelow, coreFits, heldFits, frameFits, originFits, markFits, kindsFit};
+ghost use Rattle.layout.specs.Fit.{allBelow, coreFits, heldFits, frameFits, originFits, markFits, kindsFit, graphFits, numberFits};
 use context::CoreState;
 use context::HARD;
 use context::SOFT;
+use layout::ACCEPTED_AT;
 use layout::CLASSES_AT;
 use layout::CLOSED_AT;
 use layout::CORES;
@@ -24,9 +25,11 @@ use layout::HELD_MODES;
 use layout::MARKS_AT;
 use layout::MAX_CLASSES;
 use layout::MAX_DEPTH;
+use layout::NUMBER_SIZE;
 use layout::ORIGIN_BYTES;
 use layout::ORIGINS_AT;
 use layout::STATES_AT;
+use numbers::number_at;
 use origins::origin;
 
 const ALL_KINDS: u8 = 15;
@@ -286,8 +289,9 @@ fn kinds_fit(sheet: &[u8], size: usize) -> bool
     ok
 }
 
-pub fn fits(desk: &[u8], sheet: &[u8]) -> bool
-    ensures { λ r. ⌜ r ≡ Rattle.layout.specs.Fit.fits (now (desk .entry)) (now (sheet .entry)) ⌝ }
+// All but the numbers of the second sheet.
+fn graph_fits(desk: &[u8], sheet: &[u8]) -> bool
+    ensures { λ r. ⌜ r ≡ graphFits (now (desk .entry)) (now (sheet .entry)) ⌝ }
 {
     if desk.len() < DESK_SIZE {
         return false;
@@ -320,4 +324,34 @@ pub fn fits(desk: &[u8], sheet: &[u8]) -> bool
         return false;
     }
     kinds_fit(sheet, size)
+}
+
+// Each pair of the second sheet has a number exactly where the sheet has kinds, and none above the count. The loop has no branch, so that the
+// compiler makes vector instructions of it.
+fn numbers_fit(sheet: &[u8], seen: &[u8], size: usize, accepted: u32) -> bool
+    requires { ⌜ (size ≤ length (now sheet)) × (numberSize * size ≤ length (now seen)) × (size ≤ sheetSize maxClasses) ⌝ }
+    ensures { λ r. ⌜ r ≡ allBelow size (numberFits accepted (now (sheet .entry)) (now (seen .entry))) ⌝ }
+{
+    let mut bad = false;
+    let mut j: usize = 0;
+    while j < size {
+        let number = number_at(seen, NUMBER_SIZE * j);
+        bad = bad | (accepted < number) | ((number == 0) ^ (sheet[j] == 0));
+        j += 1;
+    }
+    !bad
+}
+
+pub fn fits(desk: &[u8], sheet: &[u8], seen: &[u8]) -> bool
+    ensures { λ r. ⌜ r ≡ Rattle.layout.specs.Fit.fits (now (desk .entry)) (now (sheet .entry)) (now (seen .entry)) ⌝ }
+{
+    if !graph_fits(desk, sheet) {
+        return false;
+    }
+    let k = desk[CLASSES_AT] as usize;
+    let size = k * k;
+    if seen.len() < NUMBER_SIZE * size {
+        return false;
+    }
+    numbers_fit(sheet, seen, size, number_at(desk, ACCEPTED_AT))
 }

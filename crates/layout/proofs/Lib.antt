@@ -1,3 +1,5 @@
 pub mod Flags
 pub mod Buffers
 pub mod Held
+pub mod Numbers
+pub mod Slips

@@ -1,20 +1,21 @@
--- Document 01, "What lies on the bench": what the bytes stand for, a fit desk and sheet for a state of the rules, a slip for a cycle. Past the cores,
+-- Document 01, "What lies on the bench": what the bytes stand for, a fit desk and its sheets for a state of the rules, a slip for a cycle. Past the cores,
 -- frames and classes the state is as at opening.
 use mathlib.Core.Path.{_≡_}
 use mathlib.Core.Bool.{true, cond, _&&_}
-use mathlib.Core.List.{List, []}
-use Prim.Native.Nat.{ℕ, _+_, _*_, _/_, _%_, _<_}
+use mathlib.Core.List.{List, [], _++_}
+use Prim.Native.Nat.{ℕ, zero, suc, _+_, _*_, _/_, _%_, _<_}
 use lib.Dec.{ltb, eqb}
 use lib.ListN.{length, getD}
 use Rattle.rules.specs.Limits.{coreCount, maxClasses, heldModes}
 use Rattle.rules.specs.HeldLocks.{HeldLock, Core, freshCore}
 use Rattle.rules.specs.Marks.{Marks, markBit}
-use Rattle.rules.specs.Graph.{Dependencies, kindBit}
+use Rattle.rules.specs.Graph.{Dependencies, kindBit, Graph, sourceNumber}
 use Rattle.rules.specs.Decision.{tabulate}
-use Rattle.rules.specs.Cycle.{Entry, entryBytes, entryAt}
-use Rattle.rules.specs.Run.{State}
+use Rattle.rules.specs.Cycle.{Entry, entryBytes, entryAt, following}
+use Rattle.rules.specs.Run.{Journal, State}
 use Rattle.layout.specs.Fit.{fits}
-use Rattle.layout.specs.Layout.{framesPerCore, frameNumber, deskSize, entriesAt, entrySize, classesOf, closedOf, stateOf, depthOf, markOf, heldOf, originOf, kindsOf, countOf, AreBytes}
+use Rattle.layout.specs.Layout.{framesPerCore, frameNumber, numberSize, deskSize, seenSize, entriesAt, entrySize, classesOf, closedOf, stateOf, depthOf, markOf, heldOf, originOf, kindsOf, acceptedOf, numberOf, countOf, AreBytes}
+use Rattle.layout.specs.Number.{bytesOf}
 
 -- "each class + 64 x mode", and the origin, "1 for a try"
 abbrev pub heldLockOf : ℕ → ℕ → HeldLock
@@ -37,24 +38,43 @@ viewMarks desk c l u = ltb c maxClasses && eqb (markOf desk c / markBit l u % 2)
 abbrev pub viewLocks : ℕ → List ℕ → Dependencies
 viewLocks K sheet from to k = (ltb from K && ltb to K) && eqb (kindsOf sheet K from to / kindBit k % 2) 1
 
--- The state that desk and sheet stand for: "byte 1 is 0 open, 1 closed".
-abbrev pub view : (desk sheet : List ℕ) → State
-view desk sheet =
+abbrev pub viewGraph : (desk sheet : List ℕ) → Graph
+viewGraph desk sheet = record { locks = viewLocks (classesOf desk) sheet; marks = viewMarks desk }
+
+abbrev pub viewCores : List ℕ → ℕ → Core
+viewCores desk i = cond (ltb i coreCount) (viewCore desk i) freshCore
+
+-- "a four-byte count of accepted records"; "for each pair, the number of the accepted record that first drew a hold arrow there, 0 for none"
+abbrev pub viewJournal : (desk seen : List ℕ) → Journal
+viewJournal desk seen =
     record {
-      is-closed = eqb (closedOf desk) 1;
-      cores = λ i. cond (ltb i coreCount) (viewCore desk i) freshCore;
-      graph = record { locks = viewLocks (classesOf desk) sheet; marks = viewMarks desk };
+      accepted = acceptedOf desk;
+      seen = λ f t. cond (ltb f (classesOf desk) && ltb t (classesOf desk)) (numberOf seen (classesOf desk) f t) 0;
     }
 
--- Desk and sheet stand for the state s of K classes. That settles all their bytes (crates/fit/proofs/Settled.antt).
-pub record StandFor (K : ℕ) (s : State) (desk sheet : List ℕ) : Type 0 where
-  pub fit : fits desk sheet ≡ true
+-- The state that desk and sheets stand for: "byte 1 is 0 open, 1 closed".
+abbrev pub view : (desk sheet seen : List ℕ) → State
+view desk sheet seen =
+    record { is-closed = eqb (closedOf desk) 1; cores = viewCores desk; graph = viewGraph desk sheet; journal = viewJournal desk seen }
+
+-- Desk and sheets stand for the state s of K classes. That settles all their bytes (crates/fit/proofs/Settled.antt).
+pub record StandFor (K : ℕ) (s : State) (desk sheet seen : List ℕ) : Type 0 where
+  pub fit : fits desk sheet seen ≡ true
   pub classes : classesOf desk ≡ K
   pub bytes : AreBytes deskSize desk
-  pub is-view : view desk sheet ≡ s
+  pub numbers : AreBytes (seenSize K) seen
+  pub is-view : view desk sheet seen ≡ s
 
--- "Byte 0 is n; then n times three bytes: class, kind, source."
-pub record SlipBytes (es : List Entry) (slip : List ℕ) : Type 0 where
+-- The number of an entry of a cycle: that of its pair, "or 0 for an interrupt arrow".
+abbrev pub numberBy : (source : ℕ) → ℕ → ℕ
+numberBy zero n = n
+numberBy (suc source) n = 0
+
+abbrev pub entrySeen : (seen : ℕ → ℕ → ℕ) → List Entry → ℕ → ℕ
+entrySeen seen es i = numberBy (sourceNumber (entryAt es i .source)) (seen (entryAt es i .class) (following es i .class))
+
+-- "Byte 0 is n; then n times" seven bytes: "class, kind, source", and "the last four that number, low byte first".
+pub record SlipBytes (seen : ℕ → ℕ → ℕ) (es : List Entry) (slip : List ℕ) : Type 0 where
   pub count : countOf slip ≡ length es
   pub entries : (i j : ℕ) → i < length es → j < entrySize
-      → getD slip (entriesAt + entrySize * i + j) 0 ≡ getD (entryBytes (entryAt es i)) j 0
+      → getD slip (entriesAt + entrySize * i + j) 0 ≡ getD (entryBytes (entryAt es i) ++ bytesOf numberSize (entrySeen seen es i)) j 0

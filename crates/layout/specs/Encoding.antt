@@ -13,7 +13,8 @@ use Rattle.rules.specs.Marks.{Marks, Level, hardIrq, softIrq, Usage, safe, unsa
 use Rattle.rules.specs.Graph.{Dependencies, Kind, kindBit}
 use Rattle.rules.specs.KindNames.{ER, EN, SR, SN}
 use Rattle.rules.specs.Run.{State}
-use Rattle.layout.specs.Layout.{framesPerCore, originsAt, originBytes, deskSize, sheetSize, frameNumber, classesOf, closedOf, stateOf, depthOf, markOf, heldOf, originOf, kindsOf}
+use Rattle.layout.specs.Number.{bytesOf}
+use Rattle.layout.specs.Layout.{framesPerCore, originsAt, originBytes, acceptedAt, numberSize, deskSize, sheetSize, seenSize, frameNumber, classesOf, closedOf, stateOf, depthOf, markOf, heldOf, originOf, kindsOf}
 
 -- "marks by class": the sum of the bits of the marks that are set.
 unfoldable pub markByte : Marks → ℕ → ℕ
@@ -50,7 +51,7 @@ abbrev pub EightBits : List ℕ → Type 0
 EightBits desk = (b : ℕ) → b < originBytes → getD desk (originsAt + b) 0 < 256
 
 -- "byte 0 K; byte 1 is 0 open, 1 closed; bytes 2-9 each core's state; bytes 10-33 hold depths; bytes 34-97 marks by class; bytes 98-577 the
--- holds, 20 per frame in the order of the depths, oldest first"; the origins after them, eight to a byte.
+-- holds, 20 per frame in the order of the depths, oldest first"; the origins after them, eight to a byte. The count behind them stands in Encodes.
 pub record DeskBytes (K : ℕ) (is-closed : Bool) (cores : ℕ → Core) (marks : Marks) (desk : List ℕ) : Type 0 where
   pub long : deskSize ≤ length desk
   pub classes : classesOf desk ≡ K
@@ -69,6 +70,17 @@ pub record SheetBytes (K : ℕ) (locks : Dependencies) (sheet : List ℕ) : Type
   pub long : sheetSize K ≤ length sheet
   pub kinds : (from to : ℕ) → from < K → to < K → kindsOf sheet K from to ≡ kindByte locks from to
 
-pub record Encodes (K : ℕ) (s : State) (desk sheet : List ℕ) : Type 0 where
+-- The bytes of a number, from place `at` on.
+abbrev pub NumberBytes : ℕ → List ℕ → (at : ℕ) → Type 0
+NumberBytes n buffer at = (j : ℕ) → j < numberSize → getD buffer (at + j) 0 ≡ getD (bytesOf numberSize n) j 0
+
+-- "for each pair, the number"
+pub record SeenBytes (K : ℕ) (seen : ℕ → ℕ → ℕ) (buffer : List ℕ) : Type 0 where
+  pub long : seenSize K ≤ length buffer
+  pub numbers : (from to : ℕ) → from < K → to < K → NumberBytes (seen from to) buffer (numberSize * (from * K + to))
+
+pub record Encodes (K : ℕ) (s : State) (desk sheet seen : List ℕ) : Type 0 where
   pub in-desk : DeskBytes K (s .is-closed) (s .cores) (s .graph .marks) desk
+  pub in-count : NumberBytes (s .journal .accepted) desk acceptedAt
   pub in-sheet : SheetBytes K (s .graph .locks) sheet
+  pub in-seen : SeenBytes K (s .journal .seen) seen

@@ -1,5 +1,5 @@
 -- Document 01, "Unfit": the fit test, one Boolean with a clause for each of the document's.
-use mathlib.Core.Bool.{Bool, true, false, _&&_, _||_}
+use mathlib.Core.Bool.{Bool, true, false, _&&_, _||_, Bool·beq}
 use mathlib.Core.List.{List}
 use Prim.Native.Nat.{ℕ, zero, suc, _/_, _%_}
 use lib.Dec.{leb, ltb, eqb}
@@ -8,7 +8,7 @@ use Rattle.rules.specs.Limits.{coreCount, maxClasses, maxDepth, heldModes}
 use Rattle.rules.specs.Context.{hardOverSoft, soft, hard, mayHoldSoft, mayHoldHard}
 use Rattle.rules.specs.HeldLocks.{First, E, S}
 use Rattle.rules.specs.Marks.{Level, hardIrq, softIrq, unsafe, markBit}
-use Rattle.layout.specs.Layout.{frameCount, placeCount, deskSize, sheetSize, slipSize, frameNumber, classesOf, closedOf, stateOf, depthOf, markOf, heldOf, originBit}
+use Rattle.layout.specs.Layout.{frameCount, placeCount, deskSize, sheetSize, seenSize, slipSize, frameNumber, classesOf, closedOf, stateOf, depthOf, markOf, heldOf, originBit, acceptedOf, pairNumber}
 
 -- The test holds of every number below n.
 unfoldable pub allBelow : ℕ → (ℕ → Bool) → Bool
@@ -53,9 +53,9 @@ markFits K desk c =
 abbrev pub kindsFit : List ℕ → ℕ → Bool
 kindsFit sheet j = leb (getD sheet j 0) 15
 
--- "any buffer too short; K not 1-64; byte 1 over 1", and the clauses above: desk and sheet, as the question takes them
-unfoldable pub fits : (desk sheet : List ℕ) → Bool
-fits desk sheet =
+-- "any buffer too short; K not 1-64; byte 1 over 1", and the clauses above: desk and sheet
+unfoldable pub graphFits : (desk sheet : List ℕ) → Bool
+graphFits desk sheet =
     leb deskSize (length desk)
     && (classesFit (classesOf desk)
     && (leb (sheetSize (classesOf desk)) (length sheet)
@@ -66,6 +66,20 @@ fits desk sheet =
     && (allBelow maxClasses (markFits (classesOf desk) desk)
     && allBelow (sheetSize (classesOf desk)) (kindsFit sheet))))))))
 
+-- "a pair with kinds but number 0, or the reverse, or a number above the count, is unfit"
+unfoldable pub numberFits : (accepted : ℕ) (sheet seen : List ℕ) → ℕ → Bool
+numberFits accepted sheet seen j = leb (pairNumber seen j) accepted && Bool·beq (eqb (pairNumber seen j) 0) (eqb (getD sheet j 0) 0)
+
+-- The second sheet: long enough, and each of its pairs
+unfoldable pub numbersFit : (desk sheet seen : List ℕ) → Bool
+numbersFit desk sheet seen =
+    leb (seenSize (classesOf desk)) (length seen)
+    && allBelow (sheetSize (classesOf desk)) (numberFits (acceptedOf desk) sheet seen)
+
+-- Desk and both sheets, as the question takes them.
+unfoldable pub fits : (desk sheet seen : List ℕ) → Bool
+fits desk sheet seen = graphFits desk sheet && numbersFit desk sheet seen
+
 -- The step has a slip too.
-unfoldable pub fitsAll : (desk sheet slip : List ℕ) → Bool
-fitsAll desk sheet slip = fits desk sheet && leb (slipSize (classesOf desk)) (length slip)
+unfoldable pub fitsAll : (desk sheet seen slip : List ℕ) → Bool
+fitsAll desk sheet seen slip = fits desk sheet seen && leb (slipSize (classesOf desk)) (length slip)

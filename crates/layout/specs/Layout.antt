@@ -1,4 +1,4 @@
--- Document 01, "What lies on the bench": where each byte of the desk, the sheet and the slip stands. Every other definition goes by these names;
+-- Document 01, "What lies on the bench": where each byte of the desk, the two sheets and the slip stands. Every other definition goes by these names;
 -- src/lib.rt has them once more for the code.
 use mathlib.Core.Path.{_≡_}
 use mathlib.Core.List.{List}
@@ -6,6 +6,7 @@ use Prim.Native.Nat.{ℕ, _+_, _*_, _/_, _%_, _^_, _≤_, _<_}
 use lib.ListN.{length, getD}
 use Rattle.rules.specs.Limits.{coreCount, maxClasses, maxDepth}
 use Rattle.rules.specs.Context.{Frame}
+use Rattle.layout.specs.Number.{lowFirst}
 
 -- Frames of one core: task, soft, hard.
 abbrev pub framesPerCore : ℕ
@@ -42,11 +43,22 @@ originsAt = heldAt + placeCount
 abbrev pub originBytes : ℕ
 originBytes = placeCount / 8
 
+-- "The desk gains a four-byte count of accepted records after its other bytes, low byte first."
+abbrev pub acceptedAt : ℕ
+acceptedAt = originsAt + originBytes
+
+abbrev pub numberSize : ℕ
+numberSize = 4
+
 abbrev pub deskSize : ℕ
-deskSize = originsAt + originBytes
+deskSize = acceptedAt + numberSize
 
 abbrev pub sheetSize : ℕ → ℕ
 sheetSize K = K * K
+
+-- "A second sheet of 4 x K x K bytes"
+abbrev pub seenSize : ℕ → ℕ
+seenSize K = numberSize * sheetSize K
 
 -- The slip has a count, and an entry for each dependency of the cycle.
 abbrev pub countAt : ℕ
@@ -55,8 +67,12 @@ countAt = 0
 abbrev pub entriesAt : ℕ
 entriesAt = 1
 
+-- "Each slip arrow grows to seven bytes": class, kind, source, and its number.
+abbrev pub entryNumberAt : ℕ
+entryNumberAt = 3
+
 abbrev pub entrySize : ℕ
-entrySize = 3
+entrySize = entryNumberAt + numberSize
 
 abbrev pub slipSize : ℕ → ℕ
 slipSize K = entriesAt + entrySize * K
@@ -95,6 +111,16 @@ originOf desk frame p = originBit desk (maxDepth * frame + p)
 
 abbrev pub kindsOf : List ℕ → ℕ → ℕ → ℕ → ℕ
 kindsOf sheet K from to = getD sheet (from * K + to) 0
+
+abbrev pub acceptedOf : List ℕ → ℕ
+acceptedOf desk = lowFirst numberSize desk acceptedAt
+
+-- The number of a pair in the second sheet, and that of pair j = from x K + to.
+abbrev pub pairNumber : List ℕ → ℕ → ℕ
+pairNumber seen j = lowFirst numberSize seen (numberSize * j)
+
+abbrev pub numberOf : List ℕ → ℕ → ℕ → ℕ → ℕ
+numberOf seen K from to = pairNumber seen (from * K + to)
 
 abbrev pub countOf : List ℕ → ℕ
 countOf slip = getD slip countAt 0

@@ -34,11 +34,23 @@ pub const ORIGINS_AT: usize = HELD_AT + PLACES;
 
 pub const ORIGIN_BYTES: usize = PLACES / 8;
 
-pub const DESK_SIZE: usize = ORIGINS_AT + ORIGIN_BYTES;
+// The count of accepted records, behind the origins.
+pub const ACCEPTED_AT: usize = ORIGINS_AT + ORIGIN_BYTES;
+
+// Bytes of a number, the low one first: the count, and the number of each pair in the second sheet and of each entry in the slip.
+pub const NUMBER_SIZE: usize = 4;
+
+// The most records that are accepted.
+pub const MAX_ACCEPTED: u32 = 4294967295;
+
+pub const DESK_SIZE: usize = ACCEPTED_AT + NUMBER_SIZE;
 
 // The slip: a count, and an entry for each dependency of the cycle.
 pub const COUNT_AT: usize = 0;
 
 pub const ENTRIES_AT: usize = 1;
 
-pub const ENTRY_SIZE: usize = 3;
+// Where the number stands in an entry, behind class, kind and source.
+pub const ENTRY_NUMBER_AT: usize = 3;
+
+pub const ENTRY_SIZE: usize = ENTRY_NUMBER_AT + NUMBER_SIZE;

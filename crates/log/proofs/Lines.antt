@@ -1,20 +1,18 @@
 -- The lines of a cycle. Assumes nothing.
-use mathlib.Core.Path.{_≡_, refl, sym}
-use mathlib.Core.Bool.{Bool, true, false, cond}
+use mathlib.Core.Path.{_≡_, refl}
 use mathlib.Core.List.{List}
 use Prim.Native.Nat.{ℕ, zero, suc, _+_, _*_, _≤_, _<_}
 use native.Mathlib.Numerals.{add-one}
 use native.Mathlib.Omega.{arith}
-use lib.Dec.{ltb}
 use lib.ListN.{length, getD, length-append}
-use borrow.Author.Tests.{lt-ltb, le-ltb, ltb-true}
 use Rattle.rules.specs.Marks.{hardIrq, softIrq}
 use Rattle.rules.specs.Graph.{lock, irq}
 use Rattle.rules.specs.KindNames.{ER, EN, SR, SN}
 use Rattle.rules.specs.Cycle.{entryAt, following}
-use Rattle.layout.specs.Layout.{countOf}
+use Rattle.layout.specs.Layout.{entriesAt, entrySize, countOf}
 use Rattle.rules.specs.Ranks.{kindOfByte, sourceOfByte}
 use Rattle.layout.specs.Slip.{entryOf, entriesOf, nextPlace}
+use Rattle.layout.proofs.Slips.{next-below}
 use Rattle.rules.proofs.Closure.{length-tabulate, getD-tabulate}
 use Rattle.log.specs.Text.{digits, kindText, sourceText, entryText, faultText, lineSize, linesOf, Appended, EntryPut}
 use Rattle.log.proofs.Digits.{places-of-byte, places-of-word}
@@ -78,21 +76,6 @@ entry-put {class = class} {kind = kind} {source = source} {to = to} h k p q r s 
       short = omega (arith, p .end-is, q .end-is, r .end-is, s .end-is, places-of-byte class h, places-of-byte to k, length-kind kind, length-source source);
     }
 
--- ---- The next place of a cycle.
-
-pub next-more : (n i : ℕ) → i + 1 < n → nextPlace n i ≡ i + 1
-next-more n i h = rw (lt-ltb (suc i) n (omega arith)) (sym (add-one i))
-
-pub next-last : (n i : ℕ) → n ≤ i + 1 → nextPlace n i ≡ 0
-next-last n i h = rw (le-ltb (suc i) n (omega arith)) refl
-
-next-below-by : (n i : ℕ) (t : Bool) → ltb (suc i) n ≡ t → i < n → cond t (suc i) 0 < n
-next-below-by n i true e h = ltb-true (suc i) n e
-next-below-by n i false e h = omega arith
-
-pub next-below : (n i : ℕ) → i < n → nextPlace n i < n
-next-below n i h = next-below-by n i (ltb (suc i) n) refl h
-
 -- ---- The entries of a slip.
 
 module _ (slip : List ℕ) where
@@ -102,7 +85,7 @@ module _ (slip : List ℕ) where
   -- The line of entry i is that of its bytes and of the class of the next.
   line-of : (i : ℕ) → i < countOf slip
       → entryText (entryAt (entriesOf slip) i) (following (entriesOf slip) i .class)
-      ≡ entryText (entryOf slip i) (getD slip (1 + 3 * nextPlace (countOf slip) i) 0)
+      ≡ entryText (entryOf slip i) (getD slip (entriesAt + entrySize * nextPlace (countOf slip) i) 0)
   line-of i h =
       rw (long, getD-tabulate (countOf slip) (entryOf slip) _ i h, getD-tabulate (countOf slip) (entryOf slip) _ (nextPlace (countOf slip) i) (next-below _ i h))
       refl
@@ -112,9 +95,9 @@ module _ (slip : List ℕ) where
   started b at h = record { end-is = omega arith; bytes = refl; inside = h }
 
   -- A turn of the loop.
-  pub turn : (b out after : List ℕ) (at end place end′ i : ℕ) → i < countOf slip → place ≡ 1 + 3 * nextPlace (countOf slip) i
+  pub turn : (b out after : List ℕ) (at end place end′ i : ℕ) → i < countOf slip → place ≡ entriesAt + entrySize * nextPlace (countOf slip) i
       → Appended b at (linesOf (entriesOf slip) i) out end
-      → EntryPut out end (getD slip (1 + 3 * i) 0) (getD slip (1 + 3 * i + 1) 0) (getD slip (1 + 3 * i + 2) 0) (getD slip place 0) after end′
+      → EntryPut out end (getD slip (entriesAt + entrySize * i) 0) (getD slip (entriesAt + entrySize * i + 1) 0) (getD slip (entriesAt + entrySize * i + 2) 0) (getD slip place 0) after end′
       → Appended b at (linesOf (entriesOf slip) (i + 1)) after end′
   unfolding linesOf
   turn b out after at end place end′ i h e p q =

@@ -1,8 +1,8 @@
 -- What opening leaves encodes the state in which every run starts, and no byte past the stated sizes is changed. Assumes nothing.
-use mathlib.Core.Path.{_≡_, _∙_}
+use mathlib.Core.Path.{_≡_, refl, sym, _∙_}
 use mathlib.Core.Bool.{true}
 use mathlib.Core.List.{List}
-use Prim.Native.Nat.{ℕ, _+_, _-_, _*_, _/_, _≤_, _<_}
+use Prim.Native.Nat.{ℕ, zero, suc, _+_, _-_, _*_, _/_, _≤_, _<_}
 use native.Mathlib.Omega.{arith}
 use lib.Dec.{leb}
 use lib.ListN.{length, getD, drop, replicate, length-append, length-drop, length-replicate, length-set, getD-replicate, List·getD-append}
@@ -13,10 +13,11 @@ use Rattle.rules.specs.Run.{start}
 use Rattle.rules.proofs.Booleans.{and-cases}
 use Rattle.layout.proofs.Buffers.{cell-inside}
 use Rattle.layout.proofs.Held.{zero-bit}
-use Rattle.layout.specs.Layout.{classesAt, closedAt, statesAt, depthsAt, marksAt, heldAt, originsAt, deskSize, sheetSize, frameNumber, KeepsPast}
-use Rattle.layout.specs.Encoding.{markByte, kindByte, DeskBytes, SheetBytes, Encodes}
+use Rattle.layout.specs.Layout.{classesAt, closedAt, statesAt, depthsAt, marksAt, heldAt, originsAt, acceptedAt, numberSize, deskSize, sheetSize, seenSize, frameNumber, KeepsPast}
+use Rattle.layout.specs.Number.{bytesOf}
+use Rattle.layout.specs.Encoding.{markByte, kindByte, DeskBytes, SheetBytes, NumberBytes, SeenBytes, Encodes}
 use Rattle.layout.specs.Fit.{classesFit}
-use Rattle.opening.specs.Open.{opens, zeroed, openedDesk, openedSheet}
+use Rattle.opening.specs.Open.{opens, zeroed, openedDesk, openedSheet, openedSeen}
 
 module _ (n : ℕ) (bytes : List ℕ) (long : n ≤ length bytes) where
   pub zeroed-length : length (zeroed n bytes) ≡ length bytes
@@ -78,20 +79,53 @@ module _ (K : ℕ) (sheet : List ℕ) (square : sheetSize K ≤ length sheet) wh
         kinds = λ from to l h. zeroed-below (sheetSize K) sheet square (from * K + to) (cell-inside K from to l h);
       }
 
-pub record FreshBuffers (K : ℕ) (desk sheet : List ℕ) : Type 0 where
-  pub encodes : Encodes K start (openedDesk K desk) (openedSheet K sheet)
+module _ (K : ℕ) (seen : List ℕ) (room : seenSize K ≤ length seen) where
+  seen-keeps : KeepsPast (seenSize K) seen (openedSeen K seen)
+  seen-keeps = record { long = zeroed-length (seenSize K) seen room; past = zeroed-past (seenSize K) seen room }
+
+  -- All bytes of the number 0 are 0.
+  zero-number : (j : ℕ) → j < numberSize → getD (bytesOf numberSize 0) j 0 ≡ 0
+  zero-number zero l = refl
+  zero-number (suc zero) l = refl
+  zero-number (suc (suc zero)) l = refl
+  zero-number (suc (suc (suc zero))) l = refl
+  zero-number (suc (suc (suc (suc j)))) l = absurd (omega arith)
+
+  opened-seen : SeenBytes K (start .journal .seen) (openedSeen K seen)
+  opened-seen =
+      record {
+        long = rw (seen-keeps .long) room;
+        numbers = λ from to l h j k.
+            let c = cell-inside K from to l h in
+            zeroed-below (seenSize K) seen room (numberSize * (from * K + to) + j) (omega arith) ∙ sym (zero-number j k);
+      }
+
+  opened-count : (desk : List ℕ) → deskSize ≤ length desk → NumberBytes (start .journal .accepted) (openedDesk K desk) acceptedAt
+  opened-count desk long j l = desk-below K desk long (acceptedAt + j) (omega arith) (omega arith) ∙ sym (zero-number j l)
+
+pub record FreshBuffers (K : ℕ) (desk sheet seen : List ℕ) : Type 0 where
+  pub encodes : Encodes K start (openedDesk K desk) (openedSheet K sheet) (openedSeen K seen)
   pub keeps-desk : KeepsPast deskSize desk (openedDesk K desk)
   pub keeps-sheet : KeepsPast (sheetSize K) sheet (openedSheet K sheet)
+  pub keeps-seen : KeepsPast (seenSize K) seen (openedSeen K seen)
 
-pub open-encodes : (K : ℕ) (desk sheet : List ℕ) → opens K desk sheet ≡ true → FreshBuffers K desk sheet
+pub open-encodes : (K : ℕ) (desk sheet seen : List ℕ) → opens K desk sheet seen ≡ true → FreshBuffers K desk sheet seen
 unfolding opens
-open-encodes K desk sheet e =
+open-encodes K desk sheet seen e =
     let a = and-cases (classesFit K) _ e in
     let b = and-cases (leb deskSize (length desk)) _ (a .1) in
+    let c = and-cases (leb (sheetSize K) (length sheet)) _ (b .1) in
     let long : deskSize ≤ length desk = leb-true _ _ (b .0) in
-    let square : sheetSize K ≤ length sheet = leb-true _ _ (b .1) in
+    let square : sheetSize K ≤ length sheet = leb-true _ _ (c .0) in
+    let room : seenSize K ≤ length seen = leb-true _ _ (c .1) in
     record {
-      encodes = record { in-desk = opened-desk K desk long; in-sheet = opened-sheet K sheet square };
+      encodes = record {
+        in-desk = opened-desk K desk long;
+        in-count = opened-count K seen room desk long;
+        in-sheet = opened-sheet K sheet square;
+        in-seen = opened-seen K seen room;
+      };
       keeps-desk = desk-keeps K desk long;
       keeps-sheet = sheet-keeps K sheet square;
+      keeps-seen = seen-keeps K seen room;
     }

@@ -1,4 +1,4 @@
-// Document 01, "Opening": a fresh desk and an empty sheet.
+// Document 01, "Opening": a fresh desk and two empty sheets.
 ghost use mathlib.Core.Path.{_≡_};
 ghost use Prim.Native.Nat.{ℕ, _<_, _≤_};
 ghost use lib.ListN.{length, replicate};
@@ -13,6 +13,7 @@ use layout::CLASSES_AT;
 use layout::CORES;
 use layout::DESK_SIZE;
 use layout::MAX_CLASSES;
+use layout::NUMBER_SIZE;
 use layout::STATES_AT;
 
 fn fill(bytes: &mut [u8], value: u8)
@@ -38,8 +39,8 @@ fn seat_cores(desk: &mut [u8])
 }
 
 // The number of classes is wide, so that one past 255 is refused and not cut.
-pub fn open(classes: u64, desk: &mut [u8], sheet: &mut [u8]) -> u8
-    ensures { λ r. ⌜ Opened classes (now (desk .entry)) (now (sheet .entry)) r (now (desk .exit)) (now (sheet .exit)) ⌝ }
+pub fn open(classes: u64, desk: &mut [u8], sheet: &mut [u8], seen: &mut [u8]) -> u8
+    ensures { λ r. ⌜ Opened classes (now (desk .entry)) (now (sheet .entry)) (now (seen .entry)) r (now (desk .exit)) (now (sheet .exit)) (now (seen .exit)) ⌝ }
 {
     let k = classes as usize;
     if k < 1 {
@@ -56,9 +57,14 @@ pub fn open(classes: u64, desk: &mut [u8], sheet: &mut [u8]) -> u8
     if whole < size {
         return BAD_OPENING;
     }
+    let numbers = NUMBER_SIZE * size;
+    if seen.len() < numbers {
+        return BAD_OPENING;
+    }
     fill(&mut desk[0..DESK_SIZE], 0);
     seat_cores(desk);
     desk[CLASSES_AT] = k as u8;
     fill(&mut sheet[0..size], 0);
+    fill(&mut seen[0..numbers], 0);
     OK
 }

@@ -1,14 +1,15 @@
 -- The contracts settle every byte; demands 1 and 2 and the balance law of the calls. Assumes nothing.
-use mathlib.Core.Path.{_≡_, refl, sym, ap, _∙_, subst}
+use mathlib.Core.Path.{_≡_, refl, sym, ap, _∙_, subst, subst₂, fun-ext}
 use mathlib.Core.Bool.{Bool, true, false}
 use mathlib.Core.List.{List, [], _∷_, _++_}
 use mathlib.Core.Logic.{_⊎_, _↔_}
-use Prim.Native.Nat.{ℕ, suc, _+_, _<_}
+use Prim.Native.Nat.{ℕ, suc, _+_, _*_, _<_}
 use native.Mathlib.Decide.{ℕ-discrete, decLt}
 use native.Mathlib.Omega.{arith}
+use lib.Dec.{eqb}
 use lib.Count.{ones}
 use lib.ListN.{length, take}
-use borrow.Author.Tests.{leb-true}
+use borrow.Author.Tests.{leb-true, le-leb, lt-ltb, eqb-true, eq-eqb}
 use Rattle.words.specs.Bits.{bit, flag}
 use Rattle.words.proofs.Words.{bit-two, bits-same}
 use Rattle.rules.specs.Record.{Bytes}
@@ -17,41 +18,45 @@ use Rattle.rules.specs.StrongPath.{ClosedStrongPath}
 use Rattle.rules.specs.Verdict.{number}
 use Rattle.rules.specs.Run.{State, Result, start, step, run, graphAt}
 use Rattle.rules.specs.Balance.{acquires, releases, tally, standing}
-use Rattle.rules.proofs.Booleans.{and-cases}
+use Rattle.rules.proofs.Booleans.{and-cases, and-both}
 use Rattle.rules.proofs.Steps.{StepCases, was-refused, was-clean, was-fault, stepped, refused-number, step-exactly}
+use Rattle.rules.specs.FirstSeen.{drawings, firstDrawn}
 use Rattle.rules.proofs.Balanced.{balanced}
-use Rattle.validity.proofs.Kept.{valid-step}
-use Rattle.layout.specs.Layout.{slipSize, classesOf, closedOf}
+use Rattle.rules.proofs.Journals.{accepted-counted, first-seen}
+use Rattle.layout.specs.Layout.{slipSize, classesOf, closedOf, kindsOf, numberOf}
 use Rattle.layout.specs.Decoding.{view}
 use Rattle.layout.specs.Fit.{fits, fitsAll}
-use Rattle.fit.proofs.Facts.{facts}
-use Rattle.fit.proofs.Fitting.{fit-valid, stand-encodes}
-use Rattle.fit.proofs.Settled.{settled-desk-after, settled-sheet-after}
+use Rattle.fit.proofs.Facts.{facts, number-facts}
+use Rattle.layout.proofs.Buffers.{cell-inside}
+use Rattle.fit.proofs.Fitting.{stand-encodes}
+use Rattle.fit.proofs.Settled.{settled-desk-after, settled-sheet-after, settled-seen-after}
 use Rattle.validator.specs.Step.{Validated}
 use Rattle.question.specs.Question.{Asked}
 use Rattle.validator.specs.Calls.{Buffers, Called}
 use Rattle.plungerowl.specs.Runs.{Ran, Opening}
 use Rattle.validator.proofs.Reports.{reported-one}
-use Rattle.plungerowl.specs.Demands.{SameStep, ClosedByFault, FaultExactly, DrawnFromRecords, Balanced}
+use Rattle.plungerowl.specs.Demands.{SameStep, ClosedByFault, FaultExactly, DrawnFromRecords, NumberedFromRecords, Balanced}
 use Rattle.plungerowl.proofs.Runs.{held-fit, validated-by, slip-long, run-holds, opening-holds}
 
 -- ---- The contracts settle the number and every byte, for every input.
 
 module _ {b b₁ b₂ : Buffers} {r : Bytes} {x y : ℕ} (p : Called b r x b₁) (q : Called b r y b₂) where
-  both-validated : fits (b .desk) (b .sheet) ≡ true → fitsAll (b .desk) (b .sheet) (b .slip) ≡ true → SameStep x y b₁ b₂
+  both-validated : fits (b .desk) (b .sheet) (b .seen) ≡ true → fitsAll (b .desk) (b .sheet) (b .seen) (b .slip) ≡ true → SameStep x y b₁ b₂
   both-validated f e =
       let K = classesOf (b .desk) in
       let u = p .validated e in
       let v = q .validated e in
-      let o = step K (view (b .desk) (b .sheet)) r .state in
+      let o = step K (view (b .desk) (b .sheet) (b .seen)) r .state in
       let n : x ≡ y = u .number-is ∙ sym (v .number-is) in
       record {
         number-is = n;
-        desk-is = settled-desk-after K (o .is-closed) (o .cores) (o .graph .marks) (b₁ .desk) (b₂ .desk) (stand-encodes (u .stands) .in-desk)
-            (stand-encodes (v .stands) .in-desk)
+        desk-is = settled-desk-after K (o .is-closed) (o .cores) (o .graph .marks) (o .journal .accepted) (b₁ .desk) (b₂ .desk)
+            (stand-encodes (u .stands) .in-desk) (stand-encodes (v .stands) .in-desk) (stand-encodes (u .stands) .in-count) (stand-encodes (v .stands) .in-count)
             (b .desk) (u .keeps-desk) (v .keeps-desk);
-        sheet-is = settled-sheet-after K (facts (b .desk) (b .sheet) f .some) (o .graph .locks) (b₁ .sheet) (b₂ .sheet) (stand-encodes (u .stands) .in-sheet)
+        sheet-is = settled-sheet-after K (facts (b .desk) (b .sheet) (b .seen) f .some) (o .graph .locks) (b₁ .sheet) (b₂ .sheet) (stand-encodes (u .stands) .in-sheet)
             (stand-encodes (v .stands) .in-sheet) (b .sheet) (u .keeps-sheet) (v .keeps-sheet);
+        seen-is = settled-seen-after K (facts (b .desk) (b .sheet) (b .seen) f .some) (o .journal .seen) (b₁ .seen) (b₂ .seen) (stand-encodes (u .stands) .in-seen)
+            (stand-encodes (v .stands) .in-seen) (b .seen) (u .keeps-seen) (v .keeps-seen);
         slip-is = elim (ℕ-discrete x 1) [
           | yes z ↦ reported-one (u .reported z) (v .reported (sym n ∙ z))
           | no h ↦ u .unreported h ∙ sym (v .unreported (λ z. h (n ∙ z)))
@@ -60,10 +65,10 @@ module _ {b b₁ b₂ : Buffers} {r : Bytes} {x y : ℕ} (p : Called b r x b₁)
 
   pub step-settles : SameStep x y b₁ b₂
   unfolding fitsAll
-  step-settles = by (fitsAll (b .desk) (b .sheet) (b .slip)) refl
+  step-settles = by (fitsAll (b .desk) (b .sheet) (b .seen) (b .slip)) refl
     where
-      by : (t : Bool) → fitsAll (b .desk) (b .sheet) (b .slip) ≡ t → SameStep x y b₁ b₂
-      by true e = both-validated (and-cases (fits (b .desk) (b .sheet)) _ e .0) e
+      by : (t : Bool) → fitsAll (b .desk) (b .sheet) (b .seen) (b .slip) ≡ t → SameStep x y b₁ b₂
+      by true e = both-validated (and-cases (fits (b .desk) (b .sheet) (b .seen)) _ e .0) e
       by false e =
           let u = p .is-unfit e in
           let v = q .is-unfit e in
@@ -71,7 +76,8 @@ module _ {b b₁ b₂ : Buffers} {r : Bytes} {x y : ℕ} (p : Called b r x b₁)
             number-is = u .0 ∙ sym (v .0);
             desk-is = u .1 ∙ sym (v .1);
             sheet-is = u .2 ∙ sym (v .2);
-            slip-is = u .3 ∙ sym (v .3);
+            seen-is = u .3 ∙ sym (v .3);
+            slip-is = u .4 ∙ sym (v .4);
           }
 
 -- A digit is 0 or 1, so digits that are 1 together are the same.
@@ -79,14 +85,14 @@ same-bit : (x y : ℕ) → x < 2 → y < 2 → (x ≡ 1 → y ≡ 1) → (y ≡ 
 same-bit x y l m p q =
     elim (ℕ-discrete x 1) [ yes e ↦ e ∙ sym (p e) | no n ↦ elim (ℕ-discrete y 1) [ yes e ↦ absurd (n (q e)) | no o ↦ omega arith ] ]
 
-pub ask-settles : {desk sheet : List ℕ} {class a word count a′ word′ count′ : ℕ} → Asked desk sheet class a word count
-    → Asked desk sheet class a′ word′ count′ → (a ≡ a′) × (word ≡ word′) × (count ≡ count′)
-ask-settles {desk} {sheet} {class} {a} {word} {count} {a′} {word′} {count′} p q = by (fits desk sheet) refl
+pub ask-settles : {desk sheet seen : List ℕ} {class a word count a′ word′ count′ : ℕ} → Asked desk sheet seen class a word count
+    → Asked desk sheet seen class a′ word′ count′ → (a ≡ a′) × (word ≡ word′) × (count ≡ count′)
+ask-settles {desk} {sheet} {seen} {class} {a} {word} {count} {a′} {word′} {count′} p q = by (fits desk sheet seen) refl
   where
     three : {x y z : ℕ} → (a ≡ x) × (word ≡ y) × (count ≡ z) → (a′ ≡ x) × (word′ ≡ y) × (count′ ≡ z) → (a ≡ a′) × (word ≡ word′) × (count ≡ count′)
     three u v = (u .0 ∙ sym (v .0), u .1 ∙ sym (v .1), u .2 ∙ sym (v .2))
 
-    by : (t : Bool) → fits desk sheet ≡ t → (a ≡ a′) × (word ≡ word′) × (count ≡ count′)
+    by : (t : Bool) → fits desk sheet seen ≡ t → (a ≡ a′) × (word ≡ word′) × (count ≡ count′)
     by false e = three (p .is-unfit e) (q .is-unfit e)
     by true e = elim (decLt class (classesOf desk)) [
       | yes l ↦
@@ -100,8 +106,9 @@ ask-settles {desk} {sheet} {class} {a} {word} {count} {a′} {word′} {count′
     ]
 
 -- Demand 2, of a validated record.
-validated-verdict : {K : ℕ} {s : State} {r desk sheet slip desk′ sheet′ slip′ : List ℕ} {answer : ℕ}
-    → Validated K s r desk sheet slip answer desk′ sheet′ slip′ → FaultExactly K (step K s r .state .graph) answer slip slip′
+validated-verdict : {K : ℕ} {s : State} {r desk sheet seen slip desk′ sheet′ seen′ slip′ : List ℕ} {answer : ℕ}
+    → Validated K s r desk sheet seen slip answer desk′ sheet′ seen′ slip′
+    → FaultExactly K (step K s r .state .graph) (step K s r .state .journal .seen) answer slip slip′
 validated-verdict {K} {s} {r} j =
     record {
       exactly = subst (λ (n : ℕ). (n ≡ 0) ⊎ (n ≡ 1) → (n ≡ 1) ↔ ClosedStrongPath K (step K s r .state .graph)) (sym (j .number-is)) (step-exactly K s r);
@@ -110,28 +117,20 @@ validated-verdict {K} {s} {r} j =
 
 -- ---- Fit buffers, from wherever they come, are taken as they stand.
 
-module _ {b b′ : Buffers} {r : Bytes} {answer : ℕ} (e : fitsAll (b .desk) (b .sheet) (b .slip) ≡ true) (t : Called b r answer b′) where
+module _ {b b′ : Buffers} {r : Bytes} {answer : ℕ} (e : fitsAll (b .desk) (b .sheet) (b .seen) (b .slip) ≡ true) (t : Called b r answer b′) where
   -- A step keeps them fit.
-  pub fit-kept : fitsAll (b′ .desk) (b′ .sheet) (b′ .slip) ≡ true
+  pub fit-kept : fitsAll (b′ .desk) (b′ .sheet) (b′ .seen) (b′ .slip) ≡ true
   unfolding fitsAll
   fit-kept =
-      let p = and-cases (fits (b .desk) (b .sheet)) _ e in
-      let f = facts (b .desk) (b .sheet) (p .0) in
-      let s = view (b .desk) (b .sheet) in
+      let p = and-cases (fits (b .desk) (b .sheet) (b .seen)) _ e in
       let j = t .validated e in
-      let l = slip-long j in
       let room = leb-true (slipSize (classesOf (b .desk))) (length (b .slip)) (p .1) in
-      held-fit {b = b′}
-      (record {
-        some = f .some;
-        few = f .few;
-        valid = valid-step (classesOf (b .desk)) s r (fit-valid (b .desk) (b .sheet) (p .0));
-        stands = j .stands;
-        room = omega arith;
-      })
+      let l = slip-long j in
+      and-both (j .stands .fit) (rw (j .stands .classes) (le-leb (slipSize (classesOf (b .desk))) (length (b′ .slip)) (omega arith)))
 
   -- Demand 2: a fault exactly when the graph then has a closed strong path.
-  pub step-verdict : FaultExactly (classesOf (b .desk)) (step (classesOf (b .desk)) (view (b .desk) (b .sheet)) r .state .graph) answer (b .slip) (b′ .slip)
+  pub step-verdict : FaultExactly (classesOf (b .desk)) (step (classesOf (b .desk)) (view (b .desk) (b .sheet) (b .seen)) r .state .graph)
+      (step (classesOf (b .desk)) (view (b .desk) (b .sheet) (b .seen)) r .state .journal .seen) answer (b .slip) (b′ .slip)
   step-verdict = validated-verdict (t .validated e)
 
 -- ---- Demand 1.
@@ -144,12 +143,12 @@ closed-by (was-clean e c) h = (λ z. absurd (let w : flag false ≡ 1 = ap flag 
 closed-by (was-fault e c) h = (λ z. refl, λ z. refl)
 
 pub closed-by-fault : {b b′ : Buffers} {r : Bytes} {answer : ℕ} → Called b r answer b′ → ClosedByFault (b .desk) answer (b′ .desk)
-closed-by-fault {b} {b′} {r} {answer} t = record { exactly = λ z. by z (fitsAll (b .desk) (b .sheet) (b .slip)) refl }
+closed-by-fault {b} {b′} {r} {answer} t = record { exactly = λ z. by z (fitsAll (b .desk) (b .sheet) (b .seen) (b .slip)) refl }
   where
-    by : closedOf (b .desk) ≡ 0 → (u : Bool) → fitsAll (b .desk) (b .sheet) (b .slip) ≡ u → (closedOf (b′ .desk) ≡ 1) ↔ (answer ≡ 1)
+    by : closedOf (b .desk) ≡ 0 → (u : Bool) → fitsAll (b .desk) (b .sheet) (b .seen) (b .slip) ≡ u → (closedOf (b′ .desk) ≡ 1) ↔ (answer ≡ 1)
     by z true e =
         let j = t .validated e in
-        let w = closed-by (stepped (classesOf (b .desk)) (view (b .desk) (b .sheet)) r) (rw z refl) in
+        let w = closed-by (stepped (classesOf (b .desk)) (view (b .desk) (b .sheet) (b .seen)) r) (rw z refl) in
         let c = stand-encodes (j .stands) .in-desk .closed in
         (λ q. j .number-is ∙ w .0 (sym c ∙ q), λ q. c ∙ w .1 (sym (j .number-is) ∙ q))
     by z false e =
@@ -171,12 +170,35 @@ run-last : (K : ℕ) (s : State) (rs : List Bytes) (r : Bytes) → run K s (rs +
 run-last K s [] r = refl
 run-last K s (x ∷ rs) r = run-last K (step K s x .state) rs r
 
+-- The graph and the numbers with what the last record draws, from the records alone.
 pub run-verdict : {K : ℕ} {b b′ b″ : Buffers} {rs : List Bytes} {given : List ℕ} {r : Bytes} {answer : ℕ} → Opening K b → Ran b rs given b′
-    → Called b′ r answer b″ → FaultExactly K (graphAt K start (rs ++ (r ∷ [])) (length rs)) answer (b′ .slip) (b″ .slip)
+    → Called b′ r answer b″
+    → FaultExactly K (graphAt K start (rs ++ (r ∷ [])) (length rs)) (λ f t. firstDrawn f t (drawings K start (rs ++ (r ∷ [])))) answer (b′ .slip) (b″ .slip)
 run-verdict {K} {b′} {b″} {rs} {r} {answer} o w t =
-    subst (λ (g : Graph). FaultExactly K g answer (b′ .slip) (b″ .slip))
+    let v = validated-verdict (validated-by (run-holds (opening-holds o) w) {b′ = b″} t) in
+    subst₂ (λ (g : Graph) (n : ℕ → ℕ → ℕ). FaultExactly K g n answer (b′ .slip) (b″ .slip))
     (ap (λ (s : State). s .graph) (sym (run-last K start rs r)) ∙ ap (λ (l : List Bytes). run K start l .graph) (sym (take-all rs r)))
-    (validated-verdict (validated-by (run-holds (opening-holds o) w) {b′ = b″} t))
+    (ap (λ (s : State). s .journal .seen) (sym (run-last K start rs r)) ∙ fun-ext (λ f. fun-ext (λ t. first-seen K (rs ++ (r ∷ [])) f t))) v
+
+-- ---- Request e, of runs from opening.
+
+pub run-numbered : {K : ℕ} {b b′ : Buffers} {rs : List Bytes} {given : List ℕ} → Opening K b → Ran b rs given b′ → NumberedFromRecords K rs b′
+run-numbered {K} {b′ = b′} {rs} o w =
+    let h = run-holds (opening-holds o) w .stands in
+    let n = number-facts (b′ .desk) (b′ .sheet) (b′ .seen) (h .fit) in
+    let k : classesOf (b′ .desk) ≡ K = h .classes in
+    let same : (f t : ℕ) → f < K → t < K → eqb (numberOf (b′ .seen) K f t) 0 ≡ eqb (kindsOf (b′ .sheet) K f t) 0 =
+    λ f t l m. n .numbered (f * K + t) (rw k (cell-inside K f t l m)) in
+    record {
+      counted = ap (λ (s : State). s .journal .accepted) (h .is-view) ∙ accepted-counted K rs;
+      numbered = λ f t l m.
+          let e : view (b′ .desk) (b′ .sheet) (b′ .seen) .journal .seen f t ≡ numberOf (b′ .seen) K f t = rw (k, lt-ltb f K l, lt-ltb t K m) refl in
+          sym e ∙ ap (λ (s : State). s .journal .seen f t) (h .is-view) ∙ first-seen K rs f t;
+      none = λ f t l m. (
+        λ z. eqb-true (kindsOf (b′ .sheet) K f t) 0 (sym (same f t l m) ∙ eq-eqb (numberOf (b′ .seen) K f t) 0 z),
+        λ z. eqb-true (numberOf (b′ .seen) K f t) 0 (same f t l m ∙ eq-eqb (kindsOf (b′ .sheet) K f t) 0 z),
+      );
+    }
 
 -- ---- The balance law.
 

@@ -14,7 +14,7 @@ use Rattle.rules.specs.Run.{State, Result, step}
 use Rattle.rules.proofs.Steps.{closed-step}
 use Rattle.rules.specs.Log.{unitSize, headerClasses}
 use Rattle.opening.specs.Open.{opens}
-use Rattle.rules.specs.Verdict.{Refusal, closed, malformed, noClass, noTransition, stillHeld, notHeld, tooDeep, Answer, clean, fault, refused, refusalNumber, number, badOpening, unfit, refusal}
+use Rattle.rules.specs.Verdict.{Refusal, closed, malformed, noClass, noTransition, stillHeld, notHeld, tooDeep, countFull, Answer, clean, fault, refused, refusalNumber, number, badOpening, unfit, refusal}
 use Rattle.rules.proofs.Booleans.{and-cases, and-both, or-right}
 use Rattle.rules.specs.Limits.{maxClasses}
 use Rattle.layout.specs.Layout.{classesOf, countOf}
@@ -80,6 +80,7 @@ refusal-answer noTransition = refl
 refusal-answer stillHeld = refl
 refusal-answer notHeld = refl
 refusal-answer tooDeep = refl
+refusal-answer countFull = refl
 
 answer-number : (a : Answer) → isStepAnswer (number a) ≡ true
 unfolding isStepAnswer
@@ -92,10 +93,10 @@ unfolding isStepAnswer
 eleven = refl
 
 step-answer : {b b′ : Buffers} {r : Bytes} {a : ℕ} → Called b r a b′ → isStepAnswer a ≡ true
-step-answer {b} {r = r} {a} t = by (fitsAll (b .desk) (b .sheet) (b .slip)) refl
+step-answer {b} {r = r} {a} t = by (fitsAll (b .desk) (b .sheet) (b .seen) (b .slip)) refl
   where
-    by : (u : Bool) → fitsAll (b .desk) (b .sheet) (b .slip) ≡ u → isStepAnswer a ≡ true
-    by true e = ap isStepAnswer (t .validated e .number-is) ∙ answer-number (step (classesOf (b .desk)) (view-desk (b .desk) (b .sheet)) r .answer)
+    by : (u : Bool) → fitsAll (b .desk) (b .sheet) (b .seen) (b .slip) ≡ u → isStepAnswer a ≡ true
+    by true e = ap isStepAnswer (t .validated e .number-is) ∙ answer-number (step (classesOf (b .desk)) (view-desk (b .desk) (b .sheet) (b .seen)) r .answer)
     by false e = ap isStepAnswer (t .is-unfit e .0) ∙ eleven
 
 counts : (n : ℕ) → n < 2 ^ 64 → (1 ≤ more n) × (more n < 2 ^ 64)
@@ -110,7 +111,7 @@ zero-or-two true a e n z = rw e refl
 zero-or-two false a e n z = rw (e, z) refl
 
 proper-unit : {o : Bool} {n : ℕ} {b b′ : Buffers} {u : List ℕ} {f : Feed} → n < 2 ^ 64 → (o ≡ false → n ≡ 0) → UnitValidated o n b u f b′ → Proper f
-proper-unit {n = n} {b = b} {u = u} h z (header {answer} o p s) = record { formed = begun (eqb answer 0) answer n (zero-or-two (opens (headerClasses u) (b .desk) (b .sheet)) answer (p .answer) n (z o)); small = h }
+proper-unit {n = n} {b = b} {u = u} h z (header {answer} o p s) = record { formed = begun (eqb answer 0) answer n (zero-or-two (opens (headerClasses u) (b .desk) (b .sheet) (b .seen)) answer (p .answer) n (z o)); small = h }
 proper-unit {n = n} h z (a-record {answer} {b′ = b₁} o t) =
     let c = counts n h in
     record { formed = begun true answer (more n) (and-both (step-answer {b′ = b₁} t) (or-right (eqb answer 0) (le-leb 1 (more n) (c .0)))); small = c .1 }
@@ -167,18 +168,18 @@ unfolding isMalformed
 not-six r n = rw (ne-eqb (length r) 6 n) refl
 
 pub short-refused : {b b′ : Buffers} {r : Bytes} {a : ℕ} → (length r ≡ recordSize → ⊥) → Called b r a b′ → ShortRefused a b b′
-short-refused {b} {b′} {r} {a} n t = by (fitsAll (b .desk) (b .sheet) (b .slip)) refl
+short-refused {b} {b′} {r} {a} n t = by (fitsAll (b .desk) (b .sheet) (b .seen) (b .slip)) refl
   where
-    by : (u : Bool) → fitsAll (b .desk) (b .sheet) (b .slip) ≡ u → ShortRefused a b b′
-    by false e = let v = t .is-unfit e in record { number-is = inl (v .0); same = same-buffers b b′ (v .1) (v .2) (v .3) }
+    by : (u : Bool) → fitsAll (b .desk) (b .sheet) (b .seen) (b .slip) ≡ u → ShortRefused a b b′
+    by false e = let v = t .is-unfit e in record { number-is = inl (v .0); same = same-buffers b b′ (v .1) (v .2) (v .3) (v .4) }
     by true e =
         let v = t .validated e in
-        let m = malformed-number (classesOf (b .desk)) (view-desk (b .desk) (b .sheet)) r (not-six r n) in
+        let m = malformed-number (classesOf (b .desk)) (view-desk (b .desk) (b .sheet) (b .seen)) r (not-six r n) in
         let l : 1 < a = ⊎-elim (λ z. let y = v .number-is in omega arith) (λ z. let y = v .number-is in omega arith) m in
         let w = v .refused l in
         record {
           number-is = inr (⊎-elim (λ z. inl (v .number-is ∙ z)) (λ z. inr (v .number-is ∙ z)) m);
-          same = same-buffers b b′ (w .0) (w .1) (v .unreported (λ z. absurd (omega arith)));
+          same = same-buffers b b′ (w .0) (w .1) (w .2) (v .unreported (λ z. absurd (omega arith)));
         }
 
 short-not-clean : {a : ℕ} {b b′ : Buffers} → ShortRefused a b b′ → a ≡ 0 → ⊥
@@ -265,20 +266,20 @@ ended-run {b₁ = b₁} s w t =
 -- With a fault the slip has a cycle of at most 64 dependencies.
 fault-shown : {b b′ : Buffers} {r : Bytes} {a : ℕ} → Called b r a b′ → a ≡ 1 → countOf (b′ .slip) ≤ maxClasses
 unfolding fitsAll
-fault-shown {b} {b′} t z = by (fitsAll (b .desk) (b .sheet) (b .slip)) refl
+fault-shown {b} {b′} t z = by (fitsAll (b .desk) (b .sheet) (b .seen) (b .slip)) refl
   where
-    by : (u : Bool) → fitsAll (b .desk) (b .sheet) (b .slip) ≡ u → countOf (b′ .slip) ≤ maxClasses
+    by : (u : Bool) → fitsAll (b .desk) (b .sheet) (b .seen) (b .slip) ≡ u → countOf (b′ .slip) ≤ maxClasses
     by false e = absurd (let y = t .is-unfit e .0 in omega arith)
     by true e =
         let r = t .validated e .reported z in
-        omega (arith, r .bytes .count, r .least .cycle .at-most, facts (b .desk) (b .sheet) (and-cases (desk-fits (b .desk) (b .sheet)) _ e .0) .few)
+        omega (arith, r .bytes .count, r .least .cycle .at-most, facts (b .desk) (b .sheet) (b .seen) (and-cases (desk-fits (b .desk) (b .sheet) (b .seen)) _ e .0) .few)
 
 header-clean : (t : Bool) (a : ℕ) → a ≡ cond t 0 badOpening → a ≡ 1 → ⊥
 header-clean true a e z = omega arith
 header-clean false a e z = omega arith
 
 unit-shown : {o : Bool} {n : ℕ} {b b′ : Buffers} {u : List ℕ} {f : Feed} → UnitValidated o n b u f b′ → f .answer ≡ 1 → countOf (b′ .slip) ≤ maxClasses
-unit-shown {b = b} {u = u} (header {answer} o p s) z = absurd (header-clean (opens (headerClasses u) (b .desk) (b .sheet)) answer (p .answer) z)
+unit-shown {b = b} {u = u} (header {answer} o p s) z = absurd (header-clean (opens (headerClasses u) (b .desk) (b .sheet) (b .seen)) answer (p .answer) z)
 unit-shown (a-record {b′ = b′} o t) z = fault-shown {b′ = b′} t z
 
 fed-shown : {f f′ : Feed} {b b′ : Buffers} {bytes : List ℕ} → (f .answer ≡ 1 → ⊥) → Fed f b bytes f′ b′ → f′ .answer ≡ 1 → countOf (b′ .slip) ≤ maxClasses

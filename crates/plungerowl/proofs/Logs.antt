@@ -15,7 +15,7 @@ use Rattle.rules.specs.Verdict.{number, badOpening, unfit}
 use Rattle.rules.specs.Run.{State, start, step}
 use Rattle.rules.specs.Log.{headerSize, unitSize, headerClasses, recordsOf, looseOf, shortRecord, Outcome, validate}
 use Rattle.rules.proofs.Booleans.{and-cases}
-use Rattle.layout.specs.Layout.{deskSize, sheetSize, slipSize, KeepsPast, classesOf}
+use Rattle.layout.specs.Layout.{deskSize, sheetSize, seenSize, slipSize, KeepsPast, classesOf}
 use Rattle.layout.specs.Decoding.{StandFor}
 use Rattle.layout.specs.Fit.{fits, fitsAll}
 use Rattle.opening.specs.Open.{Opened, opens, openedDesk, openedSheet}
@@ -39,13 +39,14 @@ keeps-all n x = record { long = refl; past = λ j h. refl }
 
 -- A step.
 left-by-step : {K : ℕ} {s : State} {r : Bytes} {b b′ : Buffers} {answer : ℕ} (n : ℕ)
-    → Validated K s r (b .desk) (b .sheet) (b .slip) answer (b′ .desk) (b′ .sheet) (b′ .slip)
+    → Validated K s r (b .desk) (b .sheet) (b .seen) (b .slip) answer (b′ .desk) (b′ .sheet) (b′ .seen) (b′ .slip)
     → LeftBy K (record { answer = number (step K s r .answer); at = n; state = step K s r .state }) b b′
 left-by-step n v =
     record {
       stands = v .stands;
       keeps-desk = v .keeps-desk;
       keeps-sheet = v .keeps-sheet;
+      keeps-seen = v .keeps-seen;
       unreported = λ h. v .unreported (λ z. h (sym (v .number-is) ∙ z));
       reported = λ h. v .reported (v .number-is ∙ h);
     }
@@ -58,6 +59,7 @@ left-then v n w =
       stands = w .stands;
       keeps-desk = keeps-trans (v .keeps-desk) (w .keeps-desk);
       keeps-sheet = keeps-trans (v .keeps-sheet) (w .keeps-sheet);
+      keeps-seen = keeps-trans (v .keeps-seen) (w .keeps-seen);
       unreported = λ h. w .unreported h ∙ e;
       reported = λ h. rw (← e) (w .reported h);
     }
@@ -98,6 +100,7 @@ module _ {K : ℕ} {s : State} {f : Feed} {b : Buffers} (n : ℕ) (H : Holds K s
               stands = H .stands;
               keeps-desk = keeps-all deskSize (b .desk);
               keeps-sheet = keeps-all (sheetSize K) (b .sheet);
+              keeps-seen = keeps-all (seenSize K) (b .seen);
               unreported = λ _. refl;
               reported = λ z. absurd (omega arith);
             };
@@ -244,10 +247,10 @@ module _ (K : ℕ) (s : State) (n : ℕ) (bytes : List ℕ) {f : Feed} {b b₁ :
 
 -- ---- A slip that is too short.
 
-pub same-buffers : (b b′ : Buffers) → b′ .desk ≡ b .desk → b′ .sheet ≡ b .sheet → b′ .slip ≡ b .slip → b′ ≡ b
-same-buffers b b′ d s p =
-    ap₂ (λ (x y : List ℕ). record { desk = x; sheet = y; slip = b′ .slip }) d s
-    ∙ ap (λ (z : List ℕ). record { desk = b .desk; sheet = b .sheet; slip = z }) p
+pub same-buffers : (b b′ : Buffers) → b′ .desk ≡ b .desk → b′ .sheet ≡ b .sheet → b′ .seen ≡ b .seen → b′ .slip ≡ b .slip → b′ ≡ b
+same-buffers b b′ d s n p =
+    ap₂ (λ (x y : List ℕ). record { desk = x; sheet = y; seen = b′ .seen; slip = b′ .slip }) d s
+    ∙ ap₂ (λ (x y : List ℕ). record { desk = b .desk; sheet = b .sheet; seen = x; slip = y }) n p
 
 pub refuse-state : (rs : List Bytes) → refuseFirst rs .state ≡ start
 refuse-state [] = refl
@@ -257,11 +260,11 @@ pub refuse-answer : (rs : List Bytes) → refuseFirst rs .answer ≡ 1 → ⊥
 refuse-answer [] e = omega arith
 refuse-answer (r ∷ rs) e = omega arith
 
-module _ {b : Buffers} (u : fitsAll (b .desk) (b .sheet) (b .slip) ≡ false) where
+module _ {b : Buffers} (u : fitsAll (b .desk) (b .sheet) (b .seen) (b .slip) ≡ false) where
   refused-record : {n : ℕ} {unit : List ℕ} {f : Feed} {b′ : Buffers} → n ≡ 0 → RecordValidated n b unit f b′ → (f ≡ unitBegun unfit true 1) × (b′ ≡ b)
   refused-record {b′ = b′} z j =
       let v = j .called .is-unfit u in
-      (j .is ∙ ap₂ (λ (a m : ℕ). unitBegun a true m) (v .0) (counted-one 0 z (omega arith)), same-buffers b b′ (v .1) (v .2) (v .3))
+      (j .is ∙ ap₂ (λ (a m : ℕ). unitBegun a true m) (v .0) (counted-one 0 z (omega arith)), same-buffers b b′ (v .1) (v .2) (v .3) (v .4))
 
   -- The first record is refused, and what stands behind it is not looked at.
   pub tight-fed : {f f′ : Feed} {b′ : Buffers} {bytes : List ℕ} → f .answer ≡ 0 → f .opened ≡ true → f .loose ≡ [] → f .number ≡ 0 → Fed f b bytes f′ b′

@@ -12,16 +12,16 @@ use Rattle.rules.specs.Limits.{maxClasses}
 use Rattle.rules.specs.Record.{Bytes}
 use Rattle.rules.specs.Verdict.{badOpening}
 use Rattle.rules.specs.Run.{State, start, step, answers, run}
-use Rattle.rules.specs.TwoRuns.{Interleaved, MoreEvidence}
+use Rattle.rules.specs.TwoRuns.{Interleaved, Never, MoreEvidence}
 use Rattle.rules.proofs.Booleans.{and-cases, and-both}
 use Rattle.rules.proofs.MoreEvidence.{more-evidence}
 use Rattle.validity.specs.Valid.{Valid}
 use Rattle.validity.proofs.Kept.{valid-start, valid-step}
-use Rattle.layout.specs.Layout.{deskSize, sheetSize, slipSize, KeepsPast}
+use Rattle.layout.specs.Layout.{deskSize, sheetSize, seenSize, slipSize, KeepsPast}
 use Rattle.layout.specs.Decoding.{StandFor}
 use Rattle.layout.specs.Fit.{classesFit, fitsAll}
 use Rattle.fit.proofs.Fitting.{encodes-stand}
-use Rattle.opening.specs.Open.{opens, openedDesk, openedSheet, Opened}
+use Rattle.opening.specs.Open.{opens, openedDesk, openedSheet, openedSeen, Opened}
 use Rattle.opening.proofs.Opens.{open-encodes}
 use Rattle.validator.specs.Step.{Validated}
 use Rattle.validator.specs.Calls.{Buffers, Called}
@@ -32,27 +32,27 @@ pub record Holds (K : ℕ) (s : State) (b : Buffers) : Type 0 where
   pub some : 1 ≤ K
   pub few : K ≤ maxClasses
   pub valid : Valid K s
-  pub stands : StandFor K s (b .desk) (b .sheet)
+  pub stands : StandFor K s (b .desk) (b .sheet) (b .seen)
   pub room : slipSize K ≤ length (b .slip)
 
 module _ {K : ℕ} {s : State} {b : Buffers} (h : Holds K s b) where
-  pub held-fit : fitsAll (b .desk) (b .sheet) (b .slip) ≡ true
+  pub held-fit : fitsAll (b .desk) (b .sheet) (b .seen) (b .slip) ≡ true
   unfolding fitsAll
   held-fit = and-both (h .stands .fit) (rw (h .stands .classes) (le-leb (slipSize K) (length (b .slip)) (h .room)))
 
   pub validated-by : {r : Bytes} {answer : ℕ} {b′ : Buffers} → Called b r answer b′
-      → Validated K s r (b .desk) (b .sheet) (b .slip) answer (b′ .desk) (b′ .sheet) (b′ .slip)
+      → Validated K s r (b .desk) (b .sheet) (b .seen) (b .slip) answer (b′ .desk) (b′ .sheet) (b′ .seen) (b′ .slip)
   validated-by {r} {answer} {b′} t =
-      subst₂ (λ (k : ℕ) (s : State). Validated k s r (b .desk) (b .sheet) (b .slip) answer (b′ .desk) (b′ .sheet) (b′ .slip))
+      subst₂ (λ (k : ℕ) (s : State). Validated k s r (b .desk) (b .sheet) (b .seen) (b .slip) answer (b′ .desk) (b′ .sheet) (b′ .seen) (b′ .slip))
       (h .stands .classes) (h .stands .is-view) (t .validated held-fit)
 
-pub slip-long : {K : ℕ} {s : State} {r : Bytes} {desk sheet slip desk′ sheet′ slip′ : List ℕ} {answer : ℕ}
-    → Validated K s r desk sheet slip answer desk′ sheet′ slip′ → length slip′ ≡ length slip
+pub slip-long : {K : ℕ} {s : State} {r : Bytes} {desk sheet seen slip desk′ sheet′ seen′ slip′ : List ℕ} {answer : ℕ}
+    → Validated K s r desk sheet seen slip answer desk′ sheet′ seen′ slip′ → length slip′ ≡ length slip
 slip-long {answer} j =
     elim (ℕ-discrete answer 1) [ yes e ↦ j .reported e .keeps .long | no n ↦ ap length (j .unreported n) ]
 
 pub step-holds : {K : ℕ} {s : State} {b b′ : Buffers} {r : Bytes} {answer : ℕ} → Holds K s b
-    → Validated K s r (b .desk) (b .sheet) (b .slip) answer (b′ .desk) (b′ .sheet) (b′ .slip) → Holds K (step K s r .state) b′
+    → Validated K s r (b .desk) (b .sheet) (b .seen) (b .slip) answer (b′ .desk) (b′ .sheet) (b′ .seen) (b′ .slip) → Holds K (step K s r .state) b′
 step-holds {K} {s} {r} h j =
     let l = slip-long j in
     let m = h .room in
@@ -68,37 +68,42 @@ run-answers h (call t w) =
     let j = validated-by h t in
     ap₂ {C = List ℕ} _∷_ (j .number-is) (run-answers (step-holds h j) w)
 
-pub opened-true : {K : ℕ} {desk sheet desk′ sheet′ : List ℕ} → Opened K desk sheet 0 desk′ sheet′ → opens K desk sheet ≡ true
-opened-true {K} {desk} {sheet} o = by (opens K desk sheet) refl
+pub opened-true : {K : ℕ} {desk sheet seen desk′ sheet′ seen′ : List ℕ} → Opened K desk sheet seen 0 desk′ sheet′ seen′ → opens K desk sheet seen ≡ true
+opened-true {K} {desk} {sheet} {seen} o = by (opens K desk sheet seen) refl
   where
-    by : (b : Bool) → opens K desk sheet ≡ b → opens K desk sheet ≡ true
+    by : (b : Bool) → opens K desk sheet seen ≡ b → opens K desk sheet seen ≡ true
     by true e = e
     by false e = absurd (let z : 0 ≡ badOpening = o .answer ∙ ap (λ (t : Bool). cond t 0 badOpening) e in omega arith)
 
 -- What an opening that was not refused leaves.
-pub record OpenedAs (K : ℕ) (desk sheet desk′ sheet′ : List ℕ) : Type 0 where
+pub record OpenedAs (K : ℕ) (desk sheet seen desk′ sheet′ seen′ : List ℕ) : Type 0 where
   pub some : 1 ≤ K
   pub few : K ≤ maxClasses
-  pub stands : StandFor K start desk′ sheet′
+  pub stands : StandFor K start desk′ sheet′ seen′
   pub keeps-desk : KeepsPast deskSize desk desk′
   pub keeps-sheet : KeepsPast (sheetSize K) sheet sheet′
+  pub keeps-seen : KeepsPast (seenSize K) seen seen′
 
-pub opened-as : {K : ℕ} {desk sheet desk′ sheet′ : List ℕ} → Opened K desk sheet 0 desk′ sheet′ → OpenedAs K desk sheet desk′ sheet′
+pub opened-as : {K : ℕ} {desk sheet seen desk′ sheet′ seen′ : List ℕ} → Opened K desk sheet seen 0 desk′ sheet′ seen′
+    → OpenedAs K desk sheet seen desk′ sheet′ seen′
 unfolding opens
-opened-as {K} {desk} {sheet} {desk′} {sheet′} o =
+opened-as {K} {desk} {sheet} {seen} {desk′} {sheet′} {seen′} o =
     let e = opened-true o in
-    let f = open-encodes K desk sheet e in
+    let f = open-encodes K desk sheet seen e in
     let c = and-cases (leb 1 K) (leb K maxClasses) (and-cases (classesFit K) _ e .0) in
     let some = leb-true 1 K (c .0) in
     let few = leb-true K maxClasses (c .1) in
     let d : openedDesk K desk ≡ desk′ = sym (o .desk ∙ ap (λ (t : Bool). cond t (openedDesk K desk) desk) e) in
     let s : openedSheet K sheet ≡ sheet′ = sym (o .sheet ∙ ap (λ (t : Bool). cond t (openedSheet K sheet) sheet) e) in
+    let n : openedSeen K seen ≡ seen′ = sym (o .seen ∙ ap (λ (t : Bool). cond t (openedSeen K seen) seen) e) in
     record {
       some = some;
       few = few;
-      stands = subst₂ (λ (x y : List ℕ). StandFor K start x y) d s (encodes-stand some few (valid-start K) (f .encodes));
+      stands = subst (λ (z : List ℕ). StandFor K start desk′ sheet′ z) n
+          (subst₂ (λ (x y : List ℕ). StandFor K start x y (openedSeen K seen)) d s (encodes-stand some few (valid-start K) (f .encodes)));
       keeps-desk = subst (λ (x : List ℕ). KeepsPast deskSize desk x) d (f .keeps-desk);
       keeps-sheet = subst (λ (x : List ℕ). KeepsPast (sheetSize K) sheet x) s (f .keeps-sheet);
+      keeps-seen = subst (λ (x : List ℕ). KeepsPast (seenSize K) seen x) n (f .keeps-seen);
     }
 
 pub opening-holds : {K : ℕ} {b : Buffers} → Opening K b → Holds K start b
@@ -106,9 +111,9 @@ opening-holds {K} o =
     let f = opened-as (o .opened) in
     record { some = f .some; few = f .few; valid = valid-start K; stands = f .stands; room = o .room }
 
--- Demand 3, of two runs of the exported calls, each from its own opening with the same K.
+-- Demand 3, of two runs of the exported calls, each from its own opening with the same K, where no record of the second gets 9 (then none of the first does).
 pub two-runs : {K : ℕ} {b₁ b₁′ b₂ b₂′ : Buffers} {xs ys : List Bytes} {given₁ given₂ : List ℕ} → Opening K b₁ → Ran b₁ xs given₁ b₁′ → Opening K b₂
-    → Ran b₂ ys given₂ b₂′ → (e : Interleaved xs xs ys) → MoreEvidence K start e given₁ given₂
-two-runs {K} {xs} {ys} {given₁} {given₂} o₁ w₁ o₂ w₂ e =
+    → Ran b₂ ys given₂ b₂′ → (e : Interleaved xs xs ys) → Never 9 given₂ → MoreEvidence K start e given₁ given₂
+two-runs {K} {xs} {ys} {given₁} {given₂} o₁ w₁ o₂ w₂ e n =
     subst₂ (λ (a b : List ℕ). MoreEvidence K start e a b) (sym (run-answers (opening-holds o₁) w₁)) (sym (run-answers (opening-holds o₂) w₂))
-    (more-evidence K start refl e)
+    (more-evidence K start refl e (subst (λ (l : List ℕ). Never 9 l) (run-answers (opening-holds o₂) w₂) n))

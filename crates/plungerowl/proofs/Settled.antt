@@ -13,7 +13,7 @@ use Rattle.rules.specs.Log.{unitSize, Outcome}
 use Rattle.layout.specs.Layout.{AreBytes}
 use Rattle.fit.proofs.Facts.{facts}
 use Rattle.fit.proofs.Fitting.{stand-encodes}
-use Rattle.fit.proofs.Settled.{settled-desk-after, settled-sheet-after}
+use Rattle.fit.proofs.Settled.{settled-desk-after, settled-sheet-after, settled-seen-after}
 use Rattle.validator.specs.Calls.{Buffers}
 use Rattle.progress.specs.Feed.{Feed, feedSize, view, fits, unitBegun, withPart}
 use Rattle.progress.proofs.Kept.{bytes-back}
@@ -28,7 +28,7 @@ use Rattle.plungerowl.proofs.Wholes.{repeats}
 use Rattle.plungerowl.proofs.Feeds.{log-in-pieces}
 
 same-step : (a : ℕ) (b : Buffers) → SameStep a a b b
-same-step a b = record { number-is = refl; desk-is = refl; sheet-is = refl; slip-is = refl }
+same-step a b = record { number-is = refl; desk-is = refl; sheet-is = refl; seen-is = refl; slip-is = refl }
 
 -- Two results of a feed.
 record Same (f f′ : Feed) (b b′ : Buffers) : Type 0 where
@@ -43,7 +43,7 @@ unit-settles {n = n} (header {answer = x} {b′ = b₁} e p s) (header {answer =
     let a : x ≡ y = p .answer ∙ sym (q .answer) in
     record {
       feed-is = ap (λ (k : ℕ). unitBegun k (eqb k 0) n) a;
-      step = record { number-is = a; desk-is = p .desk ∙ sym (q .desk); sheet-is = p .sheet ∙ sym (q .sheet); slip-is = s ∙ sym r };
+      step = record { number-is = a; desk-is = p .desk ∙ sym (q .desk); sheet-is = p .sheet ∙ sym (q .sheet); seen-is = p .seen ∙ sym (q .seen); slip-is = s ∙ sym r };
     }
 unit-settles (header e p s) (a-record e′ t) = absurd (false≢true (sym e ∙ e′))
 unit-settles (a-record e t) (header e′ p s) = absurd (false≢true (sym e′ ∙ e))
@@ -62,7 +62,7 @@ after-same : {f₁ f₂ g₁ g₂ : Feed} {b₁ b₂ c₁ c₂ : Buffers} {rest 
     → ((g : Feed) (c : Buffers) → Fed f₁ b₁ rest g c → Same g₁ g c₁ c) → Same g₁ g₂ c₁ c₂
 after-same {g₂ = g₂} {b₁ = b₁} {b₂} {c₂ = c₂} {rest} s q go =
     let t = s .step in
-    let w : b₂ ≡ b₁ = same-buffers b₁ b₂ (sym (t .desk-is)) (sym (t .sheet-is)) (sym (t .slip-is)) in
+    let w : b₂ ≡ b₁ = same-buffers b₁ b₂ (sym (t .desk-is)) (sym (t .sheet-is)) (sym (t .seen-is)) (sym (t .slip-is)) in
     go g₂ c₂ (subst₂ (λ (f : Feed) (b : Buffers). Fed f b rest g₂ c₂) (sym (s .feed-is)) w q)
 
 kept-settles : {f g : Feed} {b c : Buffers} {bytes : List ℕ} → f .answer ≡ 0 → length (f .loose ++ bytes) < unitSize (f .opened) → Fed f b bytes g c
@@ -172,14 +172,16 @@ module _ {b b₁ b₂ : Buffers} (K : ℕ) (o : Outcome) (u : LeftBy K o b b₁)
   left-settles : SameStep (o .answer) (o .answer) b₁ b₂
   left-settles =
       let s = o .state in
-      let some : 1 ≤ K = rw (← u .stands .classes) (facts (b₁ .desk) (b₁ .sheet) (u .stands .fit) .some) in
+      let some : 1 ≤ K = rw (← u .stands .classes) (facts (b₁ .desk) (b₁ .sheet) (b₁ .seen) (u .stands .fit) .some) in
       record {
         number-is = refl;
-        desk-is = settled-desk-after K (s .is-closed) (s .cores) (s .graph .marks) (b₁ .desk) (b₂ .desk) (stand-encodes (u .stands) .in-desk)
-            (stand-encodes (v .stands) .in-desk)
+        desk-is = settled-desk-after K (s .is-closed) (s .cores) (s .graph .marks) (s .journal .accepted) (b₁ .desk) (b₂ .desk)
+            (stand-encodes (u .stands) .in-desk) (stand-encodes (v .stands) .in-desk) (stand-encodes (u .stands) .in-count) (stand-encodes (v .stands) .in-count)
             (b .desk) (u .keeps-desk) (v .keeps-desk);
         sheet-is = settled-sheet-after K some (s .graph .locks) (b₁ .sheet) (b₂ .sheet) (stand-encodes (u .stands) .in-sheet)
             (stand-encodes (v .stands) .in-sheet) (b .sheet) (u .keeps-sheet) (v .keeps-sheet);
+        seen-is = settled-seen-after K some (s .journal .seen) (b₁ .seen) (b₂ .seen) (stand-encodes (u .stands) .in-seen)
+            (stand-encodes (v .stands) .in-seen) (b .seen) (u .keeps-seen) (v .keeps-seen);
         slip-is = elim (ℕ-discrete (o .answer) 1) [ yes z ↦ reported-one (u .reported z) (v .reported z) | no h ↦ u .unreported h ∙ sym (v .unreported h) ];
       }
 
@@ -197,7 +199,7 @@ whole-settles {b} {b₁} {b₂} {log} (by-rules o h e q w) (by-rules o′ k d r 
     let s : o′ ≡ o = r ∙ sym q in
     rw s (left-settles (classesIn log) o w (subst (λ (y : Outcome). LeftBy (classesIn log) y b b₂) s x), refl)
 
--- Two ways to cut one log, both without its end or both with it: the same answer, record number, desk, sheet and slip.
+-- Two ways to cut one log, both without its end or both with it: the same answer, record number, desk, sheets and slip.
 pub cut-anywhere : {feed₀ feed feed₁ feed₂ feed₀′ feed′ feed₁′ feed₂′ : List ℕ} {b b₁ b₂ b₁′ b₂′ : Buffers} {ps ps′ : List (List ℕ)} {last last′ : List ℕ}
     {ended : Bool} {a n a′ n′ : ℕ} → Started feed₀ 0 feed → FeedRan feed b ps feed₁ b₁ → LastCall feed₁ b₁ last ended a n feed₂ b₂ → Started feed₀′ 0 feed′
     → FeedRan feed′ b ps′ feed₁′ b₁′ → LastCall feed₁′ b₁′ last′ ended a′ n′ feed₂′ b₂′ → joined ps ++ last ≡ joined ps′ ++ last′

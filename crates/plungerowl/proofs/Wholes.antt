@@ -15,7 +15,7 @@ use Rattle.rules.specs.Run.{State, start}
 use Rattle.rules.specs.Log.{headerSize, headerClasses, recordsOf, looseOf, shortRecord, Outcome, validate}
 use Rattle.layout.specs.Layout.{slipSize, classesOf}
 use Rattle.layout.specs.Fit.{fits, fitsAll}
-use Rattle.opening.specs.Open.{Opened, opens, openedDesk, openedSheet}
+use Rattle.opening.specs.Open.{Opened, opens, openedDesk, openedSheet, openedSeen}
 use Rattle.validator.specs.Calls.{Buffers}
 use Rattle.validity.proofs.Kept.{valid-start}
 use Rattle.progress.specs.Feed.{Feed, fresh, unitBegun, withPart}
@@ -34,7 +34,7 @@ repeats n (short e o l j) = absurd (n e)
 -- What the header comes to.
 record HeaderOpened (b : Buffers) (unit : List ℕ) (f : Feed) (b′ : Buffers) : Type 0 where
   answer : ℕ
-  opened : Opened (headerClasses unit) (b .desk) (b .sheet) answer (b′ .desk) (b′ .sheet)
+  opened : Opened (headerClasses unit) (b .desk) (b .sheet) (b .seen) answer (b′ .desk) (b′ .sheet) (b′ .seen)
   slip-is : b′ .slip ≡ b .slip
   is : f ≡ unitBegun answer (eqb answer 0) 0
 
@@ -44,19 +44,19 @@ header-opened e z (a-record u t) = absurd (false≢true (sym e ∙ u))
 
 -- What the bytes of a log leave of a fresh feed and of the buffers, by how far the header led.
 pub data LogFed (b : Buffers) (K : ℕ) (rest : List ℕ) : Feed → Buffers → Type 0 where
-  refused : opens K (b .desk) (b .sheet) ≡ false → LogFed b K rest (unitBegun badOpening false 0) b
-  tight : {f : Feed} {b₁ : Buffers} → Opened K (b .desk) (b .sheet) 0 (b₁ .desk) (b₁ .sheet) → b₁ .slip ≡ b .slip → length (b .slip) < slipSize K
-      → fitsAll (b₁ .desk) (b₁ .sheet) (b₁ .slip) ≡ false → Tells (refuseFirst (recordsOf rest)) rest f → LogFed b K rest f b₁
-  running : {f : Feed} {b₁ b₂ : Buffers} → Opened K (b .desk) (b .sheet) 0 (b₁ .desk) (b₁ .sheet) → b₁ .slip ≡ b .slip → slipSize K ≤ length (b .slip)
+  refused : opens K (b .desk) (b .sheet) (b .seen) ≡ false → LogFed b K rest (unitBegun badOpening false 0) b
+  tight : {f : Feed} {b₁ : Buffers} → Opened K (b .desk) (b .sheet) (b .seen) 0 (b₁ .desk) (b₁ .sheet) (b₁ .seen) → b₁ .slip ≡ b .slip → length (b .slip) < slipSize K
+      → fitsAll (b₁ .desk) (b₁ .sheet) (b₁ .seen) (b₁ .slip) ≡ false → Tells (refuseFirst (recordsOf rest)) rest f → LogFed b K rest f b₁
+  running : {f : Feed} {b₁ b₂ : Buffers} → Opened K (b .desk) (b .sheet) (b .seen) 0 (b₁ .desk) (b₁ .sheet) (b₁ .seen) → b₁ .slip ≡ b .slip → slipSize K ≤ length (b .slip)
       → After K (validate K start 0 (recordsOf rest)) rest f b₁ b₂ → LogFed b K rest f b₂
 
-slip-short : {b b₁ : Buffers} (K : ℕ) → OpenedAs K (b .desk) (b .sheet) (b₁ .desk) (b₁ .sheet) → b₁ .slip ≡ b .slip → length (b .slip) < slipSize K
-    → fitsAll (b₁ .desk) (b₁ .sheet) (b₁ .slip) ≡ false
+slip-short : {b b₁ : Buffers} (K : ℕ) → OpenedAs K (b .desk) (b .sheet) (b .seen) (b₁ .desk) (b₁ .sheet) (b₁ .seen) → b₁ .slip ≡ b .slip → length (b .slip) < slipSize K
+    → fitsAll (b₁ .desk) (b₁ .sheet) (b₁ .seen) (b₁ .slip) ≡ false
 unfolding fitsAll
 slip-short {b} {b₁} K F s h =
-    rw (F .stands .classes, s, lt-leb (slipSize K) (length (b .slip)) h) (and-false (fits (b₁ .desk) (b₁ .sheet)))
+    rw (F .stands .classes, s, lt-leb (slipSize K) (length (b .slip)) h) (and-false (fits (b₁ .desk) (b₁ .sheet) (b₁ .seen)))
 
-opened-fed : {b b₁ b′ : Buffers} {f : Feed} (K : ℕ) (rest : List ℕ) → length rest < 2 ^ 64 → Opened K (b .desk) (b .sheet) 0 (b₁ .desk) (b₁ .sheet)
+opened-fed : {b b₁ b′ : Buffers} {f : Feed} (K : ℕ) (rest : List ℕ) → length rest < 2 ^ 64 → Opened K (b .desk) (b .sheet) (b .seen) 0 (b₁ .desk) (b₁ .sheet) (b₁ .seen)
     → b₁ .slip ≡ b .slip → Fed (unitBegun 0 true 0) b₁ rest f b′ → LogFed b K rest f b′
 opened-fed {b} {b₁} K rest small p s r =
     let F = opened-as p in
@@ -73,36 +73,37 @@ opened-fed {b} {b₁} K rest small p s r =
 
 header-fed : {b b₁ b′ : Buffers} {f₁ f : Feed} (unit rest : List ℕ) → length rest < 2 ^ 64 → HeaderOpened b unit f₁ b₁ → Fed f₁ b₁ rest f b′
     → LogFed b (headerClasses unit) rest f b′
-header-fed {b} {b₁} {b′} {f₁} {f} unit rest small j r = by (opens K (b .desk) (b .sheet)) refl
+header-fed {b} {b₁} {b′} {f₁} {f} unit rest small j r = by (opens K (b .desk) (b .sheet) (b .seen)) refl
   where
     K : ℕ
     K = headerClasses unit
 
-    by : (t : Bool) → opens K (b .desk) (b .sheet) ≡ t → LogFed b K rest f b′
+    by : (t : Bool) → opens K (b .desk) (b .sheet) (b .seen) ≡ t → LogFed b K rest f b′
     by true e =
         let a : j .answer ≡ 0 = j .opened .answer ∙ ap (λ (t : Bool). cond t 0 badOpening) e in
         opened-fed {b₁ = b₁} K rest small
-        (subst (λ (n : ℕ). Opened K (b .desk) (b .sheet) n (b₁ .desk) (b₁ .sheet)) a (j .opened)) (j .slip-is)
+        (subst (λ (n : ℕ). Opened K (b .desk) (b .sheet) (b .seen) n (b₁ .desk) (b₁ .sheet) (b₁ .seen)) a (j .opened)) (j .slip-is)
         (subst (λ (g : Feed). Fed g b₁ rest f b′) (j .is ∙ ap (λ (n : ℕ). unitBegun n (eqb n 0) 0) a) r)
     by false e =
         let a : j .answer ≡ badOpening = j .opened .answer ∙ ap (λ (t : Bool). cond t 0 badOpening) e in
         let d = j .opened .desk ∙ ap (λ (t : Bool). cond t (openedDesk K (b .desk)) (b .desk)) e in
         let s = j .opened .sheet ∙ ap (λ (t : Bool). cond t (openedSheet K (b .sheet)) (b .sheet)) e in
+        let n = j .opened .seen ∙ ap (λ (t : Bool). cond t (openedSeen K (b .seen)) (b .seen)) e in
         let g : f₁ ≡ unitBegun badOpening false 0 = j .is ∙ ap (λ (n : ℕ). unitBegun n (eqb n 0) 0) a in
         let x = takes-nothing (λ z. absurd (let y = ap (λ (v : Feed). v .answer) g in omega arith)) r in
-        rw (x .0, x .1, g, same-buffers b b₁ d s (j .slip-is)) (refused e)
+        rw (x .0, x .1, g, same-buffers b b₁ d s n (j .slip-is)) (refused e)
 
 -- ---- The whole log.
 
 module _ (b : Buffers) (log : List ℕ) (ended : Bool) (h : headerSize ≤ length log) where
   -- The outcome o of the records, however it was come by.
-  outcome-whole : {b′ : Buffers} (o : Outcome) (f : Feed) → opens (classesIn log) (b .desk) (b .sheet) ≡ true
+  outcome-whole : {b′ : Buffers} (o : Outcome) (f : Feed) → opens (classesIn log) (b .desk) (b .sheet) (b .seen) ≡ true
       → o ≡ outcomeFor (classesIn log) (leb (slipSize (classesIn log)) (length (b .slip))) (recordsIn log ended) → f .answer ≡ o .answer → f .number ≡ o .at
       → LeftBy (classesIn log) o b b′ → WholeLog b log ended (f .answer) (f .number) b′
   outcome-whole {b′} o f e q a n w = rw (a, n) (by-rules o h e q w)
 
   -- Of LogFed's two cases of an opened desk.
-  tight-whole : {b₁ : Buffers} (rs : List Bytes) (f : Feed) → Opened (classesIn log) (b .desk) (b .sheet) 0 (b₁ .desk) (b₁ .sheet) → b₁ .slip ≡ b .slip
+  tight-whole : {b₁ : Buffers} (rs : List Bytes) (f : Feed) → Opened (classesIn log) (b .desk) (b .sheet) (b .seen) 0 (b₁ .desk) (b₁ .sheet) (b₁ .seen) → b₁ .slip ≡ b .slip
       → length (b .slip) < slipSize (classesIn log) → rs ≡ recordsIn log ended → f .answer ≡ refuseFirst rs .answer → f .number ≡ refuseFirst rs .at
       → WholeLog b log ended (f .answer) (f .number) b₁
   tight-whole {b₁} rs f p s l q a n =
@@ -113,11 +114,12 @@ module _ (b : Buffers) (log : List ℕ) (ended : Bool) (h : headerSize ≤ lengt
         stands = rw (refuse-state rs) (F .stands);
         keeps-desk = F .keeps-desk;
         keeps-sheet = F .keeps-sheet;
+        keeps-seen = F .keeps-seen;
         unreported = λ _. s;
         reported = λ z. absurd (refuse-answer rs z);
       })
 
-  running-whole : {b₁ b₂ : Buffers} (rs : List Bytes) (f : Feed) → Opened (classesIn log) (b .desk) (b .sheet) 0 (b₁ .desk) (b₁ .sheet)
+  running-whole : {b₁ b₂ : Buffers} (rs : List Bytes) (f : Feed) → Opened (classesIn log) (b .desk) (b .sheet) (b .seen) 0 (b₁ .desk) (b₁ .sheet) (b₁ .seen)
       → b₁ .slip ≡ b .slip → slipSize (classesIn log) ≤ length (b .slip) → rs ≡ recordsIn log ended → f .answer ≡ validate (classesIn log) start 0 rs .answer
       → f .number ≡ validate (classesIn log) start 0 rs .at → LeftBy (classesIn log) (validate (classesIn log) start 0 rs) b₁ b₂
       → WholeLog b log ended (f .answer) (f .number) b₂
@@ -131,6 +133,7 @@ module _ (b : Buffers) (log : List ℕ) (ended : Bool) (h : headerSize ≤ lengt
         stands = F .stands;
         keeps-desk = F .keeps-desk;
         keeps-sheet = F .keeps-sheet;
+        keeps-seen = F .keeps-seen;
         unreported = λ _. s;
         reported = λ z. absurd (omega arith);
       }) (λ z. omega arith) w)

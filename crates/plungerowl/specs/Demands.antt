@@ -3,14 +3,16 @@ use mathlib.Core.Path.{_≡_}
 use mathlib.Core.Bool.{true}
 use mathlib.Core.List.{List}
 use mathlib.Core.Logic.{_⊎_, _↔_}
-use Prim.Native.Nat.{ℕ, _+_}
+use Prim.Native.Nat.{ℕ, _+_, _<_}
+use lib.ListN.{length}
 use Rattle.rules.specs.Record.{Bytes}
 use Rattle.rules.specs.Context.{Frame}
 use Rattle.rules.specs.Graph.{Graph}
 use Rattle.rules.specs.StrongPath.{ClosedStrongPath}
 use Rattle.rules.specs.Run.{start, run}
 use Rattle.rules.specs.Balance.{acquires, releases, standing, tally}
-use Rattle.layout.specs.Layout.{closedOf}
+use Rattle.rules.specs.FirstSeen.{drawings, firstDrawn}
+use Rattle.layout.specs.Layout.{closedOf, kindsOf, acceptedOf, numberOf}
 use Rattle.layout.specs.Fit.{fitsAll}
 use Rattle.layout.specs.Decoding.{view, StandFor}
 use Rattle.validator.specs.Step.{Reported}
@@ -21,6 +23,7 @@ pub record SameStep (answer answer′ : ℕ) (b b′ : Buffers) : Type 0 where
   pub number-is : answer ≡ answer′
   pub desk-is : b .desk ≡ b′ .desk
   pub sheet-is : b .sheet ≡ b′ .sheet
+  pub seen-is : b .seen ≡ b′ .seen
   pub slip-is : b .slip ≡ b′ .slip
 
 -- Demand 1, of one step: an open desk is closed by a fault and by nothing else.
@@ -28,17 +31,24 @@ pub record ClosedByFault (before : List ℕ) (answer : ℕ) (after : List ℕ) :
   pub exactly : closedOf before ≡ 0 → (closedOf after ≡ 1) ↔ (answer ≡ 1)
 
 -- Demand 2, of an accepted record, where g is the graph with what it draws: the answer is a fault exactly when g has a closed strong path, and
--- with the fault comes the least cycle of g.
-pub record FaultExactly (K : ℕ) (g : Graph) (answer : ℕ) (slip slip′ : List ℕ) : Type 0 where
+-- with the fault comes the least cycle of g, with the numbers of its pairs.
+pub record FaultExactly (K : ℕ) (g : Graph) (numbers : ℕ → ℕ → ℕ) (answer : ℕ) (slip slip′ : List ℕ) : Type 0 where
   pub exactly : (answer ≡ 0) ⊎ (answer ≡ 1) → (answer ≡ 1) ↔ ClosedStrongPath K g
-  pub cycle : answer ≡ 1 → Reported K g slip slip′
+  pub cycle : answer ≡ 1 → Reported K g numbers slip slip′
 
 -- Demand 2, of a run from opening: the bytes stand for what the rules draw from the records alone.
 pub record DrawnFromRecords (K : ℕ) (rs : List Bytes) (b : Buffers) : Type 0 where
-  pub stands : StandFor K (run K start rs) (b .desk) (b .sheet)
-  pub stays-fit : fitsAll (b .desk) (b .sheet) (b .slip) ≡ true
+  pub stands : StandFor K (run K start rs) (b .desk) (b .sheet) (b .seen)
+  pub stays-fit : fitsAll (b .desk) (b .sheet) (b .seen) (b .slip) ≡ true
+
+-- Request e, of a run from opening: the count, and the number of each pair in the second sheet, worked out from the records alone; 0 exactly where no lock
+-- dependency was drawn.
+pub record NumberedFromRecords (K : ℕ) (rs : List Bytes) (b : Buffers) : Type 0 where
+  pub counted : acceptedOf (b .desk) ≡ length (drawings K start rs)
+  pub numbered : (from to : ℕ) → from < K → to < K → numberOf (b .seen) K from to ≡ firstDrawn from to (drawings K start rs)
+  pub none : (from to : ℕ) → from < K → to < K → (numberOf (b .seen) K from to ≡ 0) ↔ (kindsOf (b .sheet) K from to ≡ 0)
 
 -- The balance law, of a run from opening: the locks that stand in the desk's frames.
 pub record Balanced (K : ℕ) (rs : List Bytes) (b : Buffers) : Type 0 where
   pub balance : (core : ℕ) (f : Frame) (class : ℕ)
-      → standing class (view (b .desk) (b .sheet) .cores core .held f) + tally K core f (releases class) start rs ≡ tally K core f (acquires class) start rs
+      → standing class (view (b .desk) (b .sheet) (b .seen) .cores core .held f) + tally K core f (releases class) start rs ≡ tally K core f (acquires class) start rs

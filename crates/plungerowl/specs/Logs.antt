@@ -10,7 +10,7 @@ use Rattle.rules.specs.Record.{Bytes}
 use Rattle.rules.specs.Verdict.{closed, malformed, refusalNumber, badOpening, unfit}
 use Rattle.rules.specs.Run.{start}
 use Rattle.rules.specs.Log.{headerSize, headerClasses, recordsOf, looseOf, shortRecord, Outcome, validate}
-use Rattle.layout.specs.Layout.{deskSize, sheetSize, slipSize, KeepsPast}
+use Rattle.layout.specs.Layout.{deskSize, sheetSize, seenSize, slipSize, KeepsPast}
 use Rattle.layout.specs.Decoding.{StandFor}
 use Rattle.opening.specs.Open.{opens}
 use Rattle.validator.specs.Step.{Reported}
@@ -39,20 +39,21 @@ abbrev pub outcomeFor : (K : ℕ) (room : Bool) → List Bytes → Outcome
 outcomeFor K true rs = validate K start 0 rs
 outcomeFor K false rs = refuseFirst rs
 
--- The buffers then: desk and sheet stand for the rules' state, and no byte past the sizes is touched; the slip is written with a fault only.
+-- The buffers then: desk and sheets stand for the rules' state, and no byte past the sizes is touched; the slip is written with a fault only.
 pub record LeftBy (K : ℕ) (o : Outcome) (b b′ : Buffers) : Type 0 where
-  pub stands : StandFor K (o .state) (b′ .desk) (b′ .sheet)
+  pub stands : StandFor K (o .state) (b′ .desk) (b′ .sheet) (b′ .seen)
   pub keeps-desk : KeepsPast deskSize (b .desk) (b′ .desk)
   pub keeps-sheet : KeepsPast (sheetSize K) (b .sheet) (b′ .sheet)
+  pub keeps-seen : KeepsPast (seenSize K) (b .seen) (b′ .seen)
   pub unreported : (o .answer ≡ 1 → ⊥) → b′ .slip ≡ b .slip
-  pub reported : o .answer ≡ 1 → Reported K (o .state .graph) (b .slip) (b′ .slip)
+  pub reported : o .answer ≡ 1 → Reported K (o .state .graph) (o .state .journal .seen) (b .slip) (b′ .slip)
 
 -- The whole log: a short header is refused at the end and not before, a bad one or too little room for opening at once, each with 2 at record 0 and
 -- nothing changed; behind a good one the records are completed, up to the first answer but 0.
 pub data WholeLog (b : Buffers) (log : List ℕ) (ended : Bool) : (answer number : ℕ) → Buffers → Type 0 where
   short-header : length log < headerSize → WholeLog b log ended (cond ended badOpening 0) 0 b
-  bad-header : headerSize ≤ length log → opens (classesIn log) (b .desk) (b .sheet) ≡ false → WholeLog b log ended badOpening 0 b
-  by-rules : {b′ : Buffers} (o : Outcome) → headerSize ≤ length log → opens (classesIn log) (b .desk) (b .sheet) ≡ true
+  bad-header : headerSize ≤ length log → opens (classesIn log) (b .desk) (b .sheet) (b .seen) ≡ false → WholeLog b log ended badOpening 0 b
+  by-rules : {b′ : Buffers} (o : Outcome) → headerSize ≤ length log → opens (classesIn log) (b .desk) (b .sheet) (b .seen) ≡ true
       → o ≡ outcomeFor (classesIn log) (leb (slipSize (classesIn log)) (length (b .slip))) (recordsIn log ended) → LeftBy (classesIn log) o b b′
       → WholeLog b log ended (o .answer) (o .at) b′
 
@@ -83,14 +84,14 @@ pub record ShortRefused (answer : ℕ) (b b′ : Buffers) : Type 0 where
   pub number-is : (answer ≡ unfit) ⊎ ((answer ≡ refusalNumber closed) ⊎ (answer ≡ refusalNumber malformed))
   pub same : b′ ≡ b
 
--- A call that repeats what stands, and changes no byte of the four buffers.
+-- A call that repeats what stands, and changes no byte of the five buffers.
 pub record Repeated (feed : List ℕ) (b : Buffers) (answer number : ℕ) (feed′ : List ℕ) (b′ : Buffers) : Type 0 where
   pub answer-is : answer ≡ view feed .answer
   pub number-is : number ≡ view feed .number
   pub same-feed : feed′ ≡ feed
   pub same : b′ ≡ b
 
--- Two results of one call of the feed: the numbers and every byte of the four buffers are the same.
+-- Two results of one call of the feed: the numbers and every byte of the five buffers are the same.
 pub record SameFeed (answer answer′ number number′ : ℕ) (feed feed′ : List ℕ) (b b′ : Buffers) : Type 0 where
   pub step : SameStep answer answer′ b b′
   pub record-is : number ≡ number′

@@ -17,5 +17,6 @@ pub data Ran : Buffers → List Bytes → List ℕ → Buffers → Type 0 where
 pub record Opening (K : ℕ) (b : Buffers) : Type 0 where
   pub desk-before : List ℕ
   pub sheet-before : List ℕ
-  pub opened : Opened K desk-before sheet-before 0 (b .desk) (b .sheet)
+  pub seen-before : List ℕ
+  pub opened : Opened K desk-before sheet-before seen-before 0 (b .desk) (b .sheet) (b .seen)
   pub room : slipSize K ≤ length (b .slip)

@@ -8,12 +8,17 @@ ghost use Rattle.question.specs.Question.{Asked};
 ghost use Rattle.validator.specs.Calls.{buffers};
 ghost use Rattle.validator.specs.Step.{Stepped};
 
-// Opens desk and sheet for a number of lock classes.
+// Opens desk and both sheets for a number of lock classes.
 #[no_mangle]
-pub extern "C" fn plungerowl_open(classes: u64, desk: &mut [u8], sheet: &mut [u8]) -> u8
-    ensures { λ r. ⌜ Opened classes (now (desk .entry)) (now (sheet .entry)) r (now (desk .exit)) (now (sheet .exit)) ⌝ }
+pub extern "C" fn plungerowl_open(
+    classes: u64,
+    desk: &mut [u8],
+    sheet: &mut [u8],
+    seen: &mut [u8],
+) -> u8
+    ensures { λ r. ⌜ Opened classes (now (desk .entry)) (now (sheet .entry)) (now (seen .entry)) r (now (desk .exit)) (now (sheet .exit)) (now (seen .exit)) ⌝ }
 {
-    open(classes, desk, sheet)
+    open(classes, desk, sheet, seen)
 }
 
 // Validates one record. With a fault the cycle stands in the slip.
@@ -21,12 +26,13 @@ pub extern "C" fn plungerowl_open(classes: u64, desk: &mut [u8], sheet: &mut [u8
 pub extern "C" fn plungerowl_step(
     desk: &mut [u8],
     sheet: &mut [u8],
+    seen: &mut [u8],
     slip: &mut [u8],
     bytes: &[u8],
 ) -> u8
-    ensures { λ r. ⌜ Stepped (now (desk .entry)) (now (sheet .entry)) (now (slip .entry)) (now (bytes .entry)) r (now (desk .exit)) (now (sheet .exit)) (now (slip .exit)) ⌝ }
+    ensures { λ r. ⌜ Stepped (now (desk .entry)) (now (sheet .entry)) (now (seen .entry)) (now (slip .entry)) (now (bytes .entry)) r (now (desk .exit)) (now (sheet .exit)) (now (seen .exit)) (now (slip .exit)) ⌝ }
 {
-    step(desk, sheet, slip, bytes)
+    step(desk, sheet, seen, slip, bytes)
 }
 
 // Which classes end a strong path from a class: one bit for each in `word`, and how many in `count`.
@@ -34,13 +40,14 @@ pub extern "C" fn plungerowl_step(
 pub extern "C" fn plungerowl_ask(
     desk: &[u8],
     sheet: &[u8],
+    seen: &[u8],
     class: u64,
     word: &mut u64,
     count: &mut u32,
 ) -> u8
-    ensures { λ r. ⌜ Asked (now (desk .entry)) (now (sheet .entry)) class r (now (word .exit)) (now (count .exit)) ⌝ }
+    ensures { λ r. ⌜ Asked (now (desk .entry)) (now (sheet .entry)) (now (seen .entry)) class r (now (word .exit)) (now (count .exit)) ⌝ }
 {
-    let found = ask(desk, sheet, class);
+    let found = ask(desk, sheet, seen, class);
     *word = found.word;
     *count = found.count;
     found.answer
@@ -60,13 +67,14 @@ pub extern "C" fn plungerowl_feed(
     feed: &mut [u8],
     desk: &mut [u8],
     sheet: &mut [u8],
+    seen: &mut [u8],
     slip: &mut [u8],
     piece: &[u8],
     record: &mut u64,
 ) -> u8
-    ensures { λ r. ⌜ FedPiece (now (feed .entry)) (buffers (now (desk .entry)) (now (sheet .entry)) (now (slip .entry))) (now (piece .entry)) r (now («record» .exit)) (now (feed .exit)) (buffers (now (desk .exit)) (now (sheet .exit)) (now (slip .exit))) ⌝ }
+    ensures { λ r. ⌜ FedPiece (now (feed .entry)) (buffers (now (desk .entry)) (now (sheet .entry)) (now (seen .entry)) (now (slip .entry))) (now (piece .entry)) r (now («record» .exit)) (now (feed .exit)) (buffers (now (desk .exit)) (now (sheet .exit)) (now (seen .exit)) (now (slip .exit))) ⌝ }
 {
-    let said = feed::feed_piece(feed, desk, sheet, slip, piece);
+    let said = feed::feed_piece(feed, desk, sheet, seen, slip, piece);
     *record = said.number;
     said.answer
 }
@@ -77,12 +85,13 @@ pub extern "C" fn plungerowl_feed_end(
     feed: &mut [u8],
     desk: &mut [u8],
     sheet: &mut [u8],
+    seen: &mut [u8],
     slip: &mut [u8],
     record: &mut u64,
 ) -> u8
-    ensures { λ r. ⌜ FedEnd (now (feed .entry)) (buffers (now (desk .entry)) (now (sheet .entry)) (now (slip .entry))) r (now («record» .exit)) (now (feed .exit)) (buffers (now (desk .exit)) (now (sheet .exit)) (now (slip .exit))) ⌝ }
+    ensures { λ r. ⌜ FedEnd (now (feed .entry)) (buffers (now (desk .entry)) (now (sheet .entry)) (now (seen .entry)) (now (slip .entry))) r (now («record» .exit)) (now (feed .exit)) (buffers (now (desk .exit)) (now (sheet .exit)) (now (seen .exit)) (now (slip .exit))) ⌝ }
 {
-    let said = feed::feed_end(feed, desk, sheet, slip);
+    let said = feed::feed_end(feed, desk, sheet, seen, slip);
     *record = said.number;
     said.answer
 }

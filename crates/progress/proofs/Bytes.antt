@@ -13,7 +13,8 @@ use borrow.Author.Tests.{eq-eqb, ne-eqb, lt-ltb, le-ltb}
 use Rattle.words.specs.Bits.{flag}
 use Rattle.rules.specs.Decision.{tabulate}
 use Rattle.rules.specs.Record.{recordSize}
-use Rattle.progress.specs.Feed.{Feed, mostLoose, answerAt, openedAt, countAt, looseAt, numberAt, numberSize, feedSize, lowFirst, view, byteOf}
+use Rattle.layout.specs.Number.{lowFirst}
+use Rattle.progress.specs.Feed.{Feed, mostLoose, answerAt, openedAt, countAt, looseAt, numberAt, numberSize, feedSize, view, byteOf}
 use Rattle.progress.specs.Code.{LooseIn}
 
 -- ---- Byte i of a feed, by its place.
@@ -102,15 +103,3 @@ with-loose f l l′ e = rw e refl
 pub viewed : (feed l : List ℕ) (n : ℕ) → l ≡ take (getD feed countAt 0) (drop looseAt feed) → n ≡ lowFirst numberSize feed numberAt
     → _≡_ {A = Feed} (record { answer = getD feed answerAt 0; opened = eqb (getD feed openedAt 0) 1; loose = l; number = n }) (view feed)
 viewed feed l n e h = rw (e, h) refl
-
--- Four bytes.
-pub four : (feed : List ℕ) (at b0 b1 b2 b3 : ℕ) → b0 ≡ getD feed at 0 → b1 ≡ getD feed (at + 1) 0 → b2 ≡ getD feed (at + 2) 0 → b3 ≡ getD feed (at + 3) 0
-    → b0 + 256 * (b1 + 256 * (b2 + 256 * b3)) ≡ lowFirst 4 feed at
-four feed at b0 b1 b2 b3 e0 e1 e2 e3 =
-    let s1 : at + 1 ≡ suc at = omega arith in
-    let s2 : at + 2 ≡ suc (suc at) = omega arith in
-    let s3 : at + 3 ≡ suc (suc (suc at)) = omega arith in
-    let f1 = e1 ∙ ap (λ (n : ℕ). getD feed n 0) s1 in
-    let f2 = e2 ∙ ap (λ (n : ℕ). getD feed n 0) s2 in
-    let f3 = e3 ∙ ap (λ (n : ℕ). getD feed n 0) s3 in
-    omega arith

@@ -1,9 +1,9 @@
 -- The fit test of a feed, condition by condition. Assumes nothing.
-use mathlib.Core.Path.{_≡_, refl, sym, ap, _∙_}
-use mathlib.Core.Bool.{Bool, true, false, not, _&&_, _||_, and-true, and-false, or-true, or-false}
+use mathlib.Core.Path.{_≡_, refl, sym, _∙_}
+use mathlib.Core.Bool.{Bool, true, false, _||_, and-true, and-false, or-true}
 use mathlib.Core.List.{List}
-use Prim.Native.Nat.{ℕ, suc, _+_, _≤_, _<_}
-use native.Mathlib.Decide.{ℕ-discrete}
+use Prim.Native.Nat.{ℕ, _+_, _≤_, _<_}
+use native.Mathlib.Decide.{ℕ-discrete, decLt}
 use native.Mathlib.Omega.{arith}
 use lib.Dec.{leb, ltb, eqb}
 use lib.ListN.{length, getD}
@@ -11,43 +11,44 @@ use borrow.Author.Tests.{eq-eqb, ne-eqb, lt-ltb, le-ltb, le-leb, lt-leb, ltb-tru
 use Rattle.rules.proofs.Booleans.{and-cases}
 use Rattle.rules.specs.Log.{unitSize}
 use Rattle.layout.specs.Fit.{allBelow}
-use Rattle.fit.proofs.AllBelow.{all-at, all-of}
+use Rattle.fit.proofs.AllBelow.{all-at}
 use Rattle.progress.specs.Feed.{Feed, mostLoose, openedAt, countAt, looseAt, feedSize, view, anyOf, isStepAnswer, standsWith, wellFormed, unusedZero, fits}
 
 -- ---- The step's answers.
 
-none-else : allBelow 9 (λ a. eqb a 2 || isStepAnswer a) ≡ true
+none-else : allBelow 12 (λ a. eqb a 2 || isStepAnswer a) ≡ true
 unfolding allBelow isStepAnswer anyOf
 none-else = refl
 
-pub few-answers : (a : ℕ) → a ≤ 8 → (a ≡ 2 → ⊥) → true ≡ isStepAnswer a
-few-answers a h n = sym (rw (ne-eqb a 2 n) at (all-at 9 (λ b. eqb b 2 || isStepAnswer b) none-else a (omega arith)))
-
-pub many-answers : (a : ℕ) → 8 < a → (a ≡ 10 → ⊥) → eqb a 11 ≡ isStepAnswer a
+none-above : (a : ℕ) → 11 < a → isStepAnswer a ≡ false
 unfolding isStepAnswer anyOf
-many-answers a h n =
+none-above a h =
     simp (
       lt-leb a 1 (omega arith),
-      ne-eqb a 10 n,
+      ne-eqb a 11 (omega arith),
+      ne-eqb a 10 (omega arith),
       ne-eqb a 3 (omega arith),
       ne-eqb a 4 (omega arith),
       ne-eqb a 6 (omega arith),
       ne-eqb a 7 (omega arith),
       ne-eqb a 5 (omega arith),
       ne-eqb a 8 (omega arith),
-      or-false,
+      ne-eqb a 9 (omega arith),
     )
 
-pub two : isStepAnswer 2 ≡ false
-unfolding isStepAnswer anyOf
-two = refl
+-- All numbers up to 11 but 2.
+pub step-answers : (a : ℕ) → (a ≡ 2 → ⊥) → leb a 11 ≡ isStepAnswer a
+step-answers a n =
+    elim (decLt 11 a) [
+      | yes h ↦ lt-leb a 11 h ∙ sym (none-above a h)
+      | no h ↦
+          let l : a ≤ 11 = omega arith in
+          le-leb a 11 l ∙ sym (rw (ne-eqb a 2 n) at (all-at 12 (λ b. eqb b 2 || isStepAnswer b) none-else a (omega arith)))
+    ]
 
-pub ten : isStepAnswer 10 ≡ true
+pub two : (a : ℕ) → a ≡ 2 → false ≡ isStepAnswer a
 unfolding isStepAnswer anyOf
-ten = refl
-
-pub one-answer : (a : ℕ) (b : Bool) → isStepAnswer a ≡ b → (c : ℕ) → c ≡ a → b ≡ isStepAnswer c
-one-answer a b e c h = rw h (sym e)
+two a e = rw e refl
 
 -- ---- The answer and the number.
 

@@ -1,7 +1,7 @@
 -- Document 02, b: what a feed keeps between calls, and the bytes in which it is lent.
 use mathlib.Core.Bool.{Bool, true, false, cond, not, _&&_, _||_}
 use mathlib.Core.List.{List, [], _∷_, _++_}
-use Prim.Native.Nat.{ℕ, zero, suc, _+_, _*_, _-_, _/_, _%_, _^_}
+use Prim.Native.Nat.{ℕ, _+_, _*_, _-_, _/_, _%_, _^_}
 use lib.Dec.{leb, ltb, eqb}
 use lib.ListN.{length, getD, take, drop}
 use Rattle.words.specs.Bits.{flag}
@@ -9,6 +9,7 @@ use Rattle.rules.specs.Decision.{tabulate}
 use Rattle.rules.specs.Verdict.{Refusal, refusalNumber, order, badOpening, unfit}
 use Rattle.rules.specs.Record.{recordSize}
 use Rattle.rules.specs.Log.{unitSize}
+use Rattle.layout.specs.Number.{lowFirst}
 use Rattle.layout.specs.Fit.{allBelow}
 
 -- How far a feed has come: the standing answer, which is 0 or the first answer but 0; whether the header was complete and opened the desk; the loose
@@ -56,11 +57,6 @@ numberSize = 8
 
 abbrev pub feedSize : ℕ
 feedSize = numberAt + numberSize
-
--- A number of n bytes from place `at` on, low byte first.
-abbrev pub lowFirst : (n : ℕ) → List ℕ → (at : ℕ) → ℕ
-lowFirst zero bytes at = 0
-lowFirst (suc n) bytes at = getD bytes at 0 + 256 * lowFirst n bytes (suc at)
 
 -- What the bytes stand for.
 abbrev pub view : List ℕ → Feed

@@ -1,9 +1,8 @@
 // How far a feed has come, and the lent buffer in which it is kept between calls. specs/Feed.antt says what its bytes stand for.
 use answers::BAD_OPENING;
-use answers::CLOSED;
 use answers::OK;
-use answers::TOO_DEEP;
 use answers::UNFIT;
+use numbers::number_at;
 use record::SIZE;
 ghost use mathlib.Core.Path.{_≡_};
 ghost use mathlib.Core.List.{_++_};
@@ -12,7 +11,8 @@ ghost use lib.ListN.{length, getD, drop, take};
 ghost use Rattle.rules.specs.Record.{recordSize};
 ghost use Rattle.rules.specs.Log.{unitSize};
 ghost use Rattle.layout.specs.Fit.{allBelow};
-ghost use Rattle.progress.specs.Feed.{feedSize, mostLoose, countAt, looseAt, numberAt, numberSize, lowFirst, byteOf, bytesOf, view, isStepAnswer, standsWith, wellFormed, unusedZero, fits, unitBegun, withPart};
+ghost use Rattle.layout.specs.Number.{lowFirst};
+ghost use Rattle.progress.specs.Feed.{feedSize, mostLoose, countAt, looseAt, numberAt, numberSize, byteOf, bytesOf, view, isStepAnswer, standsWith, wellFormed, unusedZero, fits, unitBegun, withPart};
 ghost use Rattle.progress.specs.Code.{feedOf, Counted, LooseIn};
 
 // A log is a header and then records, of SIZE bytes each. Of one that is not complete the bytes are kept, fewer than a record has.
@@ -83,26 +83,17 @@ pub fn with_part(p: Progress, part: &[u8]) -> Progress
     }
 }
 
-fn wide(byte: u8) -> u64
-    ensures { λ r. ⌜ (r ≡ byte) × (r < 256) ⌝ }
+fn wide(number: u32) -> u64
+    ensures { λ r. ⌜ (r ≡ number) × (r < 2 ^ 32) ⌝ }
 {
-    byte as u64
-}
-
-// Four bytes of a number, the low one first.
-fn four_bytes(feed: &[u8], at: usize) -> u64
-    requires { ⌜ at + 4 ≤ length (now feed) ⌝ }
-    ensures { λ r. ⌜ (r ≡ lowFirst 4 (now (feed .entry)) at) × (r < 2 ^ 32) ⌝ }
-{
-    wide(feed[at])
-        + 256 * (wide(feed[at + 1]) + 256 * (wide(feed[at + 2]) + 256 * wide(feed[at + 3])))
+    number as u64
 }
 
 fn number_of(feed: &[u8]) -> u64
     requires { ⌜ feedSize ≤ length (now feed) ⌝ }
     ensures { λ r. ⌜ r ≡ lowFirst numberSize (now (feed .entry)) numberAt ⌝ }
 {
-    four_bytes(feed, NUMBER_AT) + 0x1_0000_0000 * four_bytes(feed, NUMBER_AT + 4)
+    wide(number_at(feed, NUMBER_AT)) + 0x1_0000_0000 * wide(number_at(feed, NUMBER_AT + 4))
 }
 
 fn loose_of(feed: &[u8]) -> [u8; SIZE]
@@ -187,13 +178,7 @@ fn is_step_answer(answer: u8) -> bool
     if answer == BAD_OPENING {
         return false;
     }
-    if answer <= TOO_DEEP {
-        return true;
-    }
-    if answer == CLOSED {
-        return true;
-    }
-    answer == UNFIT
+    answer <= UNFIT
 }
 
 // Whether the standing answer and the number go together.

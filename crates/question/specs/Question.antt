@@ -14,10 +14,10 @@ use Rattle.layout.specs.Fit.{fits}
 
 -- The question. "Refused with 11, then 4; word and count are then 0"; "Answered, its number is 0": the word has bit t when and only when
 -- class t ends a strong path from the class, and the count is its number of ones. An open and a closed desk are asked alike.
-pub record Asked (desk sheet : List ℕ) (class answer word count : ℕ) : Type 0 where
-  pub is-unfit : fits desk sheet ≡ false → (answer ≡ unfit) × (word ≡ 0) × (count ≡ 0)
-  pub no-class : fits desk sheet ≡ true → classesOf desk ≤ class → (answer ≡ refusalNumber noClass) × (word ≡ 0) × (count ≡ 0)
-  pub answered : fits desk sheet ≡ true → class < classesOf desk
+pub record Asked (desk sheet seen : List ℕ) (class answer word count : ℕ) : Type 0 where
+  pub is-unfit : fits desk sheet seen ≡ false → (answer ≡ unfit) × (word ≡ 0) × (count ≡ 0)
+  pub no-class : fits desk sheet seen ≡ true → classesOf desk ≤ class → (answer ≡ refusalNumber noClass) × (word ≡ 0) × (count ≡ 0)
+  pub answered : fits desk sheet seen ≡ true → class < classesOf desk
       → (answer ≡ 0)
-      × ((t : ℕ) → (bit word t ≡ 1) ↔ Reaches (classesOf desk) (view desk sheet .graph) class t)
+      × ((t : ℕ) → (bit word t ≡ 1) ↔ Reaches (classesOf desk) (view desk sheet seen .graph) class t)
       × (count ≡ ones word)

@@ -16,10 +16,10 @@ pub struct Reach {
 }
 
 // Which classes end a strong path of one or more dependencies from a class.
-pub fn ask(desk: &[u8], sheet: &[u8], class: u64) -> Reach
-    ensures { λ r. ⌜ Asked (now (desk .entry)) (now (sheet .entry)) class (r .answer) (r .word) (r .count) ⌝ }
+pub fn ask(desk: &[u8], sheet: &[u8], seen: &[u8], class: u64) -> Reach
+    ensures { λ r. ⌜ Asked (now (desk .entry)) (now (sheet .entry)) (now (seen .entry)) class (r .answer) (r .word) (r .count) ⌝ }
 {
-    if !fits(desk, sheet) {
+    if !fits(desk, sheet, seen) {
         return Reach {
             answer: UNFIT,
             word: 0,

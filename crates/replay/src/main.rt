@@ -6,6 +6,7 @@ use layout::DESK_SIZE;
 use layout::ENTRIES_AT;
 use layout::ENTRY_SIZE;
 use layout::MAX_CLASSES;
+use layout::NUMBER_SIZE;
 use libc::STDERR_FILENO;
 use libc::STDIN_FILENO;
 use libc::STDOUT_FILENO;
@@ -24,6 +25,8 @@ ghost use Rattle.replay.specs.Replayed.{Taken, Replayed, TextOfInput};
 // The buffers of the largest number of classes.
 const SHEET_SIZE: usize = MAX_CLASSES * MAX_CLASSES;
 
+const SEEN_SIZE: usize = NUMBER_SIZE * SHEET_SIZE;
+
 const SLIP_SIZE: usize = ENTRIES_AT + ENTRY_SIZE * MAX_CLASSES;
 
 // The bytes of a log that are held at a time.
@@ -35,10 +38,11 @@ fn feed_input(
     feed: &mut [u8],
     desk: &mut [u8],
     sheet: &mut [u8],
+    seen: &mut [u8],
     slip: &mut [u8],
     buf: &mut [u8],
 ) -> bool
-    ensures { λ _. ⌜ Taken (now (feed .entry)) (buffers (now (desk .entry)) (now (sheet .entry)) (now (slip .entry))) (now (feed .exit)) (buffers (now (desk .exit)) (now (sheet .exit)) (now (slip .exit))) ⌝ }
+    ensures { λ _. ⌜ Taken (now (feed .entry)) (buffers (now (desk .entry)) (now (sheet .entry)) (now (seen .entry)) (now (slip .entry))) (now (feed .exit)) (buffers (now (desk .exit)) (now (sheet .exit)) (now (seen .exit)) (now (slip .exit))) ⌝ }
 {
     let mut reads = u64::MAX;
     while reads > 0 {
@@ -51,7 +55,7 @@ fn feed_input(
         if n == 0 {
             return true;
         }
-        let said = feed::feed_piece(feed, desk, sheet, slip, &buf[..n]);
+        let said = feed::feed_piece(feed, desk, sheet, seen, slip, &buf[..n]);
         if said.answer != OK {
             return true;
         }
@@ -64,17 +68,18 @@ fn replay(
     feed: &mut [u8],
     desk: &mut [u8],
     sheet: &mut [u8],
+    seen: &mut [u8],
     slip: &mut [u8],
     buf: &mut [u8],
 ) -> Outcome
     requires { ⌜ feedSize ≤ length (now feed) ⌝ }
-    ensures { λ r. ⌜ Replayed (buffers (now (desk .entry)) (now (sheet .entry)) (now (slip .entry))) r (buffers (now (desk .exit)) (now (sheet .exit)) (now (slip .exit))) ⌝ }
+    ensures { λ r. ⌜ Replayed (buffers (now (desk .entry)) (now (sheet .entry)) (now (seen .entry)) (now (slip .entry))) r (buffers (now (desk .exit)) (now (sheet .exit)) (now (seen .exit)) (now (slip .exit))) ⌝ }
 {
     feed::start(feed);
-    if !feed_input(feed, desk, sheet, slip, buf) {
+    if !feed_input(feed, desk, sheet, seen, slip, buf) {
         return Outcome::Unread;
     }
-    let said = feed::feed_end(feed, desk, sheet, slip);
+    let said = feed::feed_end(feed, desk, sheet, seen, slip);
     log::outcome_of(said.answer, said.number)
 }
 
@@ -89,14 +94,15 @@ fn text_of_input(
     feed: &mut [u8],
     desk: &mut [u8],
     sheet: &mut [u8],
+    seen: &mut [u8],
     slip: &mut [u8],
     buf: &mut [u8],
     out: &mut [u8],
 ) -> Text
     requires { ⌜ (feedSize ≤ length (now feed)) × (slipSize maxClasses ≤ length (now slip)) × (lineSize + cycleSize ≤ length (now out)) ⌝ }
-    ensures { λ r. ⌜ TextOfInput (buffers (now (desk .entry)) (now (sheet .entry)) (now (slip .entry))) (now (out .entry)) (r .answer) (now (out .exit)) (r .size) (buffers (now (desk .exit)) (now (sheet .exit)) (now (slip .exit))) ⌝ }
+    ensures { λ r. ⌜ TextOfInput (buffers (now (desk .entry)) (now (sheet .entry)) (now (seen .entry)) (now (slip .entry))) (now (out .entry)) (r .answer) (now (out .exit)) (r .size) (buffers (now (desk .exit)) (now (sheet .exit)) (now (seen .exit)) (now (slip .exit))) ⌝ }
 {
-    let outcome = replay(feed, desk, sheet, slip, buf);
+    let outcome = replay(feed, desk, sheet, seen, slip, buf);
     let size = log::put_text(out, outcome, slip);
     Text {
         answer: log::is_answer(outcome),
@@ -119,6 +125,7 @@ fn main() {
     let mut feed = [0u8; FEED_SIZE];
     let mut desk = [0u8; DESK_SIZE];
     let mut sheet = [0u8; SHEET_SIZE];
+    let mut seen = [0u8; SEEN_SIZE];
     let mut slip = [0u8; SLIP_SIZE];
     let mut buf = [0u8; BUF_SIZE];
     let mut out = [0u8; TEXT_SIZE];
@@ -126,6 +133,7 @@ fn main() {
         &mut feed,
         &mut desk,
         &mut sheet,
+        &mut seen,
         &mut slip,
         &mut buf,
         &mut out,

@@ -14,10 +14,10 @@ use Rattle.rules.specs.HeldLocks.{releaseNewest}
 use Rattle.rules.specs.Graph.{dependency}
 use Rattle.rules.specs.KindNames.{EN}
 use Rattle.rules.specs.CycleDecision.{isCycle, leastCycle}
-use Rattle.rules.specs.Run.{start, answers, run, graphAt}
+use Rattle.rules.specs.Run.{State, start, answers, run, graphAt}
 use Rattle.rules.proofs.Booleans.{and-cases}
 use Rattle.rules.proofs.Quick.{quickly, quickly-same}
-use Rattle.rules.specs.Examples.{exclusive, read, recursive, tryExclusive, lockOf, DrawnCase, drawnCase, drawnCases, MarkCase, markCase, markCases, Example, cycleCases, CycleCase, cycleCase, table, tries, example, p2, p6, allClean, endsWith, faultAt, takes, frees, does, says}
+use Rattle.rules.specs.Examples.{exclusive, read, recursive, tryExclusive, lockOf, NumberCase, numberCase, numberCases, LimitCase, limitCase, limitCases, DrawnCase, drawnCase, drawnCases, MarkCase, markCase, markCases, Example, cycleCases, CycleCase, cycleCase, table, tries, example, p2, p6, allClean, endsWith, faultAt, takes, frees, does, says}
 
 abbrev sameNumbers : List ℕ → List ℕ → Bool
 sameNumbers [] [] = true
@@ -94,3 +94,20 @@ try-released = refl
 pub p6-asked : map (reaches 8 (graphAt 8 start p6 1) 0) (0 ∷ 1 ∷ []) ≡ true ∷ false ∷ []
 unfolding p6 takes says isMalformed refusal dependency cyclic reaches
 p6-asked = refl
+
+-- Request e, over three classes.
+pub numbers-hold
+    : map (λ (e : NumberCase). let j = run 3 start (e .log) .journal in j .accepted ∷ j .seen (e .from) (e .to) ∷ []) numberCases
+    ≡ map (λ (e : NumberCase). e .numbers) numberCases
+unfolding numberCases numberCase p2 takes frees does says isMalformed refusal dependency cyclic
+numbers-hold = refl
+
+-- A state with so many records accepted.
+abbrev withAccepted : ℕ → State → State
+withAccepted n s =
+    record { is-closed = s .is-closed; cores = s .cores; graph = s .graph; journal = record { accepted = n; seen = s .journal .seen } }
+
+pub limits-hold : map (λ (e : LimitCase). answers 3 (withAccepted (e .accepted) (run 3 start (e .before))) (e .log)) limitCases
+    ≡ map (λ (e : LimitCase). e .given) limitCases
+unfolding limitCases limitCase takes frees does says isMalformed refusal dependency cyclic
+limits-hold = refl

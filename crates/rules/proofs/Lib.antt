@@ -6,6 +6,7 @@ pub mod Monotone
 pub mod Steps
 pub mod MoreEvidence
 pub mod Balanced
+pub mod Journals
 pub mod Cycles
 pub mod Pigeons
 pub mod Rounds

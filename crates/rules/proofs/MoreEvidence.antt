@@ -1,27 +1,77 @@
 -- Demand 3: more evidence never clears a fault. While the second run is open, the named cores are equal in both runs and the first run's graph
--- lies within the second's; once it is closed, "a fault at or before" is all that is claimed. Assumes nothing.
+-- lies within the second's, which has accepted no fewer records; once it is closed, "a fault at or before" is all that is claimed. Assumes nothing.
 use mathlib.Core.Path.{_≡_, refl, sym, _∙_, ap, subst}
 use mathlib.Core.Bool.{Bool, true, false, cond, false≢true}
 use mathlib.Core.List.{List, [], _∷_, List·Memᴰ, List·Memᴰ·head, List·Memᴰ·tail}
 use mathlib.Core.Option.{Option, none, some}
 use mathlib.Core.Logic.{_⊎_, inl, inr}
-use Prim.Native.Nat.{ℕ, zero, suc, _<_, zero-le, suc-le-suc}
+use Prim.Native.Nat.{ℕ, zero, suc, _<_, _≤_, zero-le, suc-le-suc}
 use native.Mathlib.Nat.{le-of-suc-le-suc, not-suc-le-zero, le-refl}
-use lib.Dec.{eqb}
+use native.Mathlib.Omega.{arith}
+use lib.Dec.{leb, eqb}
 use lib.ListN.{length, getD}
-use borrow.Author.Tests.{ne-eqb}
+use borrow.Author.Tests.{ne-eqb, leb-true, le-leb}
+use Rattle.rules.specs.Limits.{maxAccepted}
 use Rattle.rules.specs.Record.{Bytes, coreOf, eventOf, isMalformed, Names}
 use Rattle.rules.specs.HeldLocks.{Core, afterEvent}
 use Rattle.rules.specs.Decision.{cyclic}
-use Rattle.rules.specs.Verdict.{Refusal, malformed, number, refusal}
+use Rattle.rules.specs.Verdict.{Refusal, closed, malformed, noClass, noTransition, stillHeld, notHeld, tooDeep, countFull, number, applies, refusal}
 use Rattle.rules.specs.Run.{State, situation, acceptOn, accept, Result, decided, settled, step, answers, graphAt}
-use Rattle.rules.specs.TwoRuns.{NamedIn, Foreign, Interleaved, done, keep, insert, place, FaultBy, MoreEvidence}
+use Rattle.rules.specs.TwoRuns.{NamedIn, Foreign, Interleaved, done, keep, insert, place, Never, FaultBy, MoreEvidence}
 use Rattle.rules.proofs.Decided.{cyclic-sound}
 use Rattle.rules.proofs.Monotone.{Within, within-self, within-more, within-both, cyclic-mono}
-use Rattle.rules.proofs.Steps.{closed-no-fault, shut-after, fault-cycle}
+use Rattle.rules.proofs.Steps.{closed-no-fault, shut-after, fault-cycle, Alike, refused-alike}
 
 names-its-core : (r : Bytes) → isMalformed r ≡ false → Names r (coreOf r)
 names-its-core r h = record { formed = h; is-core = refl }
+
+-- ---- The limit: how many records may be accepted.
+
+abbrev isLimit : Refusal → Bool
+isLimit closed = false
+isLimit malformed = false
+isLimit noClass = false
+isLimit noTransition = false
+isLimit stillHeld = false
+isLimit notHeld = false
+isLimit tooDeep = false
+isLimit countFull = true
+
+limit-is : (x : Refusal) → isLimit x ≡ true → x ≡ countFull
+limit-is closed h = absurd (false≢true h)
+limit-is malformed h = absurd (false≢true h)
+limit-is noClass h = absurd (false≢true h)
+limit-is noTransition h = absurd (false≢true h)
+limit-is stillHeld h = absurd (false≢true h)
+limit-is notHeld h = absurd (false≢true h)
+limit-is tooDeep h = absurd (false≢true h)
+limit-is countFull h = refl
+
+module _ (K : ℕ) (s₁ s₂ : State) (r : Bytes) (q : s₁ .cores (coreOf r) ≡ s₂ .cores (coreOf r))
+    (o : s₁ .is-closed ≡ s₂ .is-closed) (fewer : s₁ .journal .accepted ≤ s₂ .journal .accepted) where
+  more-accepted : leb maxAccepted (s₁ .journal .accepted) ≡ true → leb maxAccepted (s₂ .journal .accepted) ≡ true
+  more-accepted h = let l = leb-true maxAccepted (s₁ .journal .accepted) h in le-leb maxAccepted (s₂ .journal .accepted) (omega arith)
+
+  alike-here : Alike isLimit (situation K s₁ r) (situation K s₂ r)
+  alike-here =
+      record {
+        same = λ x. elim x [
+          | closed ↦ λ n. o
+          | malformed ↦ λ n. refl
+          | noClass ↦ λ n. refl
+          | noTransition ↦ λ n. rw q
+          | stillHeld ↦ λ n. rw q
+          | notHeld ↦ λ n. rw q
+          | tooDeep ↦ λ n. rw q
+          | countFull ↦ λ n. absurd (false≢true (sym n))
+        ];
+        fuller = λ x n.
+            subst (λ (y : Refusal). applies y (situation K s₁ r) ≡ true → applies y (situation K s₂ r) ≡ true) (sym (limit-is x n)) more-accepted;
+      }
+
+  same-refusal : (number (step K s₂ r .answer) ≡ 9 → ⊥) → refusal (situation K s₂ r) ≡ refusal (situation K s₁ r)
+  same-refusal room =
+      refused-alike isLimit alike-here (λ y n h. let z : refusal (situation K s₂ r) ≡ some countFull = h ∙ ap some (limit-is y n) in room (rw z refl))
 
 module _ (K : ℕ) (whole : List Bytes) where
   record Along (s₁ s₂ : State) : Type 0 where
@@ -29,6 +79,7 @@ module _ (K : ℕ) (whole : List Bytes) where
     open₂ : s₂ .is-closed ≡ false
     agree : (i : ℕ) → NamedIn whole i → s₁ .cores i ≡ s₂ .cores i
     within : Within (s₁ .graph) (s₂ .graph)
+    fewer : s₁ .journal .accepted ≤ s₂ .journal .accepted
 
   -- ---- A record of the first list, in both runs.
 
@@ -49,6 +100,7 @@ module _ (K : ℕ) (whole : List Bytes) where
         open₂ = a .open₂;
         agree = λ i n. ap (cond (eqb i (coreOf r)) (afterEvent (eventOf r) core)) (a .agree i n);
         within = within-both _ _ (a .within);
+        fewer = suc-le-suc (a .fewer);
       }
 
   both-settled : (r : Bytes) {s₁ s₂ : State} → Along s₁ s₂ → s₁ .cores (coreOf r) ≡ s₂ .cores (coreOf r) → (x : Option Refusal)
@@ -64,14 +116,15 @@ module _ (K : ℕ) (whole : List Bytes) where
   unfolding refusal
   malformed-refused s r o h = rw (o, h)
 
-  both-step : (r : Bytes) {s₁ s₂ : State} → Along s₁ s₂ → List·Memᴰ r whole → Together (step K s₁ r) (step K s₂ r)
-  both-step r {s₁} {s₂} a m = by (isMalformed r) refl
+  both-step : (r : Bytes) {s₁ s₂ : State} → Along s₁ s₂ → List·Memᴰ r whole → (number (step K s₂ r .answer) ≡ 9 → ⊥)
+      → Together (step K s₁ r) (step K s₂ r)
+  both-step r {s₁} {s₂} a m room = by (isMalformed r) refl
     where
       by : (b : Bool) → isMalformed r ≡ b → Together (step K s₁ r) (step K s₂ r)
       by true h = rw (malformed-refused s₁ r (a .open₁) h, malformed-refused s₂ r (a .open₂) h) (alike refl a)
       by false h =
           let q = a .agree (coreOf r) (record { by = r; member = m; names = names-its-core r h }) in
-          let e : refusal (situation K s₂ r) ≡ refusal (situation K s₁ r) = rw (q, a .open₁, a .open₂) in
+          let e = same-refusal K s₁ s₂ r q (a .open₁ ∙ sym (a .open₂)) (a .fewer) room in
           rw e (both-settled r a q (refusal (situation K s₁ r)))
 
   -- ---- A foreign record, in the second run only.
@@ -91,6 +144,7 @@ module _ (K : ℕ) (whole : List Bytes) where
         open₂ = a .open₂;
         agree = λ i n. rw (ne-eqb i (coreOf r) (λ q. out (rw q at n))) (a .agree i n);
         within = within-more _ _ (a .within);
+        fewer = let l = a .fewer in omega arith;
       }
 
   aside-settled : (r : Bytes) {s₁ s₂ : State} → Along s₁ s₂ → (NamedIn whole (coreOf r) → ⊥) → (x : Option Refusal) → Aside s₁ (settled K s₂ r x)
@@ -145,12 +199,16 @@ module _ (K : ℕ) (whole : List Bytes) where
         old = λ i l k. absurd (closed-no-fault K (o₂ .state) ys (place e i) c k);
       }
 
+  never-later : {answer first : ℕ} {given : List ℕ} → Never answer (first ∷ given) → Never answer given
+  never-later n = record { never = λ i. n .never (suc i) }
+
   pairs : {xs ys : List Bytes} (e : Interleaved whole xs ys) → ((r : Bytes) → List·Memᴰ r xs → List·Memᴰ r whole) → (s₁ s₂ : State) → Along s₁ s₂
-      → Pair e (answers K s₁ xs) (answers K s₂ ys)
-  pairs done sub s₁ s₂ a = record { same = λ i l. absurd (not-suc-le-zero l); old = λ i l h. absurd (not-suc-le-zero l) }
-  pairs (keep {r} e) sub s₁ s₂ a =
-      keep-pair r (both-step r a (sub r (List·Memᴰ·head refl))) (pairs e (λ x m. sub x (List·Memᴰ·tail m)) (step K s₁ r .state) (step K s₂ r .state))
-  pairs (insert {r} f e) sub s₁ s₂ a = insert-pair f (aside-step r a f) (pairs e sub s₁ (step K s₂ r .state))
+      → Never 9 (answers K s₂ ys) → Pair e (answers K s₁ xs) (answers K s₂ ys)
+  pairs done sub s₁ s₂ a n = record { same = λ i l. absurd (not-suc-le-zero l); old = λ i l h. absurd (not-suc-le-zero l) }
+  pairs (keep {r} e) sub s₁ s₂ a n =
+      keep-pair r (both-step r a (sub r (List·Memᴰ·head refl)) (n .never 0))
+      (λ b. pairs e (λ x m. sub x (List·Memᴰ·tail m)) (step K s₁ r .state) (step K s₂ r .state) b (never-later n))
+  pairs (insert {r} f e) sub s₁ s₂ a n = insert-pair f (aside-step r a f) (λ b. pairs e sub s₁ (step K s₂ r .state) b (never-later n))
 
 fault-kept : {given : List ℕ} (n j : ℕ) → n ≡ 1 → (getD given j 0 ≡ n) ⊎ FaultBy given j → FaultBy given j
 fault-kept n j h (inl q) = record { at = j; by = le-refl j; is-fault = q ∙ h }
@@ -183,12 +241,12 @@ place-order (keep e) zero (suc j) l = suc-le-suc zero-le
 place-order (keep e) (suc i) (suc j) l = suc-le-suc (place-order e i j (le-of-suc-le-suc l))
 place-order (insert f e) i j l = suc-le-suc (place-order e i j l)
 
--- Demand 3, from any open state.
-pub more-evidence : (K : ℕ) (s : State) → s .is-closed ≡ false → {xs ys : List Bytes} (e : Interleaved xs xs ys)
+-- Demand 3, from any open state, "if neither run meets 9": where the second does not, the first does not either, so that is all that is asked.
+pub more-evidence : (K : ℕ) (s : State) → s .is-closed ≡ false → {xs ys : List Bytes} (e : Interleaved xs xs ys) → Never 9 (answers K s ys)
     → MoreEvidence K s e (answers K s xs) (answers K s ys)
-more-evidence K s o {xs} {ys} e =
-    let a : Along K xs s s = record { open₁ = o; open₂ = o; agree = λ i n. refl; within = within-self (s .graph) } in
-    let p = pairs K xs e (λ r m. m) s s a in
+more-evidence K s o {xs} {ys} e n =
+    let a : Along K xs s s = record { open₁ = o; open₂ = o; agree = λ i n. refl; within = within-self (s .graph); fewer = le-refl (s .journal .accepted) } in
+    let p = pairs K xs e (λ r m. m) s s a n in
     record {
       same = p .same;
       true-fault = λ j h. cyclic-sound K (graphAt K s ys j) (fault-cycle K s ys j h);

@@ -11,7 +11,7 @@ use lib.ListN.{length, getD, take, replicate, getD-replicate}
 use Rattle.rules.specs.Record.{Bytes}
 use Rattle.rules.specs.StrongPath.{ClosedStrongPath}
 use Rattle.rules.specs.Decision.{cyclic}
-use Rattle.rules.specs.Verdict.{Refusal, closed, malformed, noClass, noTransition, stillHeld, notHeld, tooDeep, clean, fault, refused, refusalNumber, number, order, Situation, applies, firstThatApplies, refusal}
+use Rattle.rules.specs.Verdict.{Refusal, closed, malformed, noClass, noTransition, stillHeld, notHeld, tooDeep, countFull, clean, fault, refused, refusalNumber, number, order, Situation, applies, firstThatApplies, refusal}
 use Rattle.rules.specs.Run.{State, situation, accept, close, Result, settled, step, answers, run, graphAt}
 use Rattle.rules.specs.TwoRuns.{FaultBy}
 use Rattle.rules.proofs.Decided.{cyclic-sound, cyclic-complete}
@@ -40,6 +40,7 @@ refused-number noTransition = omega arith
 refused-number stillHeld = omega arith
 refused-number notHeld = omega arith
 refused-number tooDeep = omega arith
+refused-number countFull = omega arith
 
 -- A fault closes the validator, and the graph then has a cycle.
 pub record Faulted (K : ℕ) (o : Result) : Type 0 where
@@ -172,6 +173,7 @@ in-order noTransition = search (List·Memᴰ·head, List·Memᴰ·tail) depth 10
 in-order stillHeld = search (List·Memᴰ·head, List·Memᴰ·tail) depth 10
 in-order notHeld = search (List·Memᴰ·head, List·Memᴰ·tail) depth 10
 in-order tooDeep = search (List·Memᴰ·head, List·Memᴰ·tail) depth 10
+in-order countFull = search (List·Memᴰ·head, List·Memᴰ·tail) depth 10
 
 none-applies : (rs : List Refusal) (s : Situation) (x : Refusal) → firstThatApplies rs s ≡ none → List·Memᴰ x rs → applies x s ≡ false
 none-applies (y ∷ rs) s x h m = by (applies y s) refl (List·Memᴰ·cases-cons m) (none-applies rs s x)
@@ -187,3 +189,31 @@ none-applies [] s x h m = absurd (List·Memᴰ·not-nil m)
 pub accepted-passes : (s : Situation) (x : Refusal) → refusal s ≡ none → applies x s ≡ false
 unfolding refusal
 accepted-passes s x h = none-applies order s x h (in-order x)
+
+-- ---- Two situations that differ only in how full something is.
+
+-- They agree on every refusal that is no limit, and a limit that the first meets the second meets.
+pub record Alike (isLimit : Refusal → Bool) (s₁ s₂ : Situation) : Type 0 where
+  pub same : (x : Refusal) → isLimit x ≡ false → applies x s₁ ≡ applies x s₂
+  pub fuller : (x : Refusal) → isLimit x ≡ true → applies x s₁ ≡ true → applies x s₂ ≡ true
+
+first-alike : (isLimit : Refusal → Bool) (rs : List Refusal) {s₁ s₂ : Situation} → Alike isLimit s₁ s₂
+    → ((y : Refusal) → isLimit y ≡ true → firstThatApplies rs s₂ ≡ some y → ⊥) → firstThatApplies rs s₂ ≡ firstThatApplies rs s₁
+first-alike isLimit [] a room = refl
+first-alike isLimit (y ∷ rs) {s₁} {s₂} a room = by (isLimit y) refl (applies y s₁) refl (applies y s₂) refl (first-alike isLimit rs a)
+  where
+    by : (l : Bool) → isLimit y ≡ l → (b₁ : Bool) → applies y s₁ ≡ b₁ → (b₂ : Bool) → applies y s₂ ≡ b₂
+        → (((z : Refusal) → isLimit z ≡ true → firstThatApplies rs s₂ ≡ some z → ⊥) → firstThatApplies rs s₂ ≡ firstThatApplies rs s₁)
+        → firstThatApplies (y ∷ rs) s₂ ≡ firstThatApplies (y ∷ rs) s₁
+    by l q true e₁ true e₂ ih = rw (e₁, e₂)
+    by l q false e₁ false e₂ ih = rw (e₁, e₂) (ih (λ z lz h. room z lz (rw e₂ h)))
+    by false q true e₁ false e₂ ih = absurd (false≢true (sym e₂ ∙ sym (a .same y q) ∙ e₁))
+    by false q false e₁ true e₂ ih = absurd (false≢true (sym e₁ ∙ a .same y q ∙ e₂))
+    by true q true e₁ false e₂ ih = absurd (false≢true (sym e₂ ∙ a .fuller y q e₁))
+    by true q false e₁ true e₂ ih = absurd (room y q (rw e₂))
+
+-- They are refused alike, or the second meets a limit.
+pub refused-alike : (isLimit : Refusal → Bool) {s₁ s₂ : Situation} → Alike isLimit s₁ s₂
+    → ((y : Refusal) → isLimit y ≡ true → refusal s₂ ≡ some y → ⊥) → refusal s₂ ≡ refusal s₁
+unfolding refusal
+refused-alike isLimit a room = first-alike isLimit order a room

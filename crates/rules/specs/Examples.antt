@@ -194,6 +194,10 @@ cycleCases =
     (takes 0 2 exclusive ∷ takes 0 3 exclusive ∷ frees 0 3 ∷ takes 0 0 exclusive ∷ frees 0 2 ∷ takes 0 1 exclusive ∷ takes 1 1 exclusive ∷ takes 1 3 exclusive
     ∷ takes 1 2 exclusive ∷ [])
     (goes 2 EN lock ∷ goes 3 EN lock ∷ [])
+    -- request e: the next class, though the pair 0, 1 has a higher number than 0, 2
+    ∷ cycleCase 3
+    (takes 0 0 exclusive ∷ takes 0 2 exclusive ∷ frees 0 2 ∷ takes 0 1 exclusive ∷ takes 1 1 exclusive ∷ takes 1 2 exclusive ∷ takes 1 0 exclusive ∷ [])
+    (goes 0 EN lock ∷ goes 1 EN lock ∷ [])
     ∷ []
 
 -- ---- What is drawn, where no answer from opening shows it.
@@ -236,6 +240,57 @@ markCases =
     ∷ markCase (does 0 enterSoft ∷ takes 0 2 tryExclusive ∷ takes 0 3 exclusive ∷ []) 3 softIrq (safe N) true
     ∷ markCase (does 0 enterHard ∷ takes 0 2 tryExclusive ∷ takes 0 3 exclusive ∷ []) 2 hardIrq (safe N) false
     ∷ markCase (does 0 enterHard ∷ takes 0 2 tryExclusive ∷ takes 0 3 exclusive ∷ []) 2 hardIrq (unsafe E) false
+    ∷ []
+
+-- ---- Request e: how many records are accepted, and which number a pair gets.
+
+pub record NumberCase : Type 0 where
+  pub log : List Bytes
+  pub from : ℕ
+  pub to : ℕ
+  pub numbers : List ℕ
+
+-- The count, and the pair's number.
+unfoldable pub numberCase : List Bytes → ℕ → ℕ → ℕ → ℕ → NumberCase
+numberCase log from to count number = record { log = log; from = from; to = to; numbers = count ∷ number ∷ [] }
+
+unfoldable pub numberCases : List NumberCase
+numberCases =
+    -- P2: the record that is answered 1 is counted, and has its own number
+    numberCase p2 1 2 6 2
+    ∷ numberCase p2 2 1 6 6
+    ∷ numberCase p2 1 1 6 0
+    -- refused records are not: the fourth record is the second accepted; after the fault none is
+    ∷ numberCase (takes 0 0 exclusive ∷ frees 0 1 ∷ [] ∷ takes 0 1 exclusive ∷ []) 0 1 2 2
+    ∷ numberCase (takes 0 0 exclusive ∷ takes 0 0 exclusive ∷ takes 1 0 exclusive ∷ takes 1 1 exclusive ∷ []) 0 0 2 2
+    -- a second kind keeps the number
+    ∷ numberCase (takes 0 0 exclusive ∷ takes 0 1 recursive ∷ frees 0 1 ∷ takes 0 1 exclusive ∷ []) 0 1 4 2
+    -- one from every lock of the frame; none to a try, nor by marks alone
+    ∷ numberCase (takes 0 0 exclusive ∷ takes 0 1 exclusive ∷ takes 0 2 exclusive ∷ []) 0 2 3 3
+    ∷ numberCase (takes 0 0 exclusive ∷ takes 0 1 tryExclusive ∷ takes 0 2 exclusive ∷ []) 0 1 3 0
+    ∷ numberCase (does 0 enterHard ∷ takes 0 1 exclusive ∷ frees 0 1 ∷ does 0 exitHard ∷ takes 0 0 exclusive ∷ []) 0 1 5 0
+    ∷ []
+
+-- Records that meet the limit: `before` leads to a state, which is taken with so many records accepted.
+pub record LimitCase : Type 0 where
+  pub before : List Bytes
+  pub accepted : ℕ
+  pub log : List Bytes
+  pub given : List ℕ
+
+unfoldable pub limitCase : List Bytes → ℕ → List Bytes → List ℕ → LimitCase
+limitCase before accepted log given = record { before = before; accepted = accepted; log = log; given = given }
+
+unfoldable pub limitCases : List LimitCase
+limitCases =
+    -- one more at 4,294,967,294; then 9 for what would be accepted, also what draws nothing, and every other refusal before it
+    limitCase [] 4294967294
+    (takes 0 0 exclusive ∷ takes 0 1 exclusive ∷ frees 0 0 ∷ does 0 hardOff ∷ frees 0 1 ∷ does 0 exitHard ∷ takes 0 3 exclusive ∷ [] ∷ [])
+    (0 ∷ 9 ∷ 9 ∷ 9 ∷ 5 ∷ 6 ∷ 4 ∷ 3 ∷ [])
+    ∷ limitCase (does 0 enterHard ∷ takes 0 0 exclusive ∷ []) 4294967295 (does 0 exitHard ∷ []) (7 ∷ [])
+    ∷ limitCase (replicate 20 (takes 0 0 recursive)) 4294967295 (takes 0 0 recursive ∷ []) (8 ∷ [])
+    -- the last one may be a fault, and then all get 10
+    ∷ limitCase (takes 0 0 exclusive ∷ []) 4294967294 (takes 0 0 exclusive ∷ takes 0 1 exclusive ∷ []) (1 ∷ 10 ∷ [])
     ∷ []
 
 abbrev pub lockOf : ℕ → ℕ → HeldLock

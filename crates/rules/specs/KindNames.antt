@@ -1,4 +1,5 @@
--- Short names of the kinds, for examples and texts.
+-- Short names of the kinds.
+use mathlib.Core.Bool.{Bool, _||_}
 use Rattle.rules.specs.HeldLocks.{E, S, R, N}
 use Rattle.rules.specs.Graph.{Kind}
 
@@ -13,3 +14,7 @@ SR = record { first = S; second = R }
 
 abbrev pub SN : Kind
 SN = record { first = S; second = N }
+
+-- Some kind meets the test.
+abbrev pub someKind : (Kind → Bool) → Bool
+someKind d = (d ER || d EN) || (d SR || d SN)

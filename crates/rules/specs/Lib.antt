@@ -17,5 +17,6 @@ pub mod Verdict
 pub mod Run
 pub mod TwoRuns
 pub mod Balance
+pub mod FirstSeen
 pub mod Examples
 pub mod Log

@@ -13,6 +13,10 @@ maxClasses = 64
 abbrev pub maxDepth : ℕ
 maxDepth = 20
 
+-- The most records that are accepted (02, e: "the count stands at 4,294,967,295").
+abbrev pub maxAccepted : ℕ
+maxAccepted = 4294967295
+
 -- Record kinds are 0 to 9, of which 0 and 1 name a lock class and the others are interrupt events.
 abbrev pub kindCount : ℕ
 kindCount = 10

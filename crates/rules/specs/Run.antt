@@ -1,5 +1,5 @@
 -- The validator over the rules: one record, and a list of records.
-use mathlib.Core.Bool.{Bool, true, false, cond}
+use mathlib.Core.Bool.{Bool, true, false, cond, _&&_}
 use mathlib.Core.List.{List, [], _∷_}
 use mathlib.Core.Option.{Option, none, some}
 use Prim.Native.Nat.{ℕ, suc}
@@ -8,18 +8,36 @@ use lib.ListN.{take}
 use Rattle.rules.specs.Record.{Bytes, coreOf, eventOf}
 use Rattle.rules.specs.HeldLocks.{Core, freshCore, afterEvent}
 use Rattle.rules.specs.Marks.{marksOf}
-use Rattle.rules.specs.Graph.{Graph, emptyGraph, addTo, drawnBy}
+use Rattle.rules.specs.Graph.{Graph, Dependencies, emptyGraph, addTo, drawnBy}
+use Rattle.rules.specs.KindNames.{someKind}
 use Rattle.rules.specs.Decision.{cyclic}
 use Rattle.rules.specs.Verdict.{Refusal, Answer, clean, fault, refused, number, Situation, refusal}
+
+-- How many records were accepted, and for each pair of classes the number of the one that first drew a lock dependency there, 0 for none.
+pub record Journal : Type 0 where
+  pub accepted : ℕ
+  pub seen : (from to : ℕ) → ℕ
+
+abbrev pub emptyJournal : Journal
+emptyJournal = record { accepted = 0; seen = λ f t. 0 }
+
+-- One record more is accepted, and draws these dependencies: the pairs that have no number yet get its own.
+abbrev pub withRecord : Dependencies → Journal → Journal
+withRecord d j =
+    record {
+      accepted = suc (j .accepted);
+      seen = λ f t. cond (eqb (j .seen f t) 0 && someKind (d f t)) (suc (j .accepted)) (j .seen f t);
+    }
 
 pub record State : Type 0 where
   pub is-closed : Bool
   pub cores : ℕ → Core
   pub graph : Graph
+  pub journal : Journal
 
 -- Every core fresh, over the graph with which the run starts.
 abbrev pub startingFrom : Graph → State
-startingFrom g = record { is-closed = false; cores = λ i. freshCore; graph = g }
+startingFrom g = record { is-closed = false; cores = λ i. freshCore; graph = g; journal = emptyJournal }
 
 -- What opening gives: the empty graph.
 abbrev pub start : State
@@ -27,7 +45,11 @@ start = startingFrom emptyGraph
 
 abbrev pub situation : ℕ → State → Bytes → Situation
 situation K s r =
-    record { is-closed = s .is-closed; classes = K; core = s .cores (coreOf r); bytes = r }
+    record { is-closed = s .is-closed; classes = K; core = s .cores (coreOf r); accepted = s .journal .accepted; bytes = r }
+
+-- All lock dependencies that a record draws, where its core stands as `core`. The journal reads them too.
+abbrev pub drawnWith : Core → Bytes → Dependencies
+drawnWith core r = drawnBy (eventOf r) core
 
 -- What an accepted record does, where its core stands as `core`: it draws lock dependencies from the core as it stood and sets marks from
 -- the core as it then stands.
@@ -37,14 +59,15 @@ acceptOn core s r =
     record {
       is-closed = s .is-closed;
       cores = λ i. cond (eqb i (coreOf r)) after (s .cores i);
-      graph = addTo (s .graph) (drawnBy (eventOf r) core) (marksOf after);
+      graph = addTo (s .graph) (drawnWith core r) (marksOf after);
+      journal = withRecord (drawnWith core r) (s .journal);
     }
 
 abbrev pub accept : State → Bytes → State
 accept s r = acceptOn (s .cores (coreOf r)) s r
 
 abbrev pub close : State → State
-close s = record { is-closed = true; cores = s .cores; graph = s .graph }
+close s = record { is-closed = true; cores = s .cores; graph = s .graph; journal = s .journal }
 
 pub record Result : Type 0 where
   pub answer : Answer

@@ -37,6 +37,10 @@ pub record FaultBy (given : List ℕ) (j : ℕ) : Type 0 where
   pub by : at ≤ j
   pub is-fault : getD given at 0 ≡ 1
 
+-- No record got this answer.
+pub record Never (answer : ℕ) (given : List ℕ) : Type 0 where
+  pub never : (i : ℕ) → getD given i 0 ≡ answer → ⊥
+
 -- The claim, of any two lists of answers: those that two runs from the state `start` gave to the lists xs and ys.
 pub record MoreEvidence (K : ℕ) (start : State) {xs ys : List Bytes} (e : Interleaved xs xs ys) (given₁ given₂ : List ℕ) : Type 0 where
   -- Each record of the first list gets its old answer unless a fault came at or before it.

@@ -5,13 +5,13 @@ use mathlib.Core.Option.{Option, none, some}
 use Prim.Native.Nat.{ℕ}
 use lib.Dec.{leb, eqb}
 use lib.ListN.{length}
-use Rattle.rules.specs.Limits.{maxDepth}
+use Rattle.rules.specs.Limits.{maxDepth, maxAccepted}
 use Rattle.rules.specs.Record.{Bytes, Event, acquire, release, interrupt, eventOf, isMalformed}
 use Rattle.rules.specs.Context.{noState, nextState, leavesHandler}
 use Rattle.rules.specs.HeldLocks.{Core, current, isHeld, HeldLock}
 
 pub data Refusal : Type 0 where
-  closed malformed noClass noTransition stillHeld notHeld tooDeep : Refusal
+  closed malformed noClass noTransition stillHeld notHeld tooDeep countFull : Refusal
 
 -- What a step answers. Opening answers 0 or 2.
 pub data Answer : Type 0 where
@@ -26,6 +26,7 @@ refusalNumber noTransition = 6
 refusalNumber stillHeld = 7
 refusalNumber notHeld = 5
 refusalNumber tooDeep = 8
+refusalNumber countFull = 9
 
 abbrev pub number : Answer → ℕ
 number clean = 0
@@ -40,7 +41,7 @@ badOpening = 2
 abbrev pub unfit : ℕ
 unfit = 11
 
--- "Order: 11, 10, 3, 4, 6, 7, 5, 8", from 10 on.
+-- "Order: 11, 10, 3, 4, 6, 7, 5, 8", from 10 on; "New refusal 9, last in order".
 abbrev pub order : List Refusal
 order =
     closed
@@ -50,13 +51,15 @@ order =
     ∷ stillHeld
     ∷ notHeld
     ∷ tooDeep
+    ∷ countFull
     ∷ []
 
--- What the conditions read: whether the validator is closed, K, the core as it stands, and the record.
+-- What the conditions read: whether the validator is closed, K, the core as it stands, how many records were accepted, and the record.
 pub record Situation : Type 0 where
   pub is-closed : Bool
   pub classes : ℕ
   pub core : Core
+  pub accepted : ℕ
   pub bytes : Bytes
 
 -- "take or release, class K or more"
@@ -101,6 +104,7 @@ applies noTransition s = transitionMissing (s .core) (eventOf (s .bytes))
 applies stillHeld s = leavesLocked (s .core) (eventOf (s .bytes))
 applies notHeld s = releaseMissing (s .core) (eventOf (s .bytes))
 applies tooDeep s = frameFull (s .core) (eventOf (s .bytes))
+applies countFull s = leb maxAccepted (s .accepted)
 
 -- The first of these that applies.
 abbrev pub firstThatApplies : List Refusal → Situation → Option Refusal

@@ -3,7 +3,7 @@ use mathlib.Core.Path.{_≡_, refl, sym, ap, _∙_}
 use mathlib.Core.Bool.{Bool, true, cond}
 use mathlib.Core.List.{List}
 use mathlib.Core.Logic.{_⊎_, inl, inr, ⊎-elim}
-use Prim.Native.Nat.{ℕ, _+_, _*_, _<_, _≤_}
+use Prim.Native.Nat.{ℕ, _+_, _*_, _/_, _%_, _^_, _<_, _≤_}
 use native.Mathlib.Decide.{ℕ-discrete, decLt}
 use native.Mathlib.Omega.{arith}
 use lib.Dec.{eqb}
@@ -14,9 +14,10 @@ use Rattle.rules.specs.Limits.{coreCount, maxDepth}
 use Rattle.rules.specs.Context.{CoreState, Frame, frameOf}
 use Rattle.rules.specs.HeldLocks.{HeldLock, Core, withCurrent, withState}
 use Rattle.rules.specs.Marks.{Marks}
-use Rattle.layout.specs.Layout.{framesPerCore, closedAt, statesAt, depthsAt, marksAt, heldAt, originsAt, frameNumber, depthOf, heldOf, originOf}
+use Rattle.layout.specs.Layout.{framesPerCore, closedAt, statesAt, depthsAt, marksAt, heldAt, originsAt, acceptedAt, frameNumber, depthOf, heldOf, originOf}
 use Rattle.layout.specs.Encoding.{heldByteAt, originAt, DeskBytes}
 use Rattle.layout.proofs.Held.{same-bits}
+use Rattle.numbers.specs.Numbers.{NumberPut}
 use Rattle.update.specs.Update.{FrameBytes, KeepsElse, MarkBytes, KeepsUnmarked}
 
 -- The cores with one of them changed, as a step of the rules leaves them.
@@ -157,4 +158,23 @@ module _ {K : ℕ} {is-closed : Bool} {cores : ℕ → Core} {marks : Marks} {de
         origins = λ j f p lj lf lp.
             same-bits after desk (λ j l. other j (λ e. omega arith)) (maxDepth * frameNumber j f + p) ∙ b .origins j f p lj lf lp;
         eight = λ k l. rw (other (originsAt + k) (λ e. omega arith)) (b .eight k l);
+      }
+
+  -- ---- The count.
+
+  pub count-changed : {n : ℕ} {after : List ℕ} → NumberPut desk acceptedAt n after → DeskBytes K is-closed cores marks after
+  count-changed {after = after} P =
+      let other : (j : ℕ) → j < acceptedAt → getD after j 0 ≡ getD desk j 0 = λ j l. P .else j (inl l) in
+      record {
+        long = rw (P .long) (b .long);
+        classes = other 0 (omega arith) ∙ b .classes;
+        closed = other closedAt (omega arith) ∙ b .closed;
+        states = λ j lj. other (statesAt + j) (omega arith) ∙ b .states j lj;
+        depths = λ j f lj lf. other (depthsAt + frameNumber j f) (omega arith) ∙ b .depths j f lj lf;
+        usage = λ c lc. other (marksAt + c) (omega arith) ∙ b .usage c lc;
+        held = λ j f p lj lf lp. other (heldAt + maxDepth * frameNumber j f + p) (omega arith) ∙ b .held j f p lj lf lp;
+        origins = λ j f p lj lf lp.
+            let k = maxDepth * frameNumber j f + p in
+            ap (λ (x : ℕ). x / 2 ^ (k % 8) % 2) (other (originsAt + k / 8) (omega arith)) ∙ b .origins j f p lj lf lp;
+        eight = λ k l. rw (other (originsAt + k) (omega arith)) (b .eight k l);
       }

@@ -4,8 +4,7 @@ use mathlib.Core.Bool.{Bool, true, false, _&&_, _||_, or-false, and-false}
 use mathlib.Core.List.{List, []}
 use mathlib.Core.Logic.{_⊎_, inl, inr}
 use Prim.Native.Nat.{ℕ, suc, _+_, _*_, _%_, _/_, _<_, _≤_}
-use native.Mathlib.Nat.{mul-le-mul-right}
-use native.Mathlib.Decide.{ℕ-discrete, decLt}
+use native.Mathlib.Decide.{ℕ-discrete}
 use native.Mathlib.Numerals.{add-one}
 use native.Mathlib.Omega.{arith}
 use lib.Dec.{eqb}
@@ -18,7 +17,7 @@ use Rattle.rules.specs.HeldLocks.{First, HeldLock, sameFirst, sameSecond, heldA
 use Rattle.rules.specs.Graph.{Kind, Dependencies}
 use Rattle.layout.specs.Layout.{kindsOf, heldOf, depthOf, KeepsPast}
 use Rattle.layout.specs.Encoding.{kindByte, SheetBytes}
-use Rattle.layout.proofs.Buffers.{cell-inside, keeps-self}
+use Rattle.layout.proofs.Buffers.{cell-inside, cell-apart, keeps-self}
 use Rattle.layout.proofs.Flags.{kind-or}
 use Rattle.context.specs.Bits.{kindsBy, kindBits}
 use Rattle.layout.proofs.Held.{unheld}
@@ -30,13 +29,6 @@ first-held : (mode : ℕ) → firstBy (heldAs mode) ≡ firstBy mode
 first-held mode = ap firstIn (let e : mode % heldModes % heldModes ≡ mode % heldModes = omega arith in e)
 
 -- ---- Cells of the sheet.
-
-cell-apart : (K f t f′ t′ : ℕ) → t < K → t′ < K → f * K + t ≡ f′ * K + t′ → f ≡ f′
-cell-apart K f t f′ t′ lt lt′ e =
-    elim (decLt f f′) [
-      | yes l ↦ absurd (let h = mul-le-mul-right K l in omega arith)
-      | no n ↦ elim (decLt f′ f) [ yes l ↦ absurd (let h = mul-le-mul-right K l in omega arith) | no m ↦ omega arith ]
-    ]
 
 pub same-dependencies : {K : ℕ} {sheet : List ℕ} (d d′ : Dependencies) → ((f t : ℕ) (k : Kind) → d f t k ≡ d′ f t k) → SheetBytes K d sheet
     → SheetBytes K d′ sheet

@@ -10,7 +10,7 @@ use lib.ListN.{length, getD, set, length-set, length-append}
 use lib.Seq.{getD-set-same, getD-set-other}
 use Rattle.rules.specs.Limits.{maxDepth, heldModes, modeCount}
 use Rattle.rules.specs.HeldLocks.{HeldLock}
-use Rattle.layout.specs.Layout.{frameCount, originsAt, deskSize, depthsAt, heldAt, depthOf, heldOf, originBit, originOf}
+use Rattle.layout.specs.Layout.{frameCount, originsAt, acceptedAt, deskSize, depthsAt, heldAt, depthOf, heldOf, originBit, originOf}
 use Rattle.layout.specs.Encoding.{heldByte, heldOrigin, EightBits}
 use Rattle.layout.proofs.Held.{mode-origin, same-bits}
 use Rattle.origins.specs.Origins.{OriginPut}
@@ -145,7 +145,7 @@ remove-length (suc q) (h ∷ hs) l = ap suc (remove-length q hs (le-of-suc-le-su
 pub record OriginsMoving (before : List ℕ) (n q p : ℕ) (now : List ℕ) : Type 0 where
   pub long : length now ≡ length before
   pub from : q ≤ p
-  pub else : (j : ℕ) → (j < originsAt) ⊎ (deskSize ≤ j) → getD now j 0 ≡ getD before j 0
+  pub else : (j : ℕ) → (j < originsAt) ⊎ (acceptedAt ≤ j) → getD now j 0 ≡ getD before j 0
   pub moved : (r : ℕ) → q ≤ r → r < p → originOf now n r ≡ originOf before n (suc r)
   pub kept : (k : ℕ) → (k < maxDepth * n + q) ⊎ (maxDepth * n + p ≤ k) → originBit now k ≡ originBit before k
   pub eight : EightBits before → EightBits now
@@ -156,7 +156,7 @@ origins-start before n q =
 
 module _ {before now after : List ℕ} {n q p : ℕ} (M : OriginsMoving before n q p now) (inside : n < frameCount) (room : p < maxDepth) where
   -- One bit is put at place p.
-  put-else : {d : ℕ} → OriginPut now (maxDepth * n + p) d after → (j : ℕ) → (j < originsAt) ⊎ (deskSize ≤ j) → getD after j 0 ≡ getD before j 0
+  put-else : {d : ℕ} → OriginPut now (maxDepth * n + p) d after → (j : ℕ) → (j < originsAt) ⊎ (acceptedAt ≤ j) → getD after j 0 ≡ getD before j 0
   put-else P j o = P .else j (⊎-elim (λ l e. omega arith) (λ l e. omega arith) o) ∙ M .else j o
 
   put-eight : {d : ℕ} → OriginPut now (maxDepth * n + p) d after → EightBits before → EightBits after

@@ -6,12 +6,13 @@ use mathlib.Core.Logic.{_⊎_}
 use Prim.Native.Nat.{ℕ, zero, suc, _+_, _*_, _%_, _/_, _<_, _≤_}
 use lib.Dec.{eqb}
 use lib.ListN.{length, getD}
-use Rattle.rules.specs.Limits.{maxClasses, maxDepth, heldModes, modeCount}
+use Rattle.rules.specs.Limits.{maxClasses, maxDepth, maxAccepted, heldModes, modeCount}
 use Rattle.rules.specs.HeldLocks.{HeldLock, isTry, sameFirst, sameSecond, firstOf, secondBy, someHeld}
 use Rattle.rules.specs.Marks.{Marks, setIn, letterFits}
 use Rattle.rules.specs.Graph.{Dependencies}
-use Rattle.layout.specs.Layout.{frameCount, depthsAt, marksAt, heldAt, originsAt, deskSize, depthOf, markOf, heldOf, originBit, originOf, KeepsPast}
-use Rattle.layout.specs.Encoding.{markByte, heldByteAt, originAt, EightBits, SheetBytes}
+use Rattle.rules.specs.KindNames.{someKind}
+use Rattle.layout.specs.Layout.{frameCount, depthsAt, marksAt, heldAt, originsAt, acceptedAt, deskSize, seenSize, depthOf, markOf, heldOf, originBit, originOf, acceptedOf, KeepsPast}
+use Rattle.layout.specs.Encoding.{markByte, heldByteAt, originAt, EightBits, SheetBytes, SeenBytes}
 
 -- The bytes and the origin bits of frame n are the held locks hs.
 pub record FrameBytes (desk : List ℕ) (n : ℕ) (hs : List HeldLock) : Type 0 where
@@ -31,7 +32,7 @@ SmallLocks hs = (p : ℕ) (d : HeldLock) → p < length hs → SmallLock (getD h
 pub record KeepsElse (n : ℕ) (before after : List ℕ) : Type 0 where
   pub long : length after ≡ length before
   pub else : (j : ℕ) → (j ≡ depthsAt + n → ⊥) → (j < heldAt + maxDepth * n) ⊎ (heldAt + maxDepth * n + maxDepth ≤ j)
-      → (j < originsAt) ⊎ (deskSize ≤ j) → getD after j 0 ≡ getD before j 0
+      → (j < originsAt) ⊎ (acceptedAt ≤ j) → getD after j 0 ≡ getD before j 0
   pub origins : (k : ℕ) → (k < maxDepth * n) ⊎ (maxDepth * n + maxDepth ≤ k) → originBit after k ≡ originBit before k
   pub eight : EightBits before → EightBits after
 
@@ -56,7 +57,7 @@ removeAt (suc q) (h ∷ hs) = h ∷ removeAt q hs
 -- From place q of frame n on the origin bits move down one, the bit of the last place is 0, and nothing else changes.
 pub record OriginsMoved (before : List ℕ) (n q last : ℕ) (after : List ℕ) : Type 0 where
   pub long : length after ≡ length before
-  pub else : (j : ℕ) → (j < originsAt) ⊎ (deskSize ≤ j) → getD after j 0 ≡ getD before j 0
+  pub else : (j : ℕ) → (j < originsAt) ⊎ (acceptedAt ≤ j) → getD after j 0 ≡ getD before j 0
   pub moved : (p : ℕ) → q ≤ p → p < last → originOf after n p ≡ originOf before n (suc p)
   pub freed : originOf after n last ≡ 0
   pub kept : (k : ℕ) → (k < maxDepth * n + q) ⊎ (maxDepth * n + last < k) → originBit after k ≡ originBit before k
@@ -89,6 +90,13 @@ pub record Drawn (desk : List ℕ) (K n class mode : ℕ) (before after : List �
   pub keeps : KeepsPast (K * K) before after
   pub drawn : (hs : List HeldLock) → FrameBytes desk n hs → SmallLocks hs → (locks : Dependencies) → SheetBytes K locks before
       → SheetBytes K (λ f t k. locks f t k || drawnFrom hs class mode f t k) after
+
+-- The pairs at which an acquire draws, and that have no number yet, get the next record's.
+pub record Numbered (desk : List ℕ) (K n class mode : ℕ) (before after : List ℕ) : Type 0 where
+  pub keeps : KeepsPast (seenSize K) before after
+  pub numbered : (hs : List HeldLock) → FrameBytes desk n hs → SmallLocks hs → (seen : ℕ → ℕ → ℕ) → ((f t : ℕ) → seen f t ≤ maxAccepted)
+      → SeenBytes K seen before
+      → SeenBytes K (λ f t. cond (eqb (seen f t) 0 && someKind (drawnFrom hs class mode f t)) (suc (acceptedOf desk)) (seen f t)) after
 
 pub record MarkBytes (desk : List ℕ) (marks : Marks) : Type 0 where
   pub usage : (c : ℕ) → c < maxClasses → markOf desk c ≡ markByte marks c

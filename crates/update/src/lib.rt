@@ -1,19 +1,24 @@
 // What an accepted record does to the bytes: held locks, lock dependencies, usage marks.
 use context::kind_bit;
 use context::mark_bits;
+use layout::ACCEPTED_AT;
 use layout::DEPTHS_AT;
 use layout::HELD_AT;
 use layout::HELD_MODES;
 use layout::MARKS_AT;
 use layout::MAX_DEPTH;
+use layout::NUMBER_SIZE;
+use numbers::number_at;
+use numbers::put_number;
 use origins::origin;
 use origins::put_origin;
 ghost use mathlib.Core.Path.{_≡_};
-ghost use Prim.Native.Nat.{_+_, _*_, _%_, _/_, _<_, _≤_};
+ghost use Prim.Native.Nat.{suc, _+_, _*_, _%_, _/_, _<_, _≤_};
 ghost use lib.ListN.{length};
-ghost use Rattle.rules.specs.Limits.{maxDepth, modeCount};
-ghost use Rattle.layout.specs.Layout.{frameCount, deskSize, depthOf};
-ghost use Rattle.update.specs.Update.{Pushed, newestOf, OriginsMoved, Removed, HeldIn, Noted, Drawn, Marked};
+ghost use Rattle.rules.specs.Limits.{maxDepth, modeCount, maxAccepted};
+ghost use Rattle.layout.specs.Layout.{frameCount, acceptedAt, deskSize, seenSize, depthOf, acceptedOf};
+ghost use Rattle.numbers.specs.Numbers.{NumberPut};
+ghost use Rattle.update.specs.Update.{Pushed, newestOf, OriginsMoved, Removed, HeldIn, Noted, Drawn, Numbered, Marked};
 
 // The modes from here on are tries: what a try adds to the mode in which its lock is held.
 const TRY: usize = HELD_MODES as usize;
@@ -105,6 +110,36 @@ pub fn draw(
         p += 1;
     }
     changed
+}
+
+// Where a pair of classes has no number yet and the acquire draws a dependency, the pair gets the record's number.
+pub fn number_pairs(desk: &[u8], seen: &mut [u8], k: usize, frame: usize, class: usize, mode: usize)
+    requires { ⌜ HeldIn (now desk) frame k × (seenSize k ≤ length (now seen)) × (k ≤ 64) × (class < k) × (acceptedOf (now desk) < maxAccepted) ⌝ }
+    ensures { λ _. ⌜ Numbered (now (desk .entry)) k frame class mode (now (seen .entry)) (now (seen .exit)) ⌝ }
+{
+    if mode >= TRY {
+        return;
+    }
+    let number = number_at(desk, ACCEPTED_AT) + 1;
+    let d = desk[DEPTHS_AT + frame] as usize;
+    let mut p: usize = 0;
+    while p < d {
+        let held = desk[HELD_AT + MAX_DEPTH * frame + p] as usize;
+        let at = NUMBER_SIZE * ((held % 64) * k + class);
+        if number_at(seen, at) == 0 {
+            put_number(seen, at, number);
+        }
+        p += 1;
+    }
+}
+
+// One record more is accepted.
+pub fn count_record(desk: &mut [u8])
+    requires { ⌜ (deskSize ≤ length (now desk)) × (acceptedOf (now desk) < maxAccepted) ⌝ }
+    ensures { λ _. ⌜ NumberPut (now (desk .entry)) acceptedAt (suc (acceptedOf (now (desk .entry)))) (now (desk .exit)) ⌝ }
+{
+    let accepted = number_at(desk, ACCEPTED_AT);
+    put_number(desk, ACCEPTED_AT, accepted + 1);
 }
 
 // Every lock held in the frame is marked by the core's state. Says whether a mark is new.

@@ -1,28 +1,30 @@
 -- Opening gives a valid state, and each record leaves a valid state valid. Assumes nothing.
 use mathlib.Core.Path.{_≡_, refl, sym}
-use mathlib.Core.Bool.{Bool, true, false, cond, not, _&&_, false≢true}
+use mathlib.Core.Bool.{Bool, true, false, cond, not, _&&_, _||_, false≢true}
 use mathlib.Core.List.{List, [], _∷_, _++_, List·Memᴰ, List·Memᴰ·head, List·Memᴰ·tail}
 use mathlib.Core.Logic.{⊎-elim}
 use mathlib.Core.Option.{none}
 use Prim.Native.Nat.{ℕ, zero, suc, _≤_, _<_, zero-le, suc-le-suc}
 use native.Mathlib.Nat.{le-of-suc-le-suc, not-suc-le-zero}
 use native.Mathlib.Omega.{arith}
-use lib.Dec.{eqb}
+use lib.Dec.{leb, eqb}
 use lib.ListN.{length, length-append}
 use borrow.Author.Tests.{leb-false, eqb-true, ne-eqb}
-use Rattle.rules.specs.Limits.{maxDepth, kindCount, modeCount}
+use Rattle.rules.specs.Limits.{maxDepth, maxAccepted, kindCount, modeCount}
 use Rattle.rules.specs.Record.{Bytes, Event, acquire, release, interrupt, eventBy, coreOf, kindOf, classOf, modeOf, eventOf}
 use Rattle.rules.specs.WellFormed.{WellFormed}
 use Rattle.rules.specs.Context.{CoreState, leavesHandler, Frame, soft, hard, frameOf, hardOverSoft, mayHoldSoft, mayHoldHard, taskSoftOff, softHardOn}
 use Rattle.rules.specs.HeldLocks.{First, HeldLock, isTry, someHeld, isHeld, releaseNewest, Core, current, withCurrent, afterEvent}
 use Rattle.rules.specs.Marks.{Level, hardIrq, softIrq, Usage, unsafe, setIn, letterFits, marksOf}
-use Rattle.rules.specs.Graph.{Kind, Graph, emptyGraph, addTo, drawnBy}
-use Rattle.rules.specs.Verdict.{Refusal, applies, malformed, noClass, noTransition, stillHeld, tooDeep, classMissing, transitionMissing, someLock, leavesLocked, frameFull, refusal}
-use Rattle.rules.specs.Run.{State, startingFrom, start, situation, accept, close, Result, step, run}
+use Rattle.rules.specs.Graph.{Kind, Dependencies, Graph, emptyGraph, addTo, drawnBy}
+use Rattle.rules.specs.KindNames.{someKind}
+use Rattle.rules.specs.Verdict.{Refusal, applies, malformed, noClass, noTransition, stillHeld, tooDeep, countFull, classMissing, transitionMissing, someLock, leavesLocked, frameFull, refusal}
+use Rattle.rules.specs.Run.{Journal, emptyJournal, withRecord, State, startingFrom, start, situation, drawnWith, accept, close, Result, step, run}
 use Rattle.rules.proofs.Booleans.{or-cases, or-left, or-mono, and-cases, and-mono}
 use Rattle.rules.proofs.Formed.{well-formed}
+use Rattle.rules.proofs.Journals.{numbered-kept}
 use Rattle.rules.proofs.Steps.{StepCases, was-refused, was-clean, was-fault, stepped, accepted-passes}
-use Rattle.validity.specs.Valid.{ValidLock, ValidLocks, ValidCore, ValidGraph, Valid}
+use Rattle.validity.specs.Valid.{ValidLock, ValidLocks, ValidCore, ValidGraph, ValidJournal, Valid}
 use Rattle.validity.proofs.Contexts.{eventCount, FrameStates, soft-states, hard-states, current-may, next-in-range, next-may, frame-last}
 
 -- ---- Held locks.
@@ -194,8 +196,8 @@ graph-kept K g ev c w v after n =
 
 -- ---- States.
 
-pub valid-startingFrom : (K : ℕ) (g : Graph) → ValidGraph K g → Valid K (startingFrom g)
-valid-startingFrom K g w =
+pub valid-startingFrom : (K : ℕ) (g : Graph) → ValidGraph K g → ValidJournal (g .locks) emptyJournal → Valid K (startingFrom g)
+valid-startingFrom K g w j =
     record {
       cores = λ i. record {
         states = zero-le;
@@ -207,6 +209,7 @@ valid-startingFrom K g w =
       };
       no-more = λ i l. refl;
       graph = w;
+      journal = j;
     }
 
 pub valid-start : (K : ℕ) → Valid K start
@@ -217,6 +220,21 @@ valid-start K =
       soft-unsafe = λ c a h. absurd (false≢true h);
       locks-in-range = λ f t k h. absurd (false≢true h);
     })
+    (record { limit = zero-le; at-most = λ f t. zero-le; numbered = λ f t. refl })
+
+-- An accepted record's number is one more than the count, which is below its limit.
+journal-kept : (locks drawn : Dependencies) (j : Journal) → ValidJournal locks j → leb maxAccepted (j .accepted) ≡ false
+    → ValidJournal (λ f t k. locks f t k || drawn f t k) (withRecord drawn j)
+journal-kept locks drawn j v h =
+    record {
+      limit = let l = leb-false maxAccepted (j .accepted) h in omega arith;
+      at-most = λ f t. by (eqb (j .seen f t) 0 && someKind (drawn f t)) f t;
+      numbered = λ f t. numbered-kept j locks drawn f t (v .numbered f t);
+    }
+  where
+    by : (b : Bool) (f t : ℕ) → cond b (suc (j .accepted)) (j .seen f t) ≤ suc (j .accepted)
+    by true f t = omega arith
+    by false f t = let l = v .at-most f t in omega arith
 
 pub valid-accept : (K : ℕ) (s : State) (r : Bytes) → Valid K s → refusal (situation K s r) ≡ none → Valid K (accept s r)
 valid-accept K s r v h =
@@ -224,6 +242,7 @@ valid-accept K s r v h =
       cores = λ i. by (eqb i (coreOf r)) i;
       no-more = λ i l. let c = formed .core in rw (ne-eqb i (coreOf r) (λ e. omega arith)) (v .no-more i l);
       graph = graph-kept K (s .graph) (eventOf r) (s .cores (coreOf r)) (v .graph) (v .cores (coreOf r)) after (passes noClass);
+      journal = journal-kept (s .graph .locks) (drawnWith (s .cores (coreOf r)) r) (s .journal) (v .journal) (passes countFull);
     }
   where
     passes : (x : Refusal) → applies x (situation K s r) ≡ false
@@ -242,7 +261,7 @@ valid-accept K s r v h =
     by false i = v .cores i
 
 pub valid-close : {K : ℕ} {s : State} → Valid K s → Valid K (close s)
-valid-close v = record { cores = v .cores; no-more = v .no-more; graph = v .graph }
+valid-close v = record { cores = v .cores; no-more = v .no-more; graph = v .graph; journal = v .journal }
 
 stepped-valid : {K : ℕ} {s : State} {r : Bytes} {o : Result} → StepCases K s r o → Valid K s → Valid K (o .state)
 stepped-valid (was-refused x e) v = v

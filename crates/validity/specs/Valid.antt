@@ -1,15 +1,17 @@
 -- What every state of a run satisfies: the limits, where locks may be held, and what the dependency graph names.
 use mathlib.Core.Path.{_≡_}
-use mathlib.Core.Bool.{true}
+use mathlib.Core.Bool.{true, not}
 use mathlib.Core.List.{List, []}
 use Prim.Native.Nat.{ℕ, _≤_, _<_}
+use lib.Dec.{eqb}
 use lib.ListN.{length, getD}
-use Rattle.rules.specs.Limits.{coreCount, maxDepth, modeCount}
+use Rattle.rules.specs.Limits.{coreCount, maxDepth, maxAccepted, modeCount}
 use Rattle.rules.specs.Context.{hardOverSoft, Frame, soft, hard, mayHoldSoft, mayHoldHard}
 use Rattle.rules.specs.HeldLocks.{First, HeldLock, Core, freshCore}
 use Rattle.rules.specs.Marks.{Level, hardIrq, softIrq, Usage, unsafe}
-use Rattle.rules.specs.Graph.{Kind, Graph}
-use Rattle.rules.specs.Run.{State}
+use Rattle.rules.specs.Graph.{Kind, Dependencies, Graph}
+use Rattle.rules.specs.KindNames.{someKind}
+use Rattle.rules.specs.Run.{Journal, State}
 
 pub record ValidLock (K : ℕ) (h : HeldLock) : Type 0 where
   pub class : h .class < K
@@ -34,7 +36,14 @@ pub record ValidGraph (K : ℕ) (g : Graph) : Type 0 where
   pub soft-unsafe : (c : ℕ) (a : First) → g .marks c softIrq (unsafe a) ≡ true → g .marks c hardIrq (unsafe a) ≡ true
   pub locks-in-range : (f t : ℕ) (k : Kind) → g .locks f t k ≡ true → (f < K) × (t < K)
 
+-- The count is in its limit, no number is above it, and a pair has one exactly where it has a lock dependency.
+pub record ValidJournal (locks : Dependencies) (j : Journal) : Type 0 where
+  pub limit : j .accepted ≤ maxAccepted
+  pub at-most : (f t : ℕ) → j .seen f t ≤ j .accepted
+  pub numbered : (f t : ℕ) → eqb (j .seen f t) 0 ≡ not (someKind (locks f t))
+
 pub record Valid (K : ℕ) (s : State) : Type 0 where
   pub cores : (i : ℕ) → ValidCore K (s .cores i)
   pub no-more : (i : ℕ) → coreCount ≤ i → s .cores i ≡ freshCore
   pub graph : ValidGraph K (s .graph)
+  pub journal : ValidJournal (s .graph .locks) (s .journal)

@@ -1,16 +1,21 @@
+use mathlib.Core.Path.{sym, _∙_}
+use borrow.Author.Tests.{leb-false}
+use Rattle.rules.specs.Limits.{maxAccepted}
 use Prim.Native.Nat.{_+_}
 use native.Mathlib.Omega.{arith}
 use Rattle.rules.specs.Record.{coreOf}
-use Rattle.layout.specs.Layout.{depthsAt}
+use Rattle.layout.specs.Layout.{depthsAt, acceptedOf}
 use Rattle.action.proofs.Bytes.{state-less, number-less, held-in}
-use Rattle.action.proofs.Outcomes.{acquire-no-class, acquire-too-deep, acquire-accepts}
+use Rattle.action.proofs.Outcomes.{acquire-no-class, acquire-too-deep, acquire-count-full, acquire-accepts}
 use borrow.Author.Needs.{needs}
 use Rattle.action.proofs.acquire.Statement.{statement}
 use Rattle.action.proofs.acquire.Tie as tie
 use Rattle.action.proofs.acquire.Reads as reads
 use Rattle.action.proofs.acquire.Lts as lts
 use Rattle.action.proofs.frame_of.Reads as frame-of-reads
+use Rattle.action.proofs.is_full.Reads as is-full-reads
 use Rattle.update.proofs.draw.Reads as draw-reads
+use Rattle.update.proofs.number_pairs.Reads as number-pairs-reads
 use Rattle.update.proofs.push.Reads as push-reads
 
 slice-read-k : tie.Need-slice-read-k
@@ -21,10 +26,8 @@ shared-slice-read-class c = search needs
 
 returns : tie.Need-returns
 returns c =
-    let p = c .before .before .before .before .before .before .pre in
-    let st = c .before .before .before .before .before .before .args .desk .now in
-    let by = c .before .before .before .before .before .before .args .bytes .now in
-    acquire-no-class _ _ _ (p .2) (p .0 .few) (p .3) (c .if1 .taken)
+    let p = c .before .before .before .before .before .before .before .pre in
+    acquire-no-class _ _ _ _ (p .3) (p .0 .few) (p .4) (c .if1 .taken)
 
 shared-slice-read-frame-of : tie.Need-shared-slice-read-frame-of
 shared-slice-read-frame-of c = search needs
@@ -34,41 +37,52 @@ cast-frame-of c = search needs
 
 frame-of-requires : tie.Need-frame-of-requires
 frame-of-requires c κs =
-    let p = c .before .before .before .before .before .before .before .before .pre in
-    let st = c .before .before .before .before .before .before .before .before .args .desk .now in
-    let by = c .before .before .before .before .before .before .before .before .args .bytes .now in
-    (p .0 .encodes .long, p .2 .core, state-less st (p .0) (coreOf by) (p .2 .core))
-
-add-if2 : tie.Need-add-if2
-add-if2 c =
     let p = c .before .before .before .before .before .before .before .before .before .pre in
     let st = c .before .before .before .before .before .before .before .before .before .args .desk .now in
     let by = c .before .before .before .before .before .before .before .before .before .args .bytes .now in
-    let h = number-less st (p .0) (coreOf by) (p .2 .core) in let e = c .frame-of .ensures in omega arith
+    (p .0 .encodes .long, p .3 .core, state-less st (p .0) (coreOf by) (p .3 .core))
+
+add-if2 : tie.Need-add-if2
+add-if2 c =
+    let p = c .before .before .before .before .before .before .before .before .before .before .pre in
+    let st = c .before .before .before .before .before .before .before .before .before .before .args .desk .now in
+    let by = c .before .before .before .before .before .before .before .before .before .before .args .bytes .now in
+    let h = number-less st (p .0) (coreOf by) (p .3 .core) in let e = c .frame-of .ensures in omega arith
 
 slice-read-if2 : tie.Need-slice-read-if2
 slice-read-if2 c =
-    let p = c .before .before .before .before .before .before .before .before .before .before .pre in
-    let st = c .before .before .before .before .before .before .before .before .before .before .args .desk .now in
-    let by = c .before .before .before .before .before .before .before .before .before .before .args .bytes .now in
-    let h = number-less st (p .0) (coreOf by) (p .2 .core) in let e = c .before .frame-of .ensures in let l = p .0 .encodes .long in omega arith
+    let p = c .before .before .before .before .before .before .before .before .before .before .before .pre in
+    let st = c .before .before .before .before .before .before .before .before .before .before .before .args .desk .now in
+    let by = c .before .before .before .before .before .before .before .before .before .before .before .args .bytes .now in
+    let h = number-less st (p .0) (coreOf by) (p .3 .core) in let e = c .before .frame-of .ensures in let l = p .0 .encodes .long in omega arith
 
 cast-if2 : tie.Need-cast-if2
 cast-if2 c =
-    let p = c .before .before .before .before .before .before .before .before .before .before .pre in
-    let st = c .before .before .before .before .before .before .before .before .before .before .args .desk .now in
-    let by = c .before .before .before .before .before .before .before .before .before .before .args .bytes .now in
-    omega (arith, c .slice-known4 .given (depthsAt + c .before .frame-of .result))
+    let p = c .before .before .before .before .before .before .before .before .before .before .before .pre in
+    let st = c .before .before .before .before .before .before .before .before .before .before .before .args .desk .now in
+    let by = c .before .before .before .before .before .before .before .before .before .before .before .args .bytes .now in
+    omega (arith, c .before .before .before .before .before .before .slice-known4 .given (depthsAt + c .before .frame-of .result))
 
 same-length : tie.Need-same-length
 same-length c = search needs
 
 returns-2 : tie.Need-returns-2
 returns-2 c =
-    let p = c .before .before .before .before .before .before .before .before .before .before .before .pre in
-    let st = c .before .before .before .before .before .before .before .before .before .before .before .args .desk .now in
-    let by = c .before .before .before .before .before .before .before .before .before .before .before .args .bytes .now in
-    acquire-too-deep _ _ _ (p .2) (p .0 .few) (p .3) (c .before .before .before .before .before .if1 .left) (rw (c .before .before .frame-of .ensures) at (c .if2 .taken))
+    let p = c .before .before .before .before .before .before .before .before .before .before .before .before .pre in
+    acquire-too-deep _ _ _ _ (p .3) (p .0 .few) (p .4) (c .before .before .before .before .before .if1 .left) (rw (c .before .before .frame-of .ensures) at (c .if2 .taken))
+
+is-full-requires : tie.Need-is-full-requires
+is-full-requires c κs =
+    c .before .before .before .before .before .before .before .before .before .before .before .before .before .pre .0 .encodes .long
+
+same-length-2 : tie.Need-same-length-2
+same-length-2 c = search needs
+
+returns-3 : tie.Need-returns-3
+returns-3 c =
+    let p = c .before .before .before .before .before .before .before .before .before .before .before .before .before .before .before .pre in
+    let e = c .before .before .before .before .before .frame-of .ensures in
+    acquire-count-full _ _ _ _ (p .3) (p .0 .few) (p .4) (c .before .before .before .before .before .before .before .before .if1 .left) (rw e at (c .before .before .before .if2 .left)) (sym (c .before .is-full .ensures) ∙ c .if3 .taken)
 
 shared-slice-read-mode : tie.Need-shared-slice-read-mode
 shared-slice-read-mode c = search needs
@@ -84,33 +98,52 @@ cast-draw-3 c = search needs
 
 draw-requires : tie.Need-draw-requires
 draw-requires c κs =
-    let p = c .before .before .before .before .before .before .before .before .before .before .before .before .before .before .pre in
-    let st = c .before .before .before .before .before .before .before .before .before .before .before .before .before .before .args .desk .now in
-    let by = c .before .before .before .before .before .before .before .before .before .before .before .before .before .before .args .bytes .now in
-    (rw (c .before .before .before .before .before .frame-of .ensures) (held-in st (p .0) (coreOf by) (p .2 .core)), p .1, p .0 .few, c .before .before .before .before .before .before .before .before .if1 .left, p .2 .mode)
-
-push-requires : tie.Need-push-requires
-push-requires c κs =
     let p = c .before .before .before .before .before .before .before .before .before .before .before .before .before .before .before .before .before .before .pre in
     let st = c .before .before .before .before .before .before .before .before .before .before .before .before .before .before .before .before .before .before .args .desk .now in
     let by = c .before .before .before .before .before .before .before .before .before .before .before .before .before .before .before .before .before .before .args .bytes .now in
-    let l = c .before .before .before .before .before .before .before .before .before .before .before .before .if1 .left in
-    let f = p .0 .few in
-    (p .0 .encodes .long, rw (c .before .before .before .before .before .before .before .before .before .frame-of .ensures) (number-less st (p .0) (coreOf by) (p .2 .core)), c .before .before .before .before .before .before .before .if2 .left, omega arith, p .2 .mode)
+    (rw (c .before .before .before .before .before .before .before .before .frame-of .ensures) (held-in st (p .0) (coreOf by) (p .3 .core)), p .1, p .0 .few, c .before .before .before .before .before .before .before .before .before .before .before .if1 .left, p .3 .mode)
 
-same-length-2 : tie.Need-same-length-2
-same-length-2 c = search needs
+cast-number-pairs : tie.Need-cast-number-pairs
+cast-number-pairs c = search needs
+
+cast-number-pairs-2 : tie.Need-cast-number-pairs-2
+cast-number-pairs-2 c = search needs
+
+cast-number-pairs-3 : tie.Need-cast-number-pairs-3
+cast-number-pairs-3 c = search needs
+
+number-pairs-requires : tie.Need-number-pairs-requires
+number-pairs-requires c κs =
+    let p = c .before .before .before .before .before .before .before .before .before .before .before .before .before .before .before .before .before .before .before .before .before .before .before .pre in
+    let st = c .before .before .before .before .before .before .before .before .before .before .before .before .before .before .before .before .before .before .before .before .before .before .before .args .desk .now in
+    let by = c .before .before .before .before .before .before .before .before .before .before .before .before .before .before .before .before .before .before .before .before .before .before .before .args .bytes .now in
+    let f = leb-false maxAccepted (acceptedOf st) (sym (c .before .before .before .before .before .before .before .before .before .is-full .ensures) ∙ c .before .before .before .before .before .before .before .before .if3 .left) in
+    (rw (c .before .before .before .before .before .before .before .before .before .before .before .before .before .frame-of .ensures) (held-in st (p .0) (coreOf by) (p .3 .core)), p .2, p .0 .few, c .before .before .before .before .before .before .before .before .before .before .before .before .before .before .before .before .if1 .left, omega arith)
+
+push-requires : tie.Need-push-requires
+push-requires c κs =
+    let p = c .before .before .before .before .before .before .before .before .before .before .before .before .before .before .before .before .before .before .before .before .before .before .before .before .before .before .before .pre in
+    let st = c .before .before .before .before .before .before .before .before .before .before .before .before .before .before .before .before .before .before .before .before .before .before .before .before .before .before .before .args .desk .now in
+    let by = c .before .before .before .before .before .before .before .before .before .before .before .before .before .before .before .before .before .before .before .before .before .before .before .before .before .before .before .args .bytes .now in
+    let l = c .before .before .before .before .before .before .before .before .before .before .before .before .before .before .before .before .before .before .before .before .if1 .left in
+    let f = p .0 .few in
+    (p .0 .encodes .long, rw (c .before .before .before .before .before .before .before .before .before .before .before .before .before .before .before .before .before .frame-of .ensures) (number-less st (p .0) (coreOf by) (p .3 .core)), c .before .before .before .before .before .before .before .before .before .before .before .before .before .before .before .if2 .left, omega arith, p .3 .mode)
 
 same-length-3 : tie.Need-same-length-3
 same-length-3 c = search needs
 
-returns-3 : tie.Need-returns-3
-returns-3 c =
-    let p = c .before .before .before .before .before .before .before .before .before .before .before .before .before .before .before .before .before .before .before .before .before .pre in
-    let st = c .before .before .before .before .before .before .before .before .before .before .before .before .before .before .before .before .before .before .before .before .before .args .desk .now in
-    let by = c .before .before .before .before .before .before .before .before .before .before .before .before .before .before .before .before .before .before .before .before .before .args .bytes .now in
-    let e = c .before .before .before .before .before .before .before .before .before .before .before .before .frame-of .ensures in
-    acquire-accepts _ _ _ (p .2) (p .0 .few) (p .3) (c .before .before .before .before .before .before .before .before .before .before .before .before .before .before .before .if1 .left) (rw e at (c .before .before .before .before .before .before .before .before .before .before .if2 .left)) (rw e at (c .before .before .before .before .before .before .draw .ensures .0)) (rw e at (c .before .before .push .ensures))
+same-length-4 : tie.Need-same-length-4
+same-length-4 c = search needs
+
+same-length-5 : tie.Need-same-length-5
+same-length-5 c = search needs
+
+returns-4 : tie.Need-returns-4
+returns-4 c =
+    let p = c .before .before .before .before .before .before .before .before .before .before .before .before .before .before .before .before .before .before .before .before .before .before .before .before .before .before .before .before .before .before .pre in
+    let e = c .before .before .before .before .before .before .before .before .before .before .before .before .before .before .before .before .before .before .before .before .frame-of .ensures in
+    acquire-accepts _ _ _ _ (p .3) (p .0 .few) (p .4) (c .before .before .before .before .before .before .before .before .before .before .before .before .before .before .before .before .before .before .before .before .before .before .before .if1 .left) (rw e at (c .before .before .before .before .before .before .before .before .before .before .before .before .before .before .before .before .before .before .if2 .left)) (sym (c .before .before .before .before .before .before .before .before .before .before .before .before .before .before .before .before .is-full .ensures) ∙ c .before .before .before .before .before .before .before .before .before .before .before .before .before .before .before .if3 .left) (rw e at (c .before .before .before .before .before .before .before .before .before .before .before .draw .ensures .0))
+    (rw e at (c .before .before .before .before .before .before .number-pairs .ensures)) (rw e at (c .before .before .push .ensures))
 
 pub acquire-spec : {M : Type 1} → statement M
 acquire-spec =
@@ -127,12 +160,20 @@ acquire-spec =
     cast-if2
     same-length
     returns-2
+    is-full-requires
+    same-length-2
+    returns-3
     shared-slice-read-mode
     cast-draw
     cast-draw-2
     cast-draw-3
     draw-requires
+    cast-number-pairs
+    cast-number-pairs-2
+    cast-number-pairs-3
+    number-pairs-requires
     push-requires
-    same-length-2
     same-length-3
-    returns-3)
+    same-length-4
+    same-length-5
+    returns-4)

@@ -19,26 +19,29 @@ same-length c = search needs
 same-length-2 : tie.Need-same-length-2
 same-length-2 c = search needs
 
+same-length-3 : tie.Need-same-length-3
+same-length-3 c = search needs
+
 returns : tie.Need-returns
 returns c = search needs
 
 release-requires : tie.Need-release-requires
 release-requires c κs = search needs
 
-same-length-3 : tie.Need-same-length-3
-same-length-3 c = search needs
+same-length-4 : tie.Need-same-length-4
+same-length-4 c = search needs
 
 returns-2 : tie.Need-returns-2
-returns-2 c = c .before .before .release .ensures _
+returns-2 c = c .before .before .release .ensures _ _
 
 interrupt-requires : tie.Need-interrupt-requires
 interrupt-requires c κs = search needs
 
-same-length-4 : tie.Need-same-length-4
-same-length-4 c = search needs
+same-length-5 : tie.Need-same-length-5
+same-length-5 c = search needs
 
 returns-3 : tie.Need-returns-3
-returns-3 c = c .before .before .interrupt .ensures _
+returns-3 c = c .before .before .interrupt .ensures _ _
 
 pub act-spec : {M : Type 1} → statement M
 act-spec =
@@ -48,10 +51,11 @@ act-spec =
     acquire-requires
     same-length
     same-length-2
+    same-length-3
     returns
     release-requires
-    same-length-3
+    same-length-4
     returns-2
     interrupt-requires
-    same-length-4
+    same-length-5
     returns-3)

@@ -7,13 +7,14 @@ use Rattle.rules.specs.Record.{coreOf, kindOf}
 use Rattle.rules.specs.Context.{frameOf, leavesHandler}
 use Rattle.layout.specs.Layout.{statesAt, frameNumber, stateOf, depthOf}
 use Rattle.action.proofs.Bytes.{state-less, number-less}
-use Rattle.action.proofs.Outcomes.{interrupt-no-transition, interrupt-still-held, interrupt-accepts}
+use Rattle.action.proofs.Outcomes.{interrupt-no-transition, interrupt-still-held, interrupt-count-full, interrupt-accepts}
 use borrow.Author.Needs.{needs}
 use Rattle.action.proofs.interrupt.Statement.{statement}
 use Rattle.action.proofs.interrupt.Tie as tie
 use Rattle.action.proofs.interrupt.Reads as reads
 use Rattle.action.proofs.interrupt.Lts as lts
 use Rattle.action.proofs.frame_of.Reads as frame-of-reads
+use Rattle.action.proofs.is_full.Reads as is-full-reads
 use Rattle.action.proofs.leaves_handler.Reads as leaves-handler-reads
 use Rattle.context.proofs.next.Reads as next-reads
 
@@ -57,7 +58,7 @@ returns c =
     let p = c .before .before .before .before .before .before .before .pre in
     let st = c .before .before .before .before .before .before .before .args .desk .now in
     let by = c .before .before .before .before .before .before .before .args .bytes .now in
-    λ sheet. interrupt-no-transition _ sheet _ (p .1) (p .0 .few) (p .2) (sym (c .before .next .ensures) ∙ c .if1 .taken)
+    λ sheet seen. interrupt-no-transition _ sheet seen _ (p .1) (p .0 .few) (p .2) (sym (c .before .next .ensures) ∙ c .if1 .taken)
 
 leaves-handler-requires : tie.Need-leaves-handler-requires
 leaves-handler-requires c κs = search needs
@@ -94,8 +95,26 @@ returns-2 c =
     let e = c .before .before .frame-of .ensures in
     let ne = c .before .before .before .before .before .before .if1 .left in
     let dp = c .if3 .taken in
-    λ sheet.
-    interrupt-still-held _ sheet _ (p .1) (p .0 .few) (p .2) (rw (c .before .before .before .before .before .before .before .next .ensures) at ne) (sym (c .before .before .before .before .before .leaves-handler .ensures) ∙ c .before .before .before .before .if2 .taken) (rw e at dp)
+    λ sheet seen.
+    interrupt-still-held _ sheet seen _ (p .1) (p .0 .few) (p .2) (rw (c .before .before .before .before .before .before .before .next .ensures) at ne) (sym (c .before .before .before .before .before .leaves-handler .ensures) ∙ c .before .before .before .before .if2 .taken) (rw e at dp)
+
+is-full-requires : tie.Need-is-full-requires
+is-full-requires c κs =
+    c .before .before .before .before .before .before .before .before .before .before .pre .0 .encodes .long
+
+same-length-2 : tie.Need-same-length-2
+same-length-2 c = search needs
+
+returns-3 : tie.Need-returns-3
+returns-3 c =
+    let p = c .before .before .before .before .before .before .before .before .before .before .before .before .pre in
+    let st = c .before .before .before .before .before .before .before .before .before .before .before .before .args .desk .now in
+    let by = c .before .before .before .before .before .before .before .before .before .before .before .before .args .bytes .now in
+    let ne = c .before .before .before .before .before .if1 .left in
+    let nx = c .before .before .before .before .before .before .next .ensures in
+    let done : (leavesHandler (kindOf by - 2) ≡ false) ⊎ (depthOf st (frameNumber (coreOf by) (frameOf (stateOf st (coreOf by)))) ≡ 0) =
+    ⊎-elim (λ w. inr (rw (w .2 .ensures) at (w .4 .left))) (λ w. inl (sym (c .before .before .before .before .leaves-handler .ensures) ∙ w .left)) (c .before .before .before .if2 .came) in
+    λ sheet seen. interrupt-count-full _ sheet seen _ (p .1) (p .0 .few) (p .2) (rw nx at ne) done (sym (c .before .is-full .ensures) ∙ c .if4 .taken)
 
 add-desk : tie.Need-add-desk
 add-desk c = search needs
@@ -103,19 +122,19 @@ add-desk c = search needs
 slice-write-desk : tie.Need-slice-write-desk
 slice-write-desk c = search needs
 
-same-length-2 : tie.Need-same-length-2
-same-length-2 c = search needs
+same-length-3 : tie.Need-same-length-3
+same-length-3 c = search needs
 
-returns-3 : tie.Need-returns-3
-returns-3 c =
-    let p = c .before .before .before .before .before .before .before .before .before .pre in
-    let st = c .before .before .before .before .before .before .before .before .before .args .desk .now in
-    let by = c .before .before .before .before .before .before .before .before .before .args .bytes .now in
-    let ne = c .before .before .if1 .left in
-    let nx = c .before .before .before .next .ensures in
+returns-4 : tie.Need-returns-4
+returns-4 c =
+    let p = c .before .before .before .before .before .before .before .before .before .before .before .before .pre in
+    let st = c .before .before .before .before .before .before .before .before .before .before .before .before .args .desk .now in
+    let by = c .before .before .before .before .before .before .before .before .before .before .before .before .args .bytes .now in
+    let ne = c .before .before .before .before .before .if1 .left in
+    let nx = c .before .before .before .before .before .before .next .ensures in
     let done : (leavesHandler (kindOf by - 2) ≡ false) ⊎ (depthOf st (frameNumber (coreOf by) (frameOf (stateOf st (coreOf by)))) ≡ 0) =
-    ⊎-elim (λ w. inr (rw (w .2 .ensures) at (w .4 .left))) (λ w. inl (sym (c .before .leaves-handler .ensures) ∙ w .left)) (c .if2 .came) in
-    λ sheet. rw nx (interrupt-accepts _ sheet _ (p .1) (p .0 .few) (p .2) (rw nx at ne) done)
+    ⊎-elim (λ w. inr (rw (w .2 .ensures) at (w .4 .left))) (λ w. inl (sym (c .before .before .before .before .leaves-handler .ensures) ∙ w .left)) (c .before .before .before .if2 .came) in
+    λ sheet seen. rw nx (interrupt-accepts _ sheet seen _ (p .1) (p .0 .few) (p .2) (rw nx at ne) done (sym (c .before .is-full .ensures) ∙ c .if4 .left))
 
 pub interrupt-spec : {M : Type 1} → statement M
 interrupt-spec =
@@ -137,7 +156,10 @@ interrupt-spec =
     slice-read-if3
     same-length
     returns-2
+    is-full-requires
+    same-length-2
+    returns-3
     add-desk
     slice-write-desk
-    same-length-2
-    returns-3)
+    same-length-3
+    returns-4)

@@ -1,13 +1,14 @@
 use mathlib.Core.Path.{sym, _∙_}
 use Rattle.rules.specs.Record.{coreOf}
 use Rattle.action.proofs.Bytes.{state-less, held-in, newest-inside}
-use Rattle.action.proofs.Outcomes.{release-no-class, release-not-held, release-accepts}
+use Rattle.action.proofs.Outcomes.{release-no-class, release-not-held, release-count-full, release-accepts}
 use borrow.Author.Needs.{needs}
 use Rattle.action.proofs.release.Statement.{statement}
 use Rattle.action.proofs.release.Tie as tie
 use Rattle.action.proofs.release.Reads as reads
 use Rattle.action.proofs.release.Lts as lts
 use Rattle.action.proofs.frame_of.Reads as frame-of-reads
+use Rattle.action.proofs.is_full.Reads as is-full-reads
 use Rattle.update.proofs.newest.Reads as newest-reads
 use Rattle.update.proofs.remove.Reads as remove-reads
 
@@ -22,7 +23,7 @@ returns c =
     let p = c .before .before .before .before .before .pre in
     let st = c .before .before .before .before .before .args .desk .now in
     let by = c .before .before .before .before .before .args .bytes .now in
-    λ sheet. release-no-class _ sheet _ (p .1) (p .0 .few) (p .2) (c .if1 .taken)
+    λ sheet seen. release-no-class _ sheet seen _ (p .1) (p .0 .few) (p .2) (c .if1 .taken)
 
 shared-slice-read-frame-of : tie.Need-shared-slice-read-frame-of
 shared-slice-read-frame-of c = search needs
@@ -53,34 +54,48 @@ returns-2 c =
     let st = c .before .before .before .before .before .before .before .before .before .before .before .args .desk .now in
     let by = c .before .before .before .before .before .before .before .before .before .before .before .args .bytes .now in
     let e = c .before .before .before .frame-of .ensures in
-    λ sheet. release-not-held _ sheet _ (p .1) (p .0 .few) (p .2) (c .before .before .before .before .before .before .if1 .left) (rw e at (sym (c .before .newest .ensures) ∙ c .if2 .taken))
+    λ sheet seen. release-not-held _ sheet seen _ (p .1) (p .0 .few) (p .2) (c .before .before .before .before .before .before .if1 .left) (rw e at (sym (c .before .newest .ensures) ∙ c .if2 .taken))
 
-sub-remove : tie.Need-sub-remove
-sub-remove c = search needs
-
-remove-requires : tie.Need-remove-requires
-remove-requires c κs =
-    let p = c .before .before .before .before .before .before .before .before .before .before .before .before .pre in
-    let st = c .before .before .before .before .before .before .before .before .before .before .before .before .args .desk .now in
-    let by = c .before .before .before .before .before .before .before .before .before .before .before .before .args .bytes .now in
-    let e = c .before .before .before .before .frame-of .ensures in
-    let ne = c .before .if2 .left in
-    let h = held-in st (p .0) (coreOf by) (p .1 .core) in
-    rw ((c .before .before .newest .ensures), e)
-    (h .long, h .frame, h .depth, newest-inside st (p .0) (coreOf by) (p .1 .core) _ (rw (c .before .before .newest .ensures, e) at ne))
+is-full-requires : tie.Need-is-full-requires
+is-full-requires c κs =
+    c .before .before .before .before .before .before .before .before .before .before .before .before .pre .0 .encodes .long
 
 same-length-2 : tie.Need-same-length-2
 same-length-2 c = search needs
 
 returns-3 : tie.Need-returns-3
 returns-3 c =
+    let p = c .before .before .before .before .before .before .before .before .before .before .before .before .before .before .pre in
+    let e = c .before .before .before .before .before .before .frame-of .ensures in
+    let ne = c .before .before .before .if2 .left in
+    λ sheet seen.
+    release-count-full _ sheet seen _ (p .1) (p .0 .few) (p .2) (c .before .before .before .before .before .before .before .before .before .if1 .left) (rw (c .before .before .before .before .newest .ensures, e) at ne) (sym (c .before .is-full .ensures) ∙ c .if3 .taken)
+
+sub-remove : tie.Need-sub-remove
+sub-remove c = search needs
+
+remove-requires : tie.Need-remove-requires
+remove-requires c κs =
     let p = c .before .before .before .before .before .before .before .before .before .before .before .before .before .before .before .pre in
     let st = c .before .before .before .before .before .before .before .before .before .before .before .before .before .before .before .args .desk .now in
     let by = c .before .before .before .before .before .before .before .before .before .before .before .before .before .before .before .args .bytes .now in
     let e = c .before .before .before .before .before .before .before .frame-of .ensures in
     let ne = c .before .before .before .before .if2 .left in
-    λ sheet.
-    release-accepts _ sheet _ (p .1) (p .0 .few) (p .2) (c .before .before .before .before .before .before .before .before .before .before .if1 .left) (rw (c .before .before .before .before .before .newest .ensures, e) at ne) (rw (c .before .before .before .before .before .newest .ensures, e) at (c .before .before .remove .ensures))
+    let h = held-in st (p .0) (coreOf by) (p .1 .core) in
+    rw ((c .before .before .before .before .before .newest .ensures), e)
+    (h .long, h .frame, h .depth, newest-inside st (p .0) (coreOf by) (p .1 .core) _ (rw (c .before .before .before .before .before .newest .ensures, e) at ne))
+
+same-length-3 : tie.Need-same-length-3
+same-length-3 c = search needs
+
+returns-4 : tie.Need-returns-4
+returns-4 c =
+    let p = c .before .before .before .before .before .before .before .before .before .before .before .before .before .before .before .before .before .before .pre in
+    let e = c .before .before .before .before .before .before .before .before .before .before .frame-of .ensures in
+    let ne = c .before .before .before .before .before .before .before .if2 .left in
+    λ sheet seen.
+    release-accepts _ sheet seen _ (p .1) (p .0 .few) (p .2) (c .before .before .before .before .before .before .before .before .before .before .before .before .before .if1 .left) (rw (c .before .before .before .before .before .before .before .before .newest .ensures, e) at ne) (sym (c .before .before .before .before .before .is-full .ensures) ∙ c .before .before .before .before .if3 .left)
+    (rw (c .before .before .before .before .before .before .before .before .newest .ensures, e) at (c .before .before .remove .ensures))
 
 pub release-spec : {M : Type 1} → statement M
 release-spec =
@@ -95,7 +110,10 @@ release-spec =
     newest-requires
     same-length
     returns-2
+    is-full-requires
+    same-length-2
+    returns-3
     sub-remove
     remove-requires
-    same-length-2
-    returns-3)
+    same-length-3
+    returns-4)

@@ -5,33 +5,39 @@ use Prim.Native.Nat.{ℕ, _+_, _-_, _≤_, _<_}
 use native.Mathlib.Omega.{arith}
 use lib.ListN.{length, take, drop, take-append-drop}
 use lib.Seq.{take-all}
-use borrow.Author.Needs.{needs}
 use Rattle.rules.specs.Log.{unitSize}
 use Rattle.validator.specs.Calls.{buffers}
 use Rattle.progress.specs.Code.{feedOf, Counted}
 use Rattle.feed.specs.Fed.{Fed, stopped}
 use Rattle.feed.proofs.Cuts.{fed-none, fed-append, part-length, part-some, fed-part, part-loose}
 use Rattle.feed.proofs.Turns.{unit-most}
+use borrow.Author.Needs.{needs}
 use Rattle.feed.proofs.take_piece.Statement.{statement}
 use Rattle.feed.proofs.take_piece.Tie as tie
+use Rattle.feed.proofs.take_piece.Reads as reads
+use Rattle.feed.proofs.take_piece.Lts as lts
+use Rattle.feed.proofs.take_part.Reads as take-part-reads
+use Rattle.progress.proofs.unit_size.Reads as unit-size-reads
+use Rattle.reader.proofs.next_part.Reads as next-part-reads
 
 abbrev Inv-loop : tie.InvT-loop
-Inv-loop desk₀ sheet₀ slip₀ piece now₀ at₀ desk sheet slip now at =
+Inv-loop desk₀ sheet₀ seen₀ slip₀ piece now₀ at₀ desk sheet seen slip now at =
     (at ≤ length piece)
     × (length desk ≡ length desk₀)
     × (length sheet ≡ length sheet₀)
+    × (length seen ≡ length seen₀)
     × (length slip ≡ length slip₀)
     × Counted now
     × (now .count < unitSize (now .opened))
-    × Fed (feedOf now₀) (buffers desk₀ sheet₀ slip₀) (take at piece) (feedOf now) (buffers desk sheet slip)
+    × Fed (feedOf now₀) (buffers desk₀ sheet₀ seen₀ slip₀) (take at piece) (feedOf now) (buffers desk sheet seen slip)
 
 abbrev μ-loop : tie.MeasureT-loop
-μ-loop desk₀ sheet₀ slip₀ piece now₀ at₀ desk sheet slip now at = length piece - at
+μ-loop desk₀ sheet₀ seen₀ slip₀ piece now₀ at₀ desk sheet seen slip now at =
+    length piece - at
 
 loop-holds : tie.Need-loop-holds Inv-loop μ-loop
 loop-holds c =
-    let a = c .before .before .before .before in
-    (omega arith, refl, refl, refl, a .pre .0, a .pre .1, fed-none (feedOf (a .args .first)) _ (rw (← a .pre .0) (a .pre .1)))
+    (omega arith, refl, refl, refl, refl, c .before .before .before .before .before .pre .0, c .before .before .before .before .before .pre .1, fed-none (feedOf (c .before .before .before .before .before .args .first)) _ (rw (← c .before .before .before .before .before .pre .0) (c .before .before .before .before .before .pre .1)))
 
 same-length : tie.Need-same-length Inv-loop μ-loop
 same-length c = omega arith
@@ -42,50 +48,53 @@ same-length-2 c = omega arith
 same-length-3 : tie.Need-same-length-3 Inv-loop μ-loop
 same-length-3 c = omega arith
 
+same-length-4 : tie.Need-same-length-4 Inv-loop μ-loop
+same-length-4 c = omega arith
+
 returns : tie.Need-returns Inv-loop μ-loop
 returns c =
     let l = c .before .before .before .loop in
-    let a = c .before .before .before .before .before .before .before .before .args in
-    (subst (λ (xs : List ℕ). Fed (feedOf (a .first)) (buffers (a .desk .now) (a .sheet .now) (a .slip .now)) xs (feedOf (l .now)) (buffers (l .desk) (l .sheet) (l .slip))) (take-append-drop (l .at) (a .piece .now)) (fed-append (l .inv .6) (stopped (c .if1 .taken))), omega (arith, unit-most (l .now .opened), l .inv .5))
+    let a = c .before .before .before .before .before .before .before .before .before .args in
+    (subst (λ (xs : List ℕ). Fed (feedOf (a .first)) (buffers (a .desk .now) (a .sheet .now) (a .seen .now) (a .slip .now)) xs (feedOf (l .now)) (buffers (l .desk) (l .sheet) (l .seen) (l .slip))) (take-append-drop (l .at) (a .piece .now)) (fed-append (l .inv .7) (stopped (c .if1 .taken))), omega (arith, unit-most (l .now .opened), l .inv .6))
 
 unit-size-requires : tie.Need-unit-size-requires Inv-loop μ-loop
 unit-size-requires c κs = search needs
 
 sub-next-part : tie.Need-sub-next-part Inv-loop μ-loop
-sub-next-part c = omega (arith, c .before .before .before .before .before .loop .inv .5, c .before .unit-size .ensures)
+sub-next-part c =
+    omega (arith, c .before .before .before .before .before .loop .inv .6, c .before .unit-size .ensures)
 
 next-part-requires : tie.Need-next-part-requires Inv-loop μ-loop
 next-part-requires c κs = search needs
 
 add-at : tie.Need-add-at Inv-loop μ-loop
-add-at c = omega (arith, part-length (c .before .before .before .before .before .before .before .before .before .before .before .args .piece .now) (c .next-part .result .now) (c .before .before .before .before .before .before .loop .at) (c .before .before .unit-size .result - c .before .before .before .before .before .before .loop .now .count) (c .next-part .ensures) .1)
+add-at c =
+    omega (arith, part-length (c .before .before .before .before .before .before .before .before .before .before .before .before .args .piece .now) (c .next-part .result .now) (c .before .before .before .before .before .before .loop .at) (c .before .before .unit-size .result - c .before .before .before .before .before .before .loop .now .count) (c .next-part .ensures) .1)
 
 take-part-requires : tie.Need-take-part-requires Inv-loop μ-loop
 take-part-requires c κs =
-    let l = c .before .before .before .before .before .before .before .before .before .loop in
-    (l .inv .4, omega (arith, part-length (c .before .before .before .before .before .before .before .before .before .before .before .before .before .before .args .piece .now) (c .before .before .before .next-part .result .now) (c .before .before .before .before .before .before .before .before .before .loop .at) (c .before .before .before .before .before .unit-size .result - c .before .before .before .before .before .before .before .before .before .loop .now .count) (c .before .before .before .next-part .ensures) .0, c .before .before .before .before .before .unit-size .ensures, l .inv .5))
+    let l = c .before .before .before .before .before .before .before .before .before .before .loop in
+    (l .inv .5, omega (arith, part-length (c .before .before .before .before .before .before .before .before .before .before .before .before .before .before .before .before .args .piece .now) (c .before .before .before .before .next-part .result .now) (c .before .before .before .before .before .before .before .before .before .before .loop .at) (c .before .before .before .before .before .before .unit-size .result - c .before .before .before .before .before .before .before .before .before .before .loop .now .count) (c .before .before .before .before .next-part .ensures) .0, c .before .before .before .before .before .before .unit-size .ensures, l .inv .6))
 
 loop-less : tie.Need-loop-less Inv-loop μ-loop
 loop-less c =
-    let l = c .before .before .before .before .before .before .before .before .before .before .before .before .before .before .before .before .loop in
-    let w : 0 < c .before .before .before .before .before .before .before .before .before .before .before .before .unit-size .result - l .now .count = omega (arith, c .before .before .before .before .before .before .before .before .before .before .before .before .unit-size .ensures, l .inv .5) in
-    omega (arith, part-some (c .before .before .before .before .before .before .before .before .before .before .before .before .before .before .before .before .before .before .before .before .before .args .piece .now) (c .before .before .before .before .before .before .before .before .before .before .next-part .result .now) (c .before .before .before .before .before .before .before .before .before .before .before .before .before .before .before .before .loop .at) (c .before .before .before .before .before .before .before .before .before .before .before .before .unit-size .result - c .before .before .before .before .before .before .before .before .before .before .before .before .before .before .before .before .loop .now .count) (c .before .before .before .before .before .before .before .before .before .before .next-part .ensures) (c .before .before .before .before .before .before .before .before .before .before .before .before .before .before .before .loop-test .taken) w)
+    let l = c .before .before .before .before .before .before .before .before .before .before .before .before .before .before .before .before .before .before .before .loop in
+    let w : 0 < c .before .before .before .before .before .before .before .before .before .before .before .before .before .before .before .unit-size .result - l .now .count = omega (arith, c .before .before .before .before .before .before .before .before .before .before .before .before .before .before .before .unit-size .ensures, l .inv .6) in
+    omega (arith, part-some (c .before .before .before .before .before .before .before .before .before .before .before .before .before .before .before .before .before .before .before .before .before .before .before .before .before .args .piece .now) (c .before .before .before .before .before .before .before .before .before .before .before .before .before .next-part .result .now) (c .before .before .before .before .before .before .before .before .before .before .before .before .before .before .before .before .before .before .before .loop .at) (c .before .before .before .before .before .before .before .before .before .before .before .before .before .before .before .unit-size .result - c .before .before .before .before .before .before .before .before .before .before .before .before .before .before .before .before .before .before .before .loop .now .count) (c .before .before .before .before .before .before .before .before .before .before .before .before .before .next-part .ensures) (c .before .before .before .before .before .before .before .before .before .before .before .before .before .before .before .before .before .before .loop-test .taken) w)
 
 loop-again : tie.Need-loop-again Inv-loop μ-loop
 loop-again c =
-    let l = c .before .before .before .before .before .before .before .before .before .before .before .before .before .before .before .before .loop in
-    let t = c .before .before .before .before .before .before .take-part in (
-      omega (arith, part-length (c .before .before .before .before .before .before .before .before .before .before .before .before .before .before .before .before .before .before .before .before .before .args .piece .now) (c .before .before .before .before .before .before .before .before .before .before .next-part .result .now) (c .before .before .before .before .before .before .before .before .before .before .before .before .before .before .before .before .loop .at) (c .before .before .before .before .before .before .before .before .before .before .before .before .unit-size .result - c .before .before .before .before .before .before .before .before .before .before .before .before .before .before .before .before .loop .now .count) (c .before .before .before .before .before .before .before .before .before .before .next-part .ensures) .1, c .before .before .before .before .before .before .before .before .before .before .before .before .before .before .before .loop-test .taken),
+    let l = c .before .before .before .before .before .before .before .before .before .before .before .before .before .before .before .before .before .before .before .loop in
+    let t = c .before .before .before .before .before .before .before .before .take-part in (
+      omega (arith, part-length (c .before .before .before .before .before .before .before .before .before .before .before .before .before .before .before .before .before .before .before .before .before .before .before .before .before .args .piece .now) (c .before .before .before .before .before .before .before .before .before .before .before .before .before .next-part .result .now) (c .before .before .before .before .before .before .before .before .before .before .before .before .before .before .before .before .before .before .before .loop .at) (c .before .before .before .before .before .before .before .before .before .before .before .before .before .before .before .unit-size .result - c .before .before .before .before .before .before .before .before .before .before .before .before .before .before .before .before .before .before .before .loop .now .count) (c .before .before .before .before .before .before .before .before .before .before .before .before .before .next-part .ensures) .1, c .before .before .before .before .before .before .before .before .before .before .before .before .before .before .before .before .before .before .loop-test .taken),
+      omega arith,
       omega arith,
       omega arith,
       omega arith,
       t .ensures .1,
       rw (t .ensures .1) (part-loose (t .ensures .0)),
-      fed-part (c .before .before .before .before .before .before .before .before .before .before .before .before .before .before .before .before .before .before .before .before .before .args .piece .now) (c .before .before .before .before .before .before .before .before .before .before .next-part .result .now) (c .before .before .before .before .before .before .before .before .before .before .before .before .before .before .before .before .loop .at) (c .before .before .before .before .before .before .before .before .before .before .before .before .unit-size .result - c .before .before .before .before .before .before .before .before .before .before .before .before .before .before .before .before .loop .now .count) (c .before .before .before .before .before .before .before .before .before .before .next-part .ensures) (l .inv .6) (c .before .before .before .before .before .before .before .before .before .before .before .before .before .if1 .left) (t .ensures .0),
+      fed-part (c .before .before .before .before .before .before .before .before .before .before .before .before .before .before .before .before .before .before .before .before .before .before .before .before .before .args .piece .now) (c .before .before .before .before .before .before .before .before .before .before .before .before .before .next-part .result .now) (c .before .before .before .before .before .before .before .before .before .before .before .before .before .before .before .before .before .before .before .loop .at) (c .before .before .before .before .before .before .before .before .before .before .before .before .before .before .before .unit-size .result - c .before .before .before .before .before .before .before .before .before .before .before .before .before .before .before .before .before .before .before .loop .now .count) (c .before .before .before .before .before .before .before .before .before .before .before .before .before .next-part .ensures) (l .inv .7) (c .before .before .before .before .before .before .before .before .before .before .before .before .before .before .before .before .if1 .left) (t .ensures .0),
     )
-
-same-length-4 : tie.Need-same-length-4 Inv-loop μ-loop
-same-length-4 c = omega arith
 
 same-length-5 : tie.Need-same-length-5 Inv-loop μ-loop
 same-length-5 c = omega arith
@@ -93,12 +102,18 @@ same-length-5 c = omega arith
 same-length-6 : tie.Need-same-length-6 Inv-loop μ-loop
 same-length-6 c = omega arith
 
+same-length-7 : tie.Need-same-length-7 Inv-loop μ-loop
+same-length-7 c = omega arith
+
+same-length-8 : tie.Need-same-length-8 Inv-loop μ-loop
+same-length-8 c = omega arith
+
 returns-2 : tie.Need-returns-2 Inv-loop μ-loop
 returns-2 c =
     let l = c .before .loop in
-    let a = c .before .before .before .before .before .before .args in
+    let a = c .before .before .before .before .before .before .before .args in
     let e : take (l .at) (a .piece .now) ≡ a .piece .now = take-all (l .at) (a .piece .now) (omega arith) in
-    (subst (λ (xs : List ℕ). Fed (feedOf (a .first)) (buffers (a .desk .now) (a .sheet .now) (a .slip .now)) xs (feedOf (l .now)) (buffers (l .desk) (l .sheet) (l .slip))) e (l .inv .6), omega (arith, unit-most (l .now .opened), l .inv .5))
+    (subst (λ (xs : List ℕ). Fed (feedOf (a .first)) (buffers (a .desk .now) (a .sheet .now) (a .seen .now) (a .slip .now)) xs (feedOf (l .now)) (buffers (l .desk) (l .sheet) (l .seen) (l .slip))) e (l .inv .7), omega (arith, unit-most (l .now .opened), l .inv .6))
 
 pub take-piece-spec : {M : Type 1} → statement M
 take-piece-spec =
@@ -110,6 +125,7 @@ take-piece-spec =
     same-length
     same-length-2
     same-length-3
+    same-length-4
     returns
     unit-size-requires
     sub-next-part
@@ -118,7 +134,8 @@ take-piece-spec =
     take-part-requires
     loop-less
     loop-again
-    same-length-4
     same-length-5
     same-length-6
+    same-length-7
+    same-length-8
     returns-2)

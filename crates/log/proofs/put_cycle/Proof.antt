@@ -3,7 +3,8 @@ use mathlib.Core.Path.{_≡_, refl, subst}
 use Prim.Native.Nat.{ℕ, _+_, _*_, _-_, _≤_}
 use native.Mathlib.Omega.{arith}
 use lib.ListN.{length, getD}
-use Rattle.log.proofs.Lines.{long, started, turn, next-below}
+use Rattle.log.proofs.Lines.{long, started, turn}
+use Rattle.layout.proofs.Slips.{next-below}
 use Rattle.log.specs.Text.{linesOf, Appended}
 use Rattle.layout.specs.Slip.{entriesOf}
 use Rattle.log.proofs.put_cycle.Statement.{statement}

@@ -4,6 +4,10 @@ use lib.Seq.{length-take-le}
 use borrow.Author.Needs.{needs}
 use Rattle.replay.proofs.main.Statement.{statement}
 use Rattle.replay.proofs.main.Tie as tie
+use Rattle.replay.proofs.main.Reads as reads
+use Rattle.replay.proofs.main.Lts as lts
+use Rattle.replay.proofs.print.Reads as print-reads
+use Rattle.replay.proofs.text_of_input.Reads as text-of-input-reads
 
 slice-aggregate-text-of-input : tie.Need-slice-aggregate-text-of-input
 slice-aggregate-text-of-input c = search needs
@@ -23,6 +27,9 @@ slice-aggregate-text-of-input-5 c = search needs
 slice-aggregate-text-of-input-6 : tie.Need-slice-aggregate-text-of-input-6
 slice-aggregate-text-of-input-6 c = search needs
 
+slice-aggregate-text-of-input-7 : tie.Need-slice-aggregate-text-of-input-7
+slice-aggregate-text-of-input-7 c = search needs
+
 text-of-input-requires : tie.Need-text-of-input-requires
 text-of-input-requires c κs = search needs
 
@@ -31,8 +38,8 @@ array-share-prefix-out c = search needs
 
 slice-aggregate-print : tie.Need-slice-aggregate-print
 slice-aggregate-print c =
-    let t = c .before .before .before .before .before .before .before .text-of-input in
-    sym (length-take-le (t .result .size) (t .last .1 .1 .1 .1 .1 .0) (t .ensures .text .inside))
+    let t = c .before .before .before .before .before .before .before .before .text-of-input in
+    sym (length-take-le (t .result .size) (t .last .1 .1 .1 .1 .1 .1 .0) (t .ensures .text .inside))
 
 print-requires : tie.Need-print-requires
 print-requires c κs = search needs
@@ -50,6 +57,7 @@ main-spec =
     slice-aggregate-text-of-input-4
     slice-aggregate-text-of-input-5
     slice-aggregate-text-of-input-6
+    slice-aggregate-text-of-input-7
     text-of-input-requires
     array-share-prefix-out
     slice-aggregate-print

@@ -2,9 +2,16 @@
 use Rattle.validator.specs.Calls.{buffers}
 use Rattle.replay.specs.Replayed.{unread, whole}
 use Rattle.replay.proofs.Reading.{started-well}
+use native.Mathlib.Omega.{arith}
 use borrow.Author.Needs.{needs}
 use Rattle.replay.proofs.replay.Statement.{statement}
 use Rattle.replay.proofs.replay.Tie as tie
+use Rattle.replay.proofs.replay.Reads as reads
+use Rattle.replay.proofs.replay.Lts as lts
+use Rattle.feed.proofs.feed_end.Reads as feed-end-reads
+use Rattle.feed.proofs.start.Reads as start-reads
+use Rattle.log.proofs.outcome_of.Reads as outcome-of-reads
+use Rattle.replay.proofs.feed_input.Reads as feed-input-reads
 
 start-requires : tie.Need-start-requires
 start-requires c κs = search needs
@@ -27,6 +34,9 @@ same-length-4 c = search needs
 same-length-5 : tie.Need-same-length-5
 same-length-5 c = search needs
 
+same-length-6 : tie.Need-same-length-6
+same-length-6 c = search needs
+
 returns : tie.Need-returns
 returns c = unread
 
@@ -36,11 +46,8 @@ feed-end-requires c κs = search needs
 outcome-of-requires : tie.Need-outcome-of-requires
 outcome-of-requires c κs = search needs
 
-same-length-6 : tie.Need-same-length-6
-same-length-6 c = search needs
-
 same-length-7 : tie.Need-same-length-7
-same-length-7 c = search needs
+same-length-7 c = omega (arith, c .before .before .before .before .before .before .before .before .before .before .feed3 .given, c .before .before .before .before .before .before .before .before .before .before .before .before .before .before .before .before .before .before .before .before .before .before .before .before .before .before .before .before .before .feed2 .given, c .before .before .before .before .before .before .before .before .before .before .before .before .before .before .before .before .before .before .before .before .before .before .before .before .before .before .before .before .before .before .before .before .before .before .before .before .before .before .feed .given)
 
 same-length-8 : tie.Need-same-length-8
 same-length-8 c = search needs
@@ -51,21 +58,26 @@ same-length-9 c = search needs
 same-length-10 : tie.Need-same-length-10
 same-length-10 c = search needs
 
+same-length-11 : tie.Need-same-length-11
+same-length-11 c = search needs
+
+same-length-12 : tie.Need-same-length-12
+same-length-12 c = search needs
+
 returns-2 : tie.Need-returns-2
 returns-2 c =
-    let a = c .before .before .before .before .before .before .before .before .before .before .before .before .before .before .before .before .before .before .before .before .before .before .before .before .before .before .before .before .before .before .before .before .before .before .before .before .before .before .before .before in
-    let t = c .before .before .before .before .before .before .before .before .before .before .before .before .before .before .before .before .before .before .before .before .before .before .before .before .before .feed-input in
-    let e = c .before .before .before .before .before .before .before .before .before .feed-end in
+    let t = c .before .before .before .before .before .before .before .before .before .before .before .before .before .before .before .before .before .before .before .before .before .before .before .before .before .before .before .before .before .before .feed-input in
+    let e = c .before .before .before .before .before .before .before .before .before .before .before .feed-end in
     whole
     (record {
-      before = a .args .feed .now;
-      fresh = c .before .before .before .before .before .before .before .before .before .before .before .before .before .before .before .before .before .before .before .before .before .before .before .before .before .before .before .before .before .before .before .before .before .start .last .0;
+      before = c .before .before .before .before .before .before .before .before .before .before .before .before .before .before .before .before .before .before .before .before .before .before .before .before .before .before .before .before .before .before .before .before .before .before .before .before .before .before .before .before .before .before .before .before .before .before .before .args .feed .now;
+      fresh = c .before .before .before .before .before .before .before .before .before .before .before .before .before .before .before .before .before .before .before .before .before .before .before .before .before .before .before .before .before .before .before .before .before .before .before .before .before .before .before .start .last .0;
       fed = t .last .0;
       after = e .last .0;
-      between = buffers (t .last .1 .0) (t .last .1 .1 .0) (t .last .1 .1 .1 .0);
+      between = buffers (t .last .1 .0) (t .last .1 .1 .0) (t .last .1 .1 .1 .0) (t .last .1 .1 .1 .1 .0);
       answer = e .result .answer;
       number = e .result .number;
-      started = started-well (a .pre) (c .before .before .before .before .before .before .before .before .before .before .before .before .before .before .before .before .before .before .before .before .before .before .before .before .before .before .before .before .before .before .before .before .before .start .ensures);
+      started = started-well (c .before .before .before .before .before .before .before .before .before .before .before .before .before .before .before .before .before .before .before .before .before .before .before .before .before .before .before .before .before .before .before .before .before .before .before .before .before .before .before .before .before .before .before .before .before .before .before .pre) (c .before .before .before .before .before .before .before .before .before .before .before .before .before .before .before .before .before .before .before .before .before .before .before .before .before .before .before .before .before .before .before .before .before .before .before .before .before .before .before .start .ensures);
       taken = t .ensures;
       ended = e .ensures;
       outcome-is = c .outcome-of .ensures;
@@ -82,12 +94,14 @@ replay-spec =
     same-length-3
     same-length-4
     same-length-5
+    same-length-6
     returns
     feed-end-requires
     outcome-of-requires
-    same-length-6
     same-length-7
     same-length-8
     same-length-9
     same-length-10
+    same-length-11
+    same-length-12
     returns-2)

@@ -3,12 +3,18 @@ use Rattle.replay.proofs.Reading.{shown}
 use borrow.Author.Needs.{needs}
 use Rattle.replay.proofs.text_of_input.Statement.{statement}
 use Rattle.replay.proofs.text_of_input.Tie as tie
+use Rattle.replay.proofs.text_of_input.Reads as reads
+use Rattle.replay.proofs.text_of_input.Lts as lts
+use Rattle.log.proofs.is_answer.Reads as is-answer-reads
+use Rattle.log.proofs.put_text.Reads as put-text-reads
+use Rattle.replay.proofs.replay.Reads as replay-reads
 
 replay-requires : tie.Need-replay-requires
 replay-requires c κs = search needs
 
 put-text-requires : tie.Need-put-text-requires
-put-text-requires c κs = (search needs, search needs, shown (c .before .before .before .before .before .before .before .before .before .before .before .before .replay .ensures))
+put-text-requires c κs =
+    (search needs, search needs, shown (c .before .before .before .before .before .before .before .before .before .before .before .before .before .before .replay .ensures))
 
 is-answer-requires : tie.Need-is-answer-requires
 is-answer-requires c κs = search needs
@@ -31,6 +37,9 @@ same-length-5 c = search needs
 same-length-6 : tie.Need-same-length-6
 same-length-6 c = search needs
 
+same-length-7 : tie.Need-same-length-7
+same-length-7 c = search needs
+
 returns : tie.Need-returns
 returns c = search needs
 
@@ -47,4 +56,5 @@ text-of-input-spec =
     same-length-4
     same-length-5
     same-length-6
+    same-length-7
     returns)

@@ -1,10 +1,10 @@
 use mathlib.Core.Path.{sym, _∙_}
 use native.Mathlib.Omega.{arith}
 use borrow.Author.Tests.{not-true, not-false}
-use Rattle.fit.proofs.Facts.{facts}
+use Rattle.fit.proofs.Facts.{facts, number-facts}
 use Rattle.rules.proofs.Formed.{well-formed}
 use Rattle.validator.proofs.Fitness.{fit-cored}
-use Rattle.validator.proofs.Outcomes.{unfit-buffers, unfit-slip, is-closed, is-malformed, is-refused, conclude-ready, is-validated}
+use Rattle.validator.proofs.Outcomes.{unfit-buffers, unfit-slip, is-closed, is-malformed, is-refused, count-ready, conclude-ready, is-validated}
 use borrow.Author.Needs.{needs}
 use Rattle.validator.proofs.step.Statement.{statement}
 use Rattle.validator.proofs.step.Tie as tie
@@ -13,6 +13,7 @@ use Rattle.validator.proofs.step.Lts as lts
 use Rattle.action.proofs.act.Reads as act-reads
 use Rattle.fit.proofs.fits.Reads as fits-reads
 use Rattle.record.proofs.is_malformed.Reads as is-malformed-reads
+use Rattle.update.proofs.count_record.Reads as count-record-reads
 use Rattle.validator.proofs.conclude.Reads as conclude-reads
 
 fits-requires : tie.Need-fits-requires
@@ -24,47 +25,38 @@ same-length c = search needs
 same-length-2 : tie.Need-same-length-2
 same-length-2 c = search needs
 
+same-length-3 : tie.Need-same-length-3
+same-length-3 c = search needs
+
 returns : tie.Need-returns
-returns c = unfit-buffers _ _ _ _ (sym (c .before .fits2 .ensures) ∙ not-true _ (c .if1 .taken))
+returns c = unfit-buffers _ _ _ _ _ (sym (c .before .fits2 .ensures) ∙ not-true _ (c .if1 .taken))
 
 slice-read-if2 : tie.Need-slice-read-if2
 slice-read-if2 c =
-    let a = c .before .before .before .before .before .before .before .before .before .args in
-    let f = facts (a .desk .now) (a .sheet .now) (sym (c .before .before .fits2 .ensures) ∙ not-false _ (c .before .if1 .left)) in
+    let a = c .before .before .before .before .before .before .before .before .before .before .before .args in
+    let f = facts (a .desk .now) (a .sheet .now) (a .seen .now) (sym (c .before .before .fits2 .ensures) ∙ not-false _ (c .before .if1 .left)) in
     let l = f .long in omega arith
 
 cast-if2 : tie.Need-cast-if2
 cast-if2 c =
-    let a = c .before .before .before .before .before .before .before .before .before .args in
-    let f = facts (a .desk .now) (a .sheet .now) (sym (c .before .before .fits2 .ensures) ∙ not-false _ (c .before .if1 .left)) in
+    let a = c .before .before .before .before .before .before .before .before .before .before .before .args in
+    let f = facts (a .desk .now) (a .sheet .now) (a .seen .now) (sym (c .before .before .fits2 .ensures) ∙ not-false _ (c .before .if1 .left)) in
     let l = f .few in omega arith
 
 mul-if2 : tie.Need-mul-if2
 mul-if2 c =
-    let a = c .before .before .before .before .before .before .before .before .before .args in
-    let f = facts (a .desk .now) (a .sheet .now) (sym (c .before .before .fits2 .ensures) ∙ not-false _ (c .before .if1 .left)) in
+    let a = c .before .before .before .before .before .before .before .before .before .before .before .args in
+    let f = facts (a .desk .now) (a .sheet .now) (a .seen .now) (sym (c .before .before .fits2 .ensures) ∙ not-false _ (c .before .if1 .left)) in
     let l = f .few in omega arith
 
 add-if2 : tie.Need-add-if2
 add-if2 c =
-    let a = c .before .before .before .before .before .before .before .before .before .args in
-    let f = facts (a .desk .now) (a .sheet .now) (sym (c .before .before .fits2 .ensures) ∙ not-false _ (c .before .if1 .left)) in
+    let a = c .before .before .before .before .before .before .before .before .before .before .before .args in
+    let f = facts (a .desk .now) (a .sheet .now) (a .seen .now) (sym (c .before .before .fits2 .ensures) ∙ not-false _ (c .before .if1 .left)) in
     let l = f .few in omega arith
-
-same-length-3 : tie.Need-same-length-3
-same-length-3 c = search needs
 
 same-length-4 : tie.Need-same-length-4
 same-length-4 c = search needs
-
-returns-2 : tie.Need-returns-2
-returns-2 c = unfit-slip _ _ _ _ (sym (c .before .before .before .fits2 .ensures) ∙ not-false _ (c .before .before .if1 .left)) (c .if2 .taken)
-
-slice-read-if3 : tie.Need-slice-read-if3
-slice-read-if3 c =
-    let a = c .before .before .before .before .before .before .before .before .before .before .before .args in
-    let f = facts (a .desk .now) (a .sheet .now) (sym (c .before .before .before .before .fits2 .ensures) ∙ not-false _ (c .before .before .before .if1 .left)) in
-    let l = f .long in omega arith
 
 same-length-5 : tie.Need-same-length-5
 same-length-5 c = search needs
@@ -72,11 +64,15 @@ same-length-5 c = search needs
 same-length-6 : tie.Need-same-length-6
 same-length-6 c = search needs
 
-returns-3 : tie.Need-returns-3
-returns-3 c = is-closed _ _ _ _ (λ k l. omega (arith, c .before .before .before .before .before .before .before .before .before .before .before .slice-known .given k)) (sym (c .before .before .before .before .before .fits2 .ensures) ∙ not-false _ (c .before .before .before .before .if1 .left)) (c .before .before .if2 .left) (c .if3 .taken)
+returns-2 : tie.Need-returns-2
+returns-2 c =
+    unfit-slip _ _ _ _ _ (sym (c .before .before .before .fits2 .ensures) ∙ not-false _ (c .before .before .if1 .left)) (c .if2 .taken)
 
-is-malformed-requires : tie.Need-is-malformed-requires
-is-malformed-requires c κs = search needs
+slice-read-if3 : tie.Need-slice-read-if3
+slice-read-if3 c =
+    let a = c .before .before .before .before .before .before .before .before .before .before .before .before .before .args in
+    let f = facts (a .desk .now) (a .sheet .now) (a .seen .now) (sym (c .before .before .before .before .fits2 .ensures) ∙ not-false _ (c .before .before .before .if1 .left)) in
+    let l = f .long in omega arith
 
 same-length-7 : tie.Need-same-length-7
 same-length-7 c = search needs
@@ -84,43 +80,18 @@ same-length-7 c = search needs
 same-length-8 : tie.Need-same-length-8
 same-length-8 c = search needs
 
-returns-4 : tie.Need-returns-4
-returns-4 c = is-malformed _ _ _ _ (λ k l. omega (arith, c .before .before .before .before .before .before .before .before .before .before .before .before .before .slice-known .given k)) (sym (c .before .before .before .before .before .before .before .fits2 .ensures) ∙ not-false _ (c .before .before .before .before .before .before .if1 .left)) (c .before .before .before .before .if2 .left) (c .before .before .if3 .left) (sym (c .before .is-malformed .ensures) ∙ c .if4 .taken)
-
-act-requires : tie.Need-act-requires
-act-requires c κs =
-    let a = c .before .before .before .before .before .before .before .before .before .before .before .before .before .before .before .before .args in
-    let f = facts (a .desk .now) (a .sheet .now) (sym (c .before .before .before .before .before .before .before .before .before .fits2 .ensures) ∙ not-false _ (c .before .before .before .before .before .before .before .before .if1 .left)) in
-    (fit-cored (a .desk .now) (a .sheet .now) (sym (c .before .before .before .before .before .before .before .before .before .fits2 .ensures) ∙ not-false _ (c .before .before .before .before .before .before .before .before .if1 .left)) (λ k l. omega (arith, c .before .before .before .before .before .before .before .before .before .before .before .before .before .before .before .slice-known .given k)), f .square, (well-formed (a .bytes .now) (sym (c .before .before .before .is-malformed .ensures) ∙ c .before .before .if4 .left)))
-
 same-length-9 : tie.Need-same-length-9
 same-length-9 c = search needs
 
+returns-3 : tie.Need-returns-3
+returns-3 c =
+    is-closed _ _ _ _ _ (λ k l. omega (arith, c .before .before .before .before .before .before .before .before .before .before .before .before .before .slice-known .given k)) (λ k l. omega (arith, c .before .before .before .before .before .before .before .before .before .before .before .slice-known3 .given k)) (sym (c .before .before .before .before .before .fits2 .ensures) ∙ not-false _ (c .before .before .before .before .if1 .left)) (c .before .before .if2 .left) (c .if3 .taken)
+
+is-malformed-requires : tie.Need-is-malformed-requires
+is-malformed-requires c κs = search needs
+
 same-length-10 : tie.Need-same-length-10
 same-length-10 c = search needs
-
-returns-5 : tie.Need-returns-5
-returns-5 c = is-refused _ _ _ _ (λ k l. omega (arith, c .before .before .before .before .before .before .before .before .before .before .before .before .before .before .before .before .before .before .before .before .before .slice-known .given k)) (sym (c .before .before .before .before .before .before .before .before .before .before .before .before .before .before .before .fits2 .ensures) ∙ not-false _ (c .before .before .before .before .before .before .before .before .before .before .before .before .before .before .if1 .left)) (c .before .before .before .before .before .before .before .before .before .before .before .before .if2 .left) (c .before .before .before .before .before .before .before .before .before .before .if3 .left) (c .before .before .before .before .before .act .ensures) (c .if5 .taken)
-
-shared-slice-read-conclude : tie.Need-shared-slice-read-conclude
-shared-slice-read-conclude c =
-    let a = c .before .before .before .before .before .before .before .before .before .before .before .before .before .before .before .before .before .before .before .before .before .before .before .before .before .before .args in
-    let w = (well-formed (a .bytes .now) (sym (c .before .before .before .before .before .before .before .before .before .before .before .before .before .is-malformed .ensures) ∙ c .before .before .before .before .before .before .before .before .before .before .before .before .if4 .left)) in let l = w .long in omega arith
-
-cast-conclude : tie.Need-cast-conclude
-cast-conclude c =
-    let a = c .before .before .before .before .before .before .before .before .before .before .before .before .before .before .before .before .before .before .before .before .before .before .before .before .before .before .args in
-    let w = (well-formed (a .bytes .now) (sym (c .before .before .before .before .before .before .before .before .before .before .before .before .before .is-malformed .ensures) ∙ c .before .before .before .before .before .before .before .before .before .before .before .before .if4 .left)) in let l = w .core in omega arith
-
-conclude-requires : tie.Need-conclude-requires
-conclude-requires c κs =
-    let a = c .before .before .before .before .before .before .before .before .before .before .before .before .before .before .before .before .before .before .before .before .before .before .before .before .before .before .args in
-    let f = facts (a .desk .now) (a .sheet .now) (sym (c .before .before .before .before .before .before .before .before .before .before .before .before .before .before .before .before .before .before .before .fits2 .ensures) ∙ not-false _ (c .before .before .before .before .before .before .before .before .before .before .before .before .before .before .before .before .before .before .if1 .left)) in
-    let fit = (sym (c .before .before .before .before .before .before .before .before .before .before .before .before .before .before .before .before .before .before .before .fits2 .ensures) ∙ not-false _ (c .before .before .before .before .before .before .before .before .before .before .before .before .before .before .before .before .before .before .if1 .left)) in
-    let ready =
-    conclude-ready (a .desk .now) (a .sheet .now) (a .slip .now) (a .bytes .now) (λ k l. omega (arith, c .before .before .before .before .before .before .before .before .before .before .before .before .before .before .before .before .before .before .before .before .before .before .before .before .before .slice-known .given k)) fit (c .before .before .before .before .before .before .before .before .before .before .before .before .before .before .before .before .if2 .left) (c .before .before .before .before .before .before .before .before .before .before .before .before .before .before .if3 .left)
-    (c .before .before .before .before .before .before .before .before .before .act .ensures) (c .before .before .before .before .if5 .left) in
-    (ready .0, (well-formed (a .bytes .now) (sym (c .before .before .before .before .before .before .before .before .before .before .before .before .before .is-malformed .ensures) ∙ c .before .before .before .before .before .before .before .before .before .before .before .before .if4 .left)) .core, ready .1, ready .2)
 
 same-length-11 : tie.Need-same-length-11
 same-length-11 c = search needs
@@ -128,11 +99,72 @@ same-length-11 c = search needs
 same-length-12 : tie.Need-same-length-12
 same-length-12 c = search needs
 
+returns-4 : tie.Need-returns-4
+returns-4 c =
+    is-malformed _ _ _ _ _ (λ k l. omega (arith, c .before .before .before .before .before .before .before .before .before .before .before .before .before .before .before .slice-known .given k)) (λ k l. omega (arith, c .before .before .before .before .before .before .before .before .before .before .before .before .before .slice-known3 .given k)) (sym (c .before .before .before .before .before .before .before .fits2 .ensures) ∙ not-false _ (c .before .before .before .before .before .before .if1 .left)) (c .before .before .before .before .if2 .left) (c .before .before .if3 .left) (sym (c .before .is-malformed .ensures) ∙ c .if4 .taken)
+
+act-requires : tie.Need-act-requires
+act-requires c κs =
+    let a = c .before .before .before .before .before .before .before .before .before .before .before .before .before .before .before .before .before .before .before .args in
+    let f = facts (a .desk .now) (a .sheet .now) (a .seen .now) (sym (c .before .before .before .before .before .before .before .before .before .before .fits2 .ensures) ∙ not-false _ (c .before .before .before .before .before .before .before .before .before .if1 .left)) in
+    let n = number-facts (a .desk .now) (a .sheet .now) (a .seen .now) (sym (c .before .before .before .before .before .before .before .before .before .before .fits2 .ensures) ∙ not-false _ (c .before .before .before .before .before .before .before .before .before .if1 .left)) in
+    (fit-cored (a .desk .now) (a .sheet .now) (a .seen .now) (sym (c .before .before .before .before .before .before .before .before .before .before .fits2 .ensures) ∙ not-false _ (c .before .before .before .before .before .before .before .before .before .if1 .left)) (λ k l. omega (arith, c .before .before .before .before .before .before .before .before .before .before .before .before .before .before .before .before .before .before .slice-known .given k)) (λ k l. omega (arith, c .before .before .before .before .before .before .before .before .before .before .before .before .before .before .before .before .slice-known3 .given k)), f .square, n .long, (well-formed (a .bytes .now) (sym (c .before .before .before .before .is-malformed .ensures) ∙ c .before .before .before .if4 .left)))
+
 same-length-13 : tie.Need-same-length-13
 same-length-13 c = search needs
 
+same-length-14 : tie.Need-same-length-14
+same-length-14 c = search needs
+
+same-length-15 : tie.Need-same-length-15
+same-length-15 c = search needs
+
+returns-5 : tie.Need-returns-5
+returns-5 c =
+    is-refused _ _ _ _ _ (λ k l. omega (arith, c .before .before .before .before .before .before .before .before .before .before .before .before .before .before .before .before .before .before .before .before .before .before .before .before .before .before .slice-known .given k)) (λ k l. omega (arith, c .before .before .before .before .before .before .before .before .before .before .before .before .before .before .before .before .before .before .before .before .before .before .before .before .slice-known3 .given k)) (sym (c .before .before .before .before .before .before .before .before .before .before .before .before .before .before .before .before .before .before .fits2 .ensures) ∙ not-false _ (c .before .before .before .before .before .before .before .before .before .before .before .before .before .before .before .before .before .if1 .left)) (c .before .before .before .before .before .before .before .before .before .before .before .before .before .before .before .if2 .left) (c .before .before .before .before .before .before .before .before .before .before .before .before .before .if3 .left) (c .before .before .before .before .before .before .before .act .ensures) (c .if5 .taken)
+
+count-record-requires : tie.Need-count-record-requires
+count-record-requires c κs =
+    let a = c .before .before .before .before .before .before .before .before .before .before .before .before .before .before .before .before .before .before .before .before .before .before .before .before .before .before .before .before .args in
+    let fit = (sym (c .before .before .before .before .before .before .before .before .before .before .before .before .before .before .before .before .before .before .before .fits2 .ensures) ∙ not-false _ (c .before .before .before .before .before .before .before .before .before .before .before .before .before .before .before .before .before .before .if1 .left)) in
+    count-ready (a .desk .now) (a .sheet .now) (a .seen .now) (a .slip .now) (a .bytes .now) (λ k l. omega (arith, c .before .before .before .before .before .before .before .before .before .before .before .before .before .before .before .before .before .before .before .before .before .before .before .before .before .before .before .slice-known .given k))
+    (λ k l. omega (arith, c .before .before .before .before .before .before .before .before .before .before .before .before .before .before .before .before .before .before .before .before .before .before .before .before .before .slice-known3 .given k)) fit (c .before .before .before .before .before .before .before .before .before .before .before .before .before .before .before .before .if2 .left) (c .before .before .before .before .before .before .before .before .before .before .before .before .before .before .if3 .left) (c .before .before .before .before .before .before .before .before .act .ensures) (c .before .if5 .left)
+
+shared-slice-read-conclude : tie.Need-shared-slice-read-conclude
+shared-slice-read-conclude c =
+    let a = c .before .before .before .before .before .before .before .before .before .before .before .before .before .before .before .before .before .before .before .before .before .before .before .before .before .before .before .before .before .before .before .before .before .before .before .before .args in
+    let w = (well-formed (a .bytes .now) (sym (c .before .before .before .before .before .before .before .before .before .before .before .before .before .before .before .before .before .before .before .before .before .is-malformed .ensures) ∙ c .before .before .before .before .before .before .before .before .before .before .before .before .before .before .before .before .before .before .before .before .if4 .left)) in let l = w .long in omega arith
+
+cast-conclude : tie.Need-cast-conclude
+cast-conclude c =
+    let a = c .before .before .before .before .before .before .before .before .before .before .before .before .before .before .before .before .before .before .before .before .before .before .before .before .before .before .before .before .before .before .before .before .before .before .before .before .args in
+    let w = (well-formed (a .bytes .now) (sym (c .before .before .before .before .before .before .before .before .before .before .before .before .before .before .before .before .before .before .before .before .before .is-malformed .ensures) ∙ c .before .before .before .before .before .before .before .before .before .before .before .before .before .before .before .before .before .before .before .before .if4 .left)) in let l = w .core in omega arith
+
+conclude-requires : tie.Need-conclude-requires
+conclude-requires c κs =
+    let a = c .before .before .before .before .before .before .before .before .before .before .before .before .before .before .before .before .before .before .before .before .before .before .before .before .before .before .before .before .before .before .before .before .before .before .before .before .args in
+    let f = facts (a .desk .now) (a .sheet .now) (a .seen .now) (sym (c .before .before .before .before .before .before .before .before .before .before .before .before .before .before .before .before .before .before .before .before .before .before .before .before .before .before .before .fits2 .ensures) ∙ not-false _ (c .before .before .before .before .before .before .before .before .before .before .before .before .before .before .before .before .before .before .before .before .before .before .before .before .before .before .if1 .left)) in
+    let fit = (sym (c .before .before .before .before .before .before .before .before .before .before .before .before .before .before .before .before .before .before .before .before .before .before .before .before .before .before .before .fits2 .ensures) ∙ not-false _ (c .before .before .before .before .before .before .before .before .before .before .before .before .before .before .before .before .before .before .before .before .before .before .before .before .before .before .if1 .left)) in
+    let ready =
+    conclude-ready (a .desk .now) (a .sheet .now) (a .seen .now) (a .slip .now) (a .bytes .now) (λ k l. omega (arith, c .before .before .before .before .before .before .before .before .before .before .before .before .before .before .before .before .before .before .before .before .before .before .before .before .before .before .before .before .before .before .before .before .before .before .before .slice-known .given k)) (λ k l. omega (arith, c .before .before .before .before .before .before .before .before .before .before .before .before .before .before .before .before .before .before .before .before .before .before .before .before .before .before .before .before .before .before .before .before .before .slice-known3 .given k)) fit (c .before .before .before .before .before .before .before .before .before .before .before .before .before .before .before .before .before .before .before .before .before .before .before .before .if2 .left) (c .before .before .before .before .before .before .before .before .before .before .before .before .before .before .before .before .before .before .before .before .before .before .if3 .left)
+    (c .before .before .before .before .before .before .before .before .before .before .before .before .before .before .before .before .act .ensures) (c .before .before .before .before .before .before .before .before .before .if5 .left) (c .before .before .before .before .before .before .before .count-record .ensures) in
+    (ready .0, (well-formed (a .bytes .now) (sym (c .before .before .before .before .before .before .before .before .before .before .before .before .before .before .before .before .before .before .before .before .before .is-malformed .ensures) ∙ c .before .before .before .before .before .before .before .before .before .before .before .before .before .before .before .before .before .before .before .before .if4 .left)) .core, ready .1, ready .2, ready .3)
+
+same-length-16 : tie.Need-same-length-16
+same-length-16 c = search needs
+
+same-length-17 : tie.Need-same-length-17
+same-length-17 c = search needs
+
+same-length-18 : tie.Need-same-length-18
+same-length-18 c = search needs
+
+same-length-19 : tie.Need-same-length-19
+same-length-19 c = search needs
+
 returns-6 : tie.Need-returns-6
-returns-6 c = is-validated _ _ _ _ (λ k l. omega (arith, c .before .before .before .before .before .before .before .before .before .before .before .before .before .before .before .before .before .before .before .before .before .before .before .before .before .before .before .before .before .before .slice-known .given k)) (sym (c .before .before .before .before .before .before .before .before .before .before .before .before .before .before .before .before .before .before .before .before .before .before .before .before .fits2 .ensures) ∙ not-false _ (c .before .before .before .before .before .before .before .before .before .before .before .before .before .before .before .before .before .before .before .before .before .before .before .if1 .left)) (c .before .before .before .before .before .before .before .before .before .before .before .before .before .before .before .before .before .before .before .before .before .if2 .left) (c .before .before .before .before .before .before .before .before .before .before .before .before .before .before .before .before .before .before .before .if3 .left) (c .before .before .before .before .before .before .before .before .before .before .before .before .before .before .act .ensures) (c .before .before .before .before .before .before .before .before .before .if5 .left) (c .before .before .before .before .conclude .ensures)
+returns-6 c =
+    is-validated _ _ _ _ _ (λ k l. omega (arith, c .before .before .before .before .before .before .before .before .before .before .before .before .before .before .before .before .before .before .before .before .before .before .before .before .before .before .before .before .before .before .before .before .before .before .before .before .before .before .before .before .slice-known .given k)) (λ k l. omega (arith, c .before .before .before .before .before .before .before .before .before .before .before .before .before .before .before .before .before .before .before .before .before .before .before .before .before .before .before .before .before .before .before .before .before .before .before .before .before .before .slice-known3 .given k)) (sym (c .before .before .before .before .before .before .before .before .before .before .before .before .before .before .before .before .before .before .before .before .before .before .before .before .before .before .before .before .before .before .before .before .fits2 .ensures) ∙ not-false _ (c .before .before .before .before .before .before .before .before .before .before .before .before .before .before .before .before .before .before .before .before .before .before .before .before .before .before .before .before .before .before .before .if1 .left)) (c .before .before .before .before .before .before .before .before .before .before .before .before .before .before .before .before .before .before .before .before .before .before .before .before .before .before .before .before .before .if2 .left) (c .before .before .before .before .before .before .before .before .before .before .before .before .before .before .before .before .before .before .before .before .before .before .before .before .before .before .before .if3 .left) (c .before .before .before .before .before .before .before .before .before .before .before .before .before .before .before .before .before .before .before .before .before .act .ensures) (c .before .before .before .before .before .before .before .before .before .before .before .before .before .before .if5 .left) (c .before .before .before .before .before .before .before .before .before .before .before .before .count-record .ensures) (c .before .before .before .before .conclude .ensures)
 
 pub step-spec : {M : Type 1} → statement M
 step-spec =
@@ -141,30 +173,37 @@ step-spec =
     fits-requires
     same-length
     same-length-2
+    same-length-3
     returns
     slice-read-if2
     cast-if2
     mul-if2
     add-if2
-    same-length-3
     same-length-4
-    returns-2
-    slice-read-if3
     same-length-5
     same-length-6
-    returns-3
-    is-malformed-requires
+    returns-2
+    slice-read-if3
     same-length-7
     same-length-8
+    same-length-9
+    returns-3
+    is-malformed-requires
+    same-length-10
+    same-length-11
+    same-length-12
     returns-4
     act-requires
-    same-length-9
-    same-length-10
+    same-length-13
+    same-length-14
+    same-length-15
     returns-5
+    count-record-requires
     shared-slice-read-conclude
     cast-conclude
     conclude-requires
-    same-length-11
-    same-length-12
-    same-length-13
+    same-length-16
+    same-length-17
+    same-length-18
+    same-length-19
     returns-6)

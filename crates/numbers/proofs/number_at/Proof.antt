@@ -1,9 +1,11 @@
--- `progress::four_bytes` meets its contract. Assumes nothing.
-use Rattle.progress.proofs.Bytes.{four}
-use native.Mathlib.Omega.{arith}
+-- `numbers::number_at` meets its contract. Assumes nothing.
+use Rattle.numbers.proofs.Writing.{four}
 use borrow.Author.Needs.{needs}
-use Rattle.progress.proofs.four_bytes.Statement.{statement}
-use Rattle.progress.proofs.four_bytes.Tie as tie
+use Rattle.numbers.proofs.number_at.Statement.{statement}
+use Rattle.numbers.proofs.number_at.Tie as tie
+use Rattle.numbers.proofs.number_at.Reads as reads
+use Rattle.numbers.proofs.number_at.Lts as lts
+use Rattle.numbers.proofs.wide.Reads as wide-reads
 
 shared-slice-read-wide : tie.Need-shared-slice-read-wide
 shared-slice-read-wide c = search needs
@@ -20,6 +22,12 @@ shared-slice-read-wide-2 c = search needs
 wide-requires-2 : tie.Need-wide-requires-2
 wide-requires-2 c κs = search needs
 
+mul-result : tie.Need-mul-result
+mul-result c = search needs
+
+add-result : tie.Need-add-result
+add-result c = search needs
+
 add-wide-2 : tie.Need-add-wide-2
 add-wide-2 c = search needs
 
@@ -28,6 +36,12 @@ shared-slice-read-wide-3 c = search needs
 
 wide-requires-3 : tie.Need-wide-requires-3
 wide-requires-3 c κs = search needs
+
+mul-result-2 : tie.Need-mul-result-2
+mul-result-2 c = search needs
+
+add-result-2 : tie.Need-add-result-2
+add-result-2 c = search needs
 
 add-wide-3 : tie.Need-add-wide-3
 add-wide-3 c = search needs
@@ -38,18 +52,6 @@ shared-slice-read-wide-4 c = search needs
 wide-requires-4 : tie.Need-wide-requires-4
 wide-requires-4 c κs = search needs
 
-mul-result : tie.Need-mul-result
-mul-result c = search needs
-
-add-result : tie.Need-add-result
-add-result c = search needs
-
-mul-result-2 : tie.Need-mul-result-2
-mul-result-2 c = search needs
-
-add-result-2 : tie.Need-add-result-2
-add-result-2 c = search needs
-
 mul-result-3 : tie.Need-mul-result-3
 mul-result-3 c = search needs
 
@@ -58,15 +60,10 @@ add-result-3 c = search needs
 
 returns : tie.Need-returns
 returns c =
-    let a = c .before .before .before .before .before .before .before .before .before .args in
-    let e0 = c .before .before .before .before .before .before .wide .ensures in
-    let e1 = c .before .before .before .before .wide2 .ensures in
-    let e2 = c .before .before .wide3 .ensures in
-    let e3 = c .wide4 .ensures in
-    (four (a .feed .now) (a .at) _ _ _ _ (e0 .0) (e1 .0) (e2 .0) (e3 .0), omega arith)
+    four (c .before .before .before .before .before .before .before .before .before .args .buffer .now) (c .before .before .before .before .before .before .before .before .before .args .at) _ _ _ _ (c .before .before .before .before .before .before .wide .ensures .0) (c .before .before .before .before .wide2 .ensures .0) (c .before .before .wide3 .ensures .0) (c .wide4 .ensures .0)
 
-pub four-bytes-spec : {M : Type 1} → statement M
-four-bytes-spec =
+pub number-at-spec : {M : Type 1} → statement M
+number-at-spec =
     tie.close
     (tie.spec
     shared-slice-read-wide
@@ -74,16 +71,16 @@ four-bytes-spec =
     add-wide
     shared-slice-read-wide-2
     wide-requires-2
+    mul-result
+    add-result
     add-wide-2
     shared-slice-read-wide-3
     wide-requires-3
+    mul-result-2
+    add-result-2
     add-wide-3
     shared-slice-read-wide-4
     wide-requires-4
-    mul-result
-    add-result
-    mul-result-2
-    add-result-2
     mul-result-3
     add-result-3
     returns)

@@ -1,0 +1,69 @@
+-- Four bytes read as a number, and a number written as four bytes. Assumes nothing.
+use mathlib.Core.Path.{_≡_, ap, _∙_}
+use mathlib.Core.List.{List}
+use mathlib.Core.Logic.{_⊎_, ⊎-elim}
+use Prim.Native.Nat.{ℕ, zero, suc, _+_, _*_, _/_, _%_, _<_, _≤_}
+use native.Mathlib.Omega.{arith}
+use lib.ListN.{length, getD, set, length-set}
+use lib.Seq.{getD-set-same, getD-set-other}
+use Rattle.layout.specs.Layout.{numberSize}
+use Rattle.layout.specs.Number.{lowFirst}
+use Rattle.layout.specs.Encoding.{NumberBytes}
+use Rattle.numbers.specs.Numbers.{NumberPut}
+
+pub four : (buffer : List ℕ) (at b0 b1 b2 b3 : ℕ) → b0 ≡ getD buffer at 0 → b1 ≡ getD buffer (at + 1) 0 → b2 ≡ getD buffer (at + 2) 0
+    → b3 ≡ getD buffer (at + 3) 0 → b0 + b1 * 256 + b2 * 65536 + b3 * 16777216 ≡ lowFirst numberSize buffer at
+four buffer at b0 b1 b2 b3 e0 e1 e2 e3 =
+    let s1 : at + 1 ≡ suc at = omega arith in
+    let s2 : at + 2 ≡ suc (suc at) = omega arith in
+    let s3 : at + 3 ≡ suc (suc (suc at)) = omega arith in
+    let f1 = e1 ∙ ap (λ (n : ℕ). getD buffer n 0) s1 in
+    let f2 = e2 ∙ ap (λ (n : ℕ). getD buffer n 0) s2 in
+    let f3 = e3 ∙ ap (λ (n : ℕ). getD buffer n 0) s3 in
+    omega arith
+
+module _ (before : List ℕ) (at number b0 b1 b2 b3 : ℕ) (e0 : b0 ≡ number % 256) (e1 : b1 ≡ number / 256 % 256) (e2 : b2 ≡ number / 65536 % 256)
+    (e3 : b3 ≡ number / 16777216) (small : number < 4294967296) (room : at + numberSize ≤ length before) where
+  abbrev one : List ℕ
+  one = set before at b0
+
+  abbrev two : List ℕ
+  two = set one (at + 1) b1
+
+  abbrev three : List ℕ
+  three = set two (at + 2) b2
+
+  abbrev after : List ℕ
+  after = set three (at + 3) b3
+
+  other : (j : ℕ) → (j ≡ at → ⊥) → (j ≡ at + 1 → ⊥) → (j ≡ at + 2 → ⊥) → (j ≡ at + 3 → ⊥) → getD after j 0 ≡ getD before j 0
+  other j n0 n1 n2 n3 =
+      getD-set-other three (at + 3) j b3 0 n3 ∙ getD-set-other two (at + 2) j b2 0 n2 ∙ getD-set-other one (at + 1) j b1 0 n1
+      ∙ getD-set-other before at j b0 0 n0
+
+  there : NumberBytes number after at
+  there zero l =
+      let z : at + 0 ≡ at = omega arith in
+      rw z
+      (getD-set-other three (at + 3) at b3 0 (λ e. omega arith) ∙ getD-set-other two (at + 2) at b2 0 (λ e. omega arith)
+      ∙ getD-set-other one (at + 1) at b1 0 (λ e. omega arith) ∙ getD-set-same before at b0 0 (omega arith) ∙ e0)
+  there (suc zero) l =
+      getD-set-other three (at + 3) (at + 1) b3 0 (λ e. omega arith) ∙ getD-set-other two (at + 2) (at + 1) b2 0 (λ e. omega arith)
+      ∙ getD-set-same one (at + 1) b1 0 (simp length-set (omega arith)) ∙ e1
+  there (suc (suc zero)) l =
+      let v : b2 ≡ number / 256 / 256 % 256 = omega arith in
+      getD-set-other three (at + 3) (at + 2) b3 0 (λ e. omega arith) ∙ getD-set-same two (at + 2) b2 0 (simp length-set (omega arith)) ∙ v
+  there (suc (suc (suc zero))) l =
+      let v : b3 ≡ number / 256 / 256 / 256 % 256 = omega arith in
+      getD-set-same three (at + 3) b3 0 (simp length-set (omega arith)) ∙ v
+  there (suc (suc (suc (suc j)))) l = absurd (omega arith)
+
+  pub written : NumberPut before at number after
+  written =
+      record {
+        long = simp length-set;
+        there = there;
+        else = λ j o.
+            ⊎-elim (λ l. other j (λ e. omega arith) (λ e. omega arith) (λ e. omega arith) (λ e. omega arith))
+            (λ l. other j (λ e. omega arith) (λ e. omega arith) (λ e. omega arith) (λ e. omega arith)) o;
+      }
