@@ -16,16 +16,15 @@ use Rattle.rules.specs.WellFormed.{WellFormed}
 use Rattle.rules.specs.Context.{Frame, frameOf, noState, nextState, leavesHandler}
 use Rattle.rules.specs.HeldLocks.{HeldLock, Core, current, releaseNewest, afterEvent, withState}
 use Rattle.rules.specs.Graph.{drawnBy}
-use Rattle.rules.specs.KindNames.{someKind}
 use Rattle.rules.specs.Verdict.{Refusal, noClass, noTransition, stillHeld, notHeld, tooDeep, countFull, refusalNumber, someLock}
 use Rattle.rules.specs.Run.{withRecord, State}
 use Rattle.validity.specs.Valid.{Valid}
-use Rattle.layout.specs.Layout.{frameCount, framesPerCore, acceptedAt, numberSize, sheetSize, seenSize, statesAt, frameNumber, classesOf, stateOf, depthOf, acceptedOf, KeepsPast}
+use Rattle.layout.specs.Layout.{frameCount, framesPerCore, acceptedAt, sheetSize, seenSize, statesAt, frameNumber, classesOf, stateOf, depthOf, acceptedOf, KeepsPast}
 use Rattle.layout.specs.Encoding.{DeskBytes, SheetBytes, SeenBytes, Encodes}
 use Rattle.layout.proofs.Buffers.{keeps-self}
-use Rattle.layout.proofs.Numbers.{value-of}
+use Rattle.layout.proofs.Numbers.{number-is}
 use Rattle.context.proofs.Frames.{frame-less}
-use Rattle.update.specs.Update.{FrameBytes, KeepsElse, SmallLocks, Pushed, Removed, drawnFrom, Drawn, Numbered, newestOf}
+use Rattle.update.specs.Update.{FrameBytes, KeepsElse, SmallLocks, Pushed, Removed, Drawn, Numbered, newestOf}
 use Rattle.update.proofs.Cores.{changed, frame-bytes, frame-changed, state-changed}
 use Rattle.update.proofs.Drawing.{same-dependencies}
 use Rattle.update.proofs.Numbering.{same-seen}
@@ -80,7 +79,7 @@ module _ (desk sheet seen bytes : List ℕ) (w : WellFormed bytes) (few : classe
     refuses-by ev e x h = refuses x (refusal-by K s bytes opened (w .formed) ev e ∙ ap (orFull (s .journal .accepted)) h)
 
     accepted-is : acceptedOf desk ≡ s .journal .accepted
-    accepted-is = value-of desk numberSize (s .journal .accepted) acceptedAt (let l = valid .journal .limit in omega arith) (enc .in-count)
+    accepted-is = number-is desk (s .journal .accepted) acceptedAt (valid .journal .limit) (enc .in-count)
 
     -- No other refusal applies, and the count is full.
     full-by : (ev : Event) → eventOf bytes ≡ ev → refusalBy K core ev ≡ none → leb maxAccepted (acceptedOf desk) ≡ true
@@ -153,15 +152,8 @@ module _ (desk sheet seen bytes : List ℕ) (w : WellFormed bytes) (few : classe
               (frame-changed (enc .in-desk) i (w .core) (now-less s o v enc) hs keeps
               (by-number s o v enc (λ m. FrameBytes desk′ m hs) (P .frame (current (s .cores i)) F)))
               (D .drawn (current (s .cores i)) F (small s o v enc) (s .graph .locks) (enc .in-sheet))
-              (subst
-              (λ (a : ℕ).
-              SeenBytes K
-              (λ f t.
-              cond (eqb (s .journal .seen f t) 0 && someKind (drawnFrom (current (s .cores i)) (classOf bytes) (modeOf bytes) f t)) (suc a) (s .journal .seen f t))
-              seen′)
-              (accepted-is s o v enc)
-              (M .numbered (current (s .cores i)) F (small s o v enc) (s .journal .seen)
-              (λ f t. let a = v .journal .at-most f t in let b = v .journal .limit in omega arith) (enc .in-seen)))
+              (M .numbered (current (s .cores i)) F (small s o v enc) (s .journal) (sym (accepted-is s o v enc))
+              (λ f t. let a = v .journal .at-most f t in let b = v .journal .limit in omega arith) (enc .in-seen))
               (keeps-past (frame-inside s o v enc) keeps) (D .keeps) (M .keeps);
         }
 

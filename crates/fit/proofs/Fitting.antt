@@ -373,7 +373,7 @@ module _ (desk sheet seen : List ℕ) (some : 1 ≤ classesOf desk) (few : class
       ap₂ (λ (d : Dependencies) (m : Marks). record { locks = d; marks = m })
       (fun-ext (λ f. fun-ext (λ t. fun-ext (locks-are f t)))) (fun-ext (λ c. fun-ext (λ l. fun-ext (marks-are c l)))) in
       ap₂ (λ (b : Bool) (j : Journal). record { is-closed = b; cores = viewCores desk; graph = viewGraph desk sheet; journal = j }) closed
-      (journal-is desk seen (s .graph) (s .journal) (v .graph) (v .journal) (e .in-count) (e .in-seen))
+      (journal-is desk seen (s .graph .locks) (s .journal) (v .journal) (e .in-count) (e .in-seen) (v .graph .locks-in-range))
       ∙ ap₂ (λ (c : ℕ → Core) (g : Graph). record { is-closed = s .is-closed; cores = c; graph = g; journal = s .journal }) (fun-ext core-is) graph
 
   all-facts : Facts desk sheet
@@ -410,7 +410,7 @@ module _ (desk sheet seen : List ℕ) (some : 1 ≤ classesOf desk) (few : class
       }
 
   number-fact : NumberFacts desk sheet seen
-  number-fact = encoded-numbers desk sheet seen some (s .graph .locks) (s .journal) (v .journal) (e .in-count) (e .in-sheet) (e .in-seen)
+  number-fact = encoded-numbers desk seen (s .graph .locks) (s .journal) (v .journal) (e .in-count) (e .in-seen) sheet some (e .in-sheet)
 
 -- What encodes a valid state stands for it.
 stands-at : {s : State} {desk sheet seen : List ℕ} → 1 ≤ classesOf desk → classesOf desk ≤ maxClasses → Valid (classesOf desk) s

@@ -8,7 +8,7 @@ use lib.Dec.{ltb, eqb}
 use lib.ListN.{getD}
 use borrow.Author.Tests.{ltb-true, eqb-true, lt-ltb}
 use Rattle.words.specs.Bits.{flag}
-use Rattle.rules.specs.Graph.{Kind, Dependencies, Graph}
+use Rattle.rules.specs.Graph.{Kind, Dependencies}
 use Rattle.rules.specs.KindNames.{ER, EN, SR, SN, someKind}
 use Rattle.rules.specs.Run.{Journal}
 use Rattle.rules.proofs.Booleans.{and-cases, and-both}
@@ -16,8 +16,8 @@ use Rattle.layout.specs.Layout.{acceptedAt, numberSize, seenSize, classesOf, ki
 use Rattle.layout.specs.Encoding.{kindByte, NumberBytes, SheetBytes, SeenBytes}
 use Rattle.layout.specs.Decoding.{viewLocks, viewJournal}
 use Rattle.layout.proofs.Buffers.{cell-inside}
-use Rattle.layout.proofs.Numbers.{value-of, bytes-of}
-use Rattle.validity.specs.Valid.{ValidGraph, ValidJournal}
+use Rattle.layout.proofs.Numbers.{bytes-of, number-is}
+use Rattle.validity.specs.Valid.{ValidJournal}
 use Rattle.fit.proofs.Places.{by-pair}
 use Rattle.fit.proofs.Facts.{NumberFacts}
 
@@ -93,65 +93,51 @@ module _ (desk sheet seen : List ℕ) (n : NumberFacts desk sheet seen) where
 
 -- ---- And back.
 
-module _ (desk seen : List ℕ) (g : Graph) (j : Journal) (vg : ValidGraph (classesOf desk) g) (v : ValidJournal (g .locks) j)
-    (count : NumberBytes (j .accepted) desk acceptedAt) (numbers : SeenBytes (classesOf desk) (j .seen) seen) where
-  small : (f t : ℕ) → j .seen f t < 256 ^ numberSize
-  small f t = let a = v .at-most f t in let b = v .limit in omega arith
-
-  number-is : (f t : ℕ) → f < classesOf desk → t < classesOf desk → numberOf seen (classesOf desk) f t ≡ j .seen f t
-  number-is f t l h = value-of seen numberSize (j .seen f t) (numberSize * (f * classesOf desk + t)) (small f t) (numbers .numbers f t l h)
+module _ (desk seen : List ℕ) (locks : Dependencies) (j : Journal) (v : ValidJournal locks j) (count : NumberBytes (j .accepted) desk acceptedAt)
+    (numbers : SeenBytes (classesOf desk) (j .seen) seen) where
+  pair-is : (f t : ℕ) → f < classesOf desk → t < classesOf desk → numberOf seen (classesOf desk) f t ≡ j .seen f t
+  pair-is f t l h =
+      number-is seen (j .seen f t) (numberSize * (f * classesOf desk + t)) (let a = v .at-most f t in let b = v .limit in omega arith) (numbers .numbers f t l h)
 
   accepted-is : acceptedOf desk ≡ j .accepted
-  accepted-is = value-of desk numberSize (j .accepted) acceptedAt (let b = v .limit in omega arith) count
+  accepted-is = number-is desk (j .accepted) acceptedAt (v .limit) count
 
   -- A pair outside has no lock dependency, so no number.
-  nothing-outside : (f t : ℕ) → inside (classesOf desk) f t ≡ false → j .seen f t ≡ 0
-  nothing-outside f t h = eqb-true (j .seen f t) 0 (v .numbered f t ∙ none (g .locks f t ER) refl (g .locks f t EN) refl (g .locks f t SR) refl (g .locks f t SN) refl)
-    where
-      barred : (k : Kind) → g .locks f t k ≡ true → ⊥
-      barred k q =
-          let r = vg .locks-in-range f t k q in
-          false≢true (sym h ∙ and-both (lt-ltb f (classesOf desk) (r .0)) (lt-ltb t (classesOf desk) (r .1)))
+  module _ (in-range : (f t : ℕ) (k : Kind) → locks f t k ≡ true → (f < classesOf desk) × (t < classesOf desk)) where
+    nothing-outside : (f t : ℕ) → inside (classesOf desk) f t ≡ false → j .seen f t ≡ 0
+    nothing-outside f t h = eqb-true (j .seen f t) 0 (v .numbered f t ∙ none (locks f t ER) refl (locks f t EN) refl (locks f t SR) refl (locks f t SN) refl)
+      where
+        barred : (k : Kind) → locks f t k ≡ true → ⊥
+        barred k q =
+            let r = in-range f t k q in
+            false≢true (sym h ∙ and-both (lt-ltb f (classesOf desk) (r .0)) (lt-ltb t (classesOf desk) (r .1)))
 
-      none : (a : Bool) → g .locks f t ER ≡ a → (b : Bool) → g .locks f t EN ≡ b → (c : Bool) → g .locks f t SR ≡ c → (d : Bool) → g .locks f t SN ≡ d
-          → not (someKind (g .locks f t)) ≡ true
-      none true e b p c q d r = absurd (barred ER e)
-      none false e true p c q d r = absurd (barred EN p)
-      none false e false p true q d r = absurd (barred SR q)
-      none false e false p false q true r = absurd (barred SN r)
-      none false e false p false q false r = rw (e, p, q, r) refl
+        none : (a : Bool) → locks f t ER ≡ a → (b : Bool) → locks f t EN ≡ b → (c : Bool) → locks f t SR ≡ c → (d : Bool) → locks f t SN ≡ d
+            → not (someKind (locks f t)) ≡ true
+        none true e b p c q d r = absurd (barred ER e)
+        none false e true p c q d r = absurd (barred EN p)
+        none false e false p true q d r = absurd (barred SR q)
+        none false e false p false q true r = absurd (barred SN r)
+        none false e false p false q false r = rw (e, p, q, r) refl
 
-  pub journal-is : viewJournal desk seen ≡ j
-  journal-is =
-      ap₂ (λ (a : ℕ) (s : ℕ → ℕ → ℕ). record { accepted = a; seen = s }) accepted-is
-      (fun-ext (λ f. fun-ext (λ t. by f t (inside (classesOf desk) f t) refl)))
-    where
-      by : (f t : ℕ) (b : Bool) → inside (classesOf desk) f t ≡ b → cond b (numberOf seen (classesOf desk) f t) 0 ≡ j .seen f t
-      by f t true h = let l = both-less (classesOf desk) f t h in number-is f t (l .0) (l .1)
-      by f t false h = sym (nothing-outside f t h)
+    pub journal-is : viewJournal desk seen ≡ j
+    journal-is =
+        ap₂ (λ (a : ℕ) (s : ℕ → ℕ → ℕ). record { accepted = a; seen = s }) accepted-is
+        (fun-ext (λ f. fun-ext (λ t. by f t (inside (classesOf desk) f t) refl)))
+      where
+        by : (f t : ℕ) (b : Bool) → inside (classesOf desk) f t ≡ b → cond b (numberOf seen (classesOf desk) f t) 0 ≡ j .seen f t
+        by f t true h = let l = both-less (classesOf desk) f t h in pair-is f t (l .0) (l .1)
+        by f t false h = sym (nothing-outside f t h)
 
-pub encoded-numbers : (desk sheet seen : List ℕ) → 1 ≤ classesOf desk → (locks : Dependencies) (j : Journal) → ValidJournal locks j
-    → NumberBytes (j .accepted) desk acceptedAt → SheetBytes (classesOf desk) locks sheet → SeenBytes (classesOf desk) (j .seen) seen
-    → NumberFacts desk sheet seen
-encoded-numbers desk sheet seen some locks j v count kinds numbers =
-    record {
-      long = numbers .long;
-      at-most = by-pair K some (λ i. pairNumber seen i ≤ acceptedOf desk) (λ f t l h. rw (value f t l h, accepted) (v .at-most f t));
-      numbered = by-pair K some (λ i. eqb (pairNumber seen i) 0 ≡ eqb (getD sheet i 0) 0)
-          (λ f t l h.
-          ap (λ (x : ℕ). eqb x 0) (value f t l h)
-          ∙ v .numbered f t
-          ∙ sym (kinds-none locks f t)
-          ∙ ap (λ (x : ℕ). eqb x 0) (sym (kinds .kinds f t l h)));
-    }
-  where
-    K : ℕ
-    K = classesOf desk
-
-    value : (f t : ℕ) → f < classesOf desk → t < classesOf desk → numberOf seen (classesOf desk) f t ≡ j .seen f t
-    value f t l h =
-        value-of seen numberSize (j .seen f t) (numberSize * (f * classesOf desk + t)) (let a = v .at-most f t in let b = v .limit in omega arith)
-        (numbers .numbers f t l h)
-
-    accepted : acceptedOf desk ≡ j .accepted
-    accepted = value-of desk numberSize (j .accepted) acceptedAt (let b = v .limit in omega arith) count
+  pub encoded-numbers : (sheet : List ℕ) → 1 ≤ classesOf desk → SheetBytes (classesOf desk) locks sheet → NumberFacts desk sheet seen
+  encoded-numbers sheet some kinds =
+      record {
+        long = numbers .long;
+        at-most = by-pair (classesOf desk) some (λ i. pairNumber seen i ≤ acceptedOf desk) (λ f t l h. rw (pair-is f t l h, accepted-is) (v .at-most f t));
+        numbered = by-pair (classesOf desk) some (λ i. eqb (pairNumber seen i) 0 ≡ eqb (getD sheet i 0) 0)
+            (λ f t l h.
+            ap (λ (x : ℕ). eqb x 0) (pair-is f t l h)
+            ∙ v .numbered f t
+            ∙ sym (kinds-none locks f t)
+            ∙ ap (λ (x : ℕ). eqb x 0) (sym (kinds .kinds f t l h)));
+      }

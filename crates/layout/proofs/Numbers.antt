@@ -1,11 +1,14 @@
 -- Numbers and their bytes, by the width. Assumes nothing.
 use mathlib.Core.Path.{_≡_, refl, sym, ap, _∙_}
 use mathlib.Core.List.{List}
-use Prim.Native.Nat.{ℕ, zero, suc, _+_, _*_, _/_, _%_, _^_, _<_}
+use Prim.Native.Nat.{ℕ, zero, suc, _+_, _*_, _/_, _%_, _^_, _<_, _≤_}
 use native.Mathlib.Nat.{not-suc-le-zero}
 use native.Mathlib.Omega.{arith}
 use lib.ListN.{getD}
+use Rattle.rules.specs.Limits.{maxAccepted}
 use Rattle.layout.specs.Number.{lowFirst, bytesOf}
+use Rattle.layout.specs.Layout.{numberSize}
+use Rattle.layout.specs.Encoding.{NumberBytes}
 
 module _ (buffer : List ℕ) where
   -- The bytes from a place on are those of the number.
@@ -65,3 +68,7 @@ same-value (suc n) x y at h =
     let b : getD x at 0 ≡ getD y at 0 = rw z at (h 0 (omega arith)) in
     let r = same-value n x y (suc at) (λ j l. let e : suc at + j ≡ at + suc j = omega arith in rw e (h (suc j) (omega arith))) in
     omega arith
+
+-- Four bytes hold every number up to the most records that are accepted.
+pub number-is : (buffer : List ℕ) (n at : ℕ) → n ≤ maxAccepted → NumberBytes n buffer at → lowFirst numberSize buffer at ≡ n
+number-is buffer n at l h = value-of buffer numberSize n at (omega arith) h

@@ -17,6 +17,7 @@ use Rattle.rules.specs.CycleDecision.{isCycle, leastCycle}
 use Rattle.rules.specs.Run.{State, start, answers, run, graphAt}
 use Rattle.rules.proofs.Booleans.{and-cases}
 use Rattle.rules.proofs.Quick.{quickly, quickly-same}
+use Rattle.rules.proofs.FewClasses.{classesNamed, allNamed, few-answers}
 use Rattle.rules.specs.Examples.{exclusive, read, recursive, tryExclusive, lockOf, NumberCase, numberCase, numberCases, LimitCase, limitCase, limitCases, DrawnCase, drawnCase, drawnCases, MarkCase, markCase, markCases, Example, cycleCases, CycleCase, cycleCase, table, tries, example, p2, p6, allClean, endsWith, faultAt, takes, frees, does, says}
 
 abbrev sameNumbers : List ℕ → List ℕ → Bool
@@ -37,10 +38,11 @@ T-true : (b : Bool) → T b → b ≡ true
 T-true true t = refl
 T-true false t = absurd t
 
--- What is computed is one test over `quickly`, which is `answers`: where it fails, that is told at once.
+-- What is computed is one test over `quickly`, which is `answers`, at as few classes as the log names: where it fails, that is told at once.
 abbrev allGiven : ℕ → List Example → Bool
 allGiven K [] = true
-allGiven K (e ∷ es) = sameNumbers (quickly K start (e .log)) (e .given) && allGiven K es
+allGiven K (e ∷ es) =
+    (allNamed (classesNamed K (e .log)) K (e .log) && sameNumbers (quickly (classesNamed K (e .log)) start (e .log)) (e .given)) && allGiven K es
 
 computed : (K : ℕ) (es : List Example) → T (allGiven K es) → map (λ (e : Example). answers K start (e .log)) es ≡ map (λ (e : Example). e .given) es
 computed K es t = by es (T-true (allGiven K es) t)
@@ -48,8 +50,10 @@ computed K es t = by es (T-true (allGiven K es) t)
     by : (es : List Example) → allGiven K es ≡ true → map (λ (e : Example). answers K start (e .log)) es ≡ map (λ (e : Example). e .given) es
     by [] h = refl
     by (e ∷ es) h =
-        let p = and-cases (sameNumbers (quickly K start (e .log)) (e .given)) (allGiven K es) h in
-        ap₂ _∷_ (sym (quickly-same K start (e .log)) ∙ same-numbers _ _ (p .0)) (by es (p .1))
+        let n = classesNamed K (e .log) in
+        let p = and-cases (allNamed n K (e .log) && sameNumbers (quickly n start (e .log)) (e .given)) (allGiven K es) h in
+        let q = and-cases (allNamed n K (e .log)) (sameNumbers (quickly n start (e .log)) (e .given)) (p .0) in
+        ap₂ _∷_ (few-answers n K (e .log) (q .0) ∙ sym (quickly-same n start (e .log)) ∙ same-numbers _ _ (q .1)) (by es (p .1))
 
 quick-table : T (allGiven 8 table)
 unfolding table example p2 p6 allClean endsWith faultAt takes frees does says isMalformed refusal dependency cyclic

@@ -14,4 +14,5 @@ pub mod CycleExists
 pub mod Ranks
 pub mod LeastCycles
 pub mod Quick
+pub mod FewClasses
 pub mod Examples

@@ -12,14 +12,16 @@ use lib.ListN.{length, getD, take}
 use borrow.Author.Tests.{le-leb, lt-leb, eq-eqb, ne-eqb, eqb-true}
 use Rattle.rules.specs.Limits.{maxDepth, maxAccepted, heldModes}
 use Rattle.rules.specs.HeldLocks.{First, E, S, Second, R, N, sameFirst, sameSecond, HeldLock, firstOf, secondBy, someHeld, isHeld}
+use Rattle.rules.specs.Graph.{Dependencies}
 use Rattle.rules.specs.KindNames.{someKind}
+use Rattle.rules.specs.Run.{Journal, withRecord}
 use Rattle.rules.proofs.Journals.{suc-not-zero}
 use Rattle.layout.specs.Layout.{numberSize, seenSize, heldOf, depthOf, acceptedOf, KeepsPast}
 use Rattle.layout.specs.Number.{lowFirst}
 use Rattle.layout.specs.Encoding.{NumberBytes, SeenBytes}
 use Rattle.layout.proofs.Buffers.{cell-inside, cell-apart, keeps-self}
 use Rattle.layout.proofs.Held.{unheld}
-use Rattle.layout.proofs.Numbers.{value-of}
+use Rattle.layout.proofs.Numbers.{number-is}
 use Rattle.numbers.specs.Numbers.{NumberPut}
 use Rattle.update.specs.Update.{FrameBytes, SmallLocks, drawnFrom, Numbered}
 use Rattle.update.proofs.Prefixes.{one-more, all-places, lock-at}
@@ -102,14 +104,21 @@ pub record Numbering (desk : List ℕ) (K n class : ℕ) (before : List ℕ) (p 
       → SeenBytes K seen before
       → SeenBytes K (λ f t. cond (eqb (seen f t) 0 && (eqb t class && isHeld f (take p hs))) (suc (acceptedOf desk)) (seen f t)) now
 
+-- The count is that of the journal.
+by-journal : (desk buffer : List ℕ) (K : ℕ) (d : Dependencies) (j : Journal) → j .accepted ≡ acceptedOf desk
+    → SeenBytes K (λ f t. cond (eqb (j .seen f t) 0 && someKind (d f t)) (suc (acceptedOf desk)) (j .seen f t)) buffer
+    → SeenBytes K (withRecord d j .seen) buffer
+by-journal desk buffer K d j e b =
+    subst (λ (n : ℕ). SeenBytes K (λ f t. cond (eqb (j .seen f t) 0 && someKind (d f t)) (suc n) (j .seen f t)) buffer) (sym e) b
+
 -- A try gives no number.
 pub numbered-none : (desk : List ℕ) (K n class mode : ℕ) (seen : List ℕ) → heldModes ≤ mode → Numbered desk K n class mode seen seen
 numbered-none desk K n class mode buffer l =
     record {
       keeps = keeps-self (seenSize K) buffer;
-      numbered = λ hs F small seen most b.
-          same-seen seen (λ f t. cond (eqb (seen f t) 0 && someKind (drawnFrom hs class mode f t)) (suc (acceptedOf desk)) (seen f t))
-          (λ f t. sym (rw (le-leb heldModes mode l, and-false (eqb (seen f t) 0)) refl)) b;
+      numbered = λ hs F small j e most b.
+          same-seen (j .seen) (withRecord (drawnFrom hs class mode) j .seen)
+          (λ f t. sym (rw (le-leb heldModes mode l, and-false (eqb (j .seen f t) 0)) refl)) b;
     }
 
 module _ (desk : List ℕ) (K n class : ℕ) (before : List ℕ) where
@@ -165,17 +174,17 @@ module _ (desk : List ℕ) (K n class : ℕ) (before : List ℕ) where
           one-pair (seen f t) (acceptedOf desk) (eqb (seen f t) 0) refl (eqb f held-class) (eqb t class) (isHeld f (take p hs))
           ∙ ap (λ (x : Bool). cond (eqb (seen f t) 0 && (eqb t class && x)) (suc (acceptedOf desk)) (seen f t)) (sym (one-more f (λ h. true) hs p inside))
 
-      sofar-small : (f t : ℕ) → sofar f t < 256 ^ numberSize
+      sofar-small : (f t : ℕ) → sofar f t ≤ maxAccepted
       sofar-small f t = by (eqb (seen f t) 0 && (eqb t class && isHeld f (take p hs)))
         where
-          by : (x : Bool) → cond x (suc (acceptedOf desk)) (seen f t) < 256 ^ numberSize
+          by : (x : Bool) → cond x (suc (acceptedOf desk)) (seen f t) ≤ maxAccepted
           by true = omega arith
-          by false = let h = most f t in omega arith
+          by false = most f t
 
       stands : lowFirst numberSize now cell ≡ sofar held-class class
       stands =
           subst (λ (c : ℕ). lowFirst numberSize now (numberSize * (c * K + class)) ≡ sofar held-class class) (sym class-is)
-          (value-of now numberSize (sofar held-class class) (numberSize * (held-class * K + class)) (sofar-small held-class class)
+          (number-is now (sofar held-class class) (numberSize * (held-class * K + class)) (sofar-small held-class class)
           (D .numbered hs F small seen most b .numbers held-class class (rw class-is at lh) lc))
 
       -- The pair at the place, and any other.
@@ -236,9 +245,11 @@ module _ (desk : List ℕ) (K n class : ℕ) (before : List ℕ) where
   numbering-done mode waits d now D e =
       record {
         keeps = D .keeps;
-        numbered = λ hs F small seen most b.
-            same-seen (λ f t. cond (eqb (seen f t) 0 && (eqb t class && isHeld f hs)) (suc (acceptedOf desk)) (seen f t)) _
-            (λ f t. ap (λ (x : Bool). cond (eqb (seen f t) 0 && x) (suc (acceptedOf desk)) (seen f t)) (sym (some-drawn hs class mode f t waits)))
-            (subst (λ (l : List HeldLock). SeenBytes K (λ f t. cond (eqb (seen f t) 0 && (eqb t class && isHeld f l)) (suc (acceptedOf desk)) (seen f t)) now)
-            (ap (λ (i : ℕ). take i hs) (e ∙ F .depth) ∙ all-places hs) (D .numbered hs F small seen most b));
+        numbered = λ hs F small j c most b.
+            by-journal desk now K (drawnFrom hs class mode) j c
+            (same-seen (λ f t. cond (eqb (j .seen f t) 0 && (eqb t class && isHeld f hs)) (suc (acceptedOf desk)) (j .seen f t)) _
+            (λ f t. ap (λ (x : Bool). cond (eqb (j .seen f t) 0 && x) (suc (acceptedOf desk)) (j .seen f t)) (sym (some-drawn hs class mode f t waits)))
+            (subst
+            (λ (l : List HeldLock). SeenBytes K (λ f t. cond (eqb (j .seen f t) 0 && (eqb t class && isHeld f l)) (suc (acceptedOf desk)) (j .seen f t)) now)
+            (ap (λ (i : ℕ). take i hs) (e ∙ F .depth) ∙ all-places hs) (D .numbered hs F small (j .seen) most b)));
       }

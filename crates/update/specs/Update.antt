@@ -10,7 +10,7 @@ use Rattle.rules.specs.Limits.{maxClasses, maxDepth, maxAccepted, heldModes, mo
 use Rattle.rules.specs.HeldLocks.{HeldLock, isTry, sameFirst, sameSecond, firstOf, secondBy, someHeld}
 use Rattle.rules.specs.Marks.{Marks, setIn, letterFits}
 use Rattle.rules.specs.Graph.{Dependencies}
-use Rattle.rules.specs.KindNames.{someKind}
+use Rattle.rules.specs.Run.{Journal, withRecord}
 use Rattle.layout.specs.Layout.{frameCount, depthsAt, marksAt, heldAt, originsAt, acceptedAt, deskSize, seenSize, depthOf, markOf, heldOf, originBit, originOf, acceptedOf, KeepsPast}
 use Rattle.layout.specs.Encoding.{markByte, heldByteAt, originAt, EightBits, SheetBytes, SeenBytes}
 
@@ -91,12 +91,11 @@ pub record Drawn (desk : List ℕ) (K n class mode : ℕ) (before after : List �
   pub drawn : (hs : List HeldLock) → FrameBytes desk n hs → SmallLocks hs → (locks : Dependencies) → SheetBytes K locks before
       → SheetBytes K (λ f t k. locks f t k || drawnFrom hs class mode f t k) after
 
--- The pairs at which an acquire draws, and that have no number yet, get the next record's.
+-- The pairs at which an acquire draws get numbers as `withRecord` of the rules gives them.
 pub record Numbered (desk : List ℕ) (K n class mode : ℕ) (before after : List ℕ) : Type 0 where
   pub keeps : KeepsPast (seenSize K) before after
-  pub numbered : (hs : List HeldLock) → FrameBytes desk n hs → SmallLocks hs → (seen : ℕ → ℕ → ℕ) → ((f t : ℕ) → seen f t ≤ maxAccepted)
-      → SeenBytes K seen before
-      → SeenBytes K (λ f t. cond (eqb (seen f t) 0 && someKind (drawnFrom hs class mode f t)) (suc (acceptedOf desk)) (seen f t)) after
+  pub numbered : (hs : List HeldLock) → FrameBytes desk n hs → SmallLocks hs → (j : Journal) → j .accepted ≡ acceptedOf desk
+      → ((f t : ℕ) → j .seen f t ≤ maxAccepted) → SeenBytes K (j .seen) before → SeenBytes K (withRecord (drawnFrom hs class mode) j .seen) after
 
 pub record MarkBytes (desk : List ℕ) (marks : Marks) : Type 0 where
   pub usage : (c : ℕ) → c < maxClasses → markOf desk c ≡ markByte marks c

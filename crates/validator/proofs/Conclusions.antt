@@ -22,7 +22,7 @@ use Rattle.layout.specs.Layout.{acceptedAt, numberSize, closedAt, frameNumber, 
 use Rattle.layout.specs.Number.{bytesOf}
 use Rattle.layout.specs.Decoding.{numberBy, entrySeen, SlipBytes}
 use Rattle.layout.specs.Slip.{nextPlace}
-use Rattle.layout.proofs.Numbers.{value-of}
+use Rattle.layout.proofs.Numbers.{number-is}
 use Rattle.layout.proofs.Slips.{next-below}
 use Rattle.layout.specs.Encoding.{DeskBytes, SheetBytes, SeenBytes}
 use Rattle.context.proofs.Frames.{frame-less}
@@ -56,7 +56,7 @@ entry-number K seen numbers es c b most i l =
     let from = entryAt es i .class in
     let to = following es i .class in
     ap (numberBy (sourceNumber (entryAt es i .source)))
-    (value-of seen numberSize (numbers from to) (numberSize * (from * K + to)) (let h = most from to in omega arith)
+    (number-is seen (numbers from to) (numberSize * (from * K + to)) (most from to)
     (b .numbers from to (c .in-range i l) (c .in-range (nextPlace (length es) i) (next-below (length es) i l))))
 
 module _ (desk sheet seen slip : List ℕ) (core : ℕ) (few : classesOf desk ≤ maxClasses) (lc : core < coreCount)

@@ -25,7 +25,7 @@ use Rattle.layout.specs.Encoding.{DeskBytes, SheetBytes, NumberBytes, SeenBytes
 use Rattle.layout.specs.Decoding.{view, StandFor}
 use Rattle.layout.specs.Fit.{fits, fitsAll}
 use Rattle.layout.proofs.Buffers.{keeps-self, keeps-both, keeps-more}
-use Rattle.layout.proofs.Numbers.{value-of, same-value}
+use Rattle.layout.proofs.Numbers.{number-is, same-value}
 use Rattle.numbers.specs.Numbers.{NumberPut}
 use Rattle.update.proofs.Cores.{count-changed}
 use Rattle.fit.proofs.Facts.{facts}
@@ -160,7 +160,7 @@ module _ (desk sheet seen slip bytes : List ℕ) where
         same-count : acceptedOf desk′ ≡ s .journal .accepted
         same-count =
             same-value numberSize desk′ desk acceptedAt (λ j l. p .keeps-desk .past (acceptedAt + j) (omega arith))
-            ∙ value-of desk numberSize (s .journal .accepted) acceptedAt (let l = v .journal .limit in omega arith) (enc .in-count)
+            ∙ number-is desk (s .journal .accepted) acceptedAt (v .journal .limit) (enc .in-count)
 
         counted-bytes : DeskBytes K (s .is-closed) (accept s bytes .cores) (s .graph .marks) counted
         counted-bytes = count-changed (p .in-desk) P
