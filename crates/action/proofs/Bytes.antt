@@ -11,9 +11,9 @@ use Rattle.validity.specs.Valid.{ValidLock, ValidCore}
 use Rattle.layout.specs.Layout.{frameCount, frameNumber, classesOf, stateOf, depthOf}
 use Rattle.context.proofs.Frames.{frame-less}
 use Rattle.layout.proofs.Held.{unheld}
-use Rattle.update.specs.Update.{FrameBytes, SmallLocks, HeldIn, newestOf}
-use Rattle.update.proofs.Prefixes.{Lock, lock-at}
-use Rattle.update.proofs.Releases.{found-at, newest-is}
+use Rattle.held.specs.Frames.{FrameBytes, SmallLocks, HeldIn, newestOf}
+use Rattle.held.proofs.Prefixes.{Lock, lock-at}
+use Rattle.held.proofs.Releases.{found-at, newest-is}
 use Rattle.update.proofs.Cores.{frame-bytes}
 use Rattle.action.specs.Action.{Cored}
 

@@ -24,11 +24,13 @@ use Rattle.layout.specs.Encoding.{DeskBytes, SheetBytes, SeenBytes, Encodes}
 use Rattle.layout.proofs.Buffers.{keeps-self}
 use Rattle.layout.proofs.Numbers.{number-is}
 use Rattle.context.proofs.Frames.{frame-less}
-use Rattle.update.specs.Update.{FrameBytes, KeepsElse, SmallLocks, Pushed, Removed, Drawn, Numbered, newestOf}
+use Rattle.held.specs.Frames.{FrameBytes, KeepsElse, SmallLocks, Pushed, Removed, newestOf}
+use Rattle.update.specs.Update.{Drawn}
+use Rattle.numbering.specs.Numbering.{Numbered}
 use Rattle.update.proofs.Cores.{changed, frame-bytes, frame-changed, state-changed}
 use Rattle.update.proofs.Drawing.{same-dependencies}
-use Rattle.update.proofs.Numbering.{same-seen}
-use Rattle.update.proofs.Releases.{NewestCases, not-found, found-at, newest-is}
+use Rattle.numbering.proofs.Numbering.{same-seen}
+use Rattle.held.proofs.Releases.{NewestCases, not-found, found-at, newest-is}
 use Rattle.action.specs.Action.{ActedOn, refuses, accepts, Acted}
 use Rattle.action.proofs.Refusals.{refusalBy, orFull, refusal-by}
 use Rattle.action.proofs.Bytes.{small-locks}

@@ -11,8 +11,9 @@ use lib.Seq.{take-add}
 use Rattle.rules.specs.Log.{unitSize}
 use Rattle.validator.specs.Calls.{Buffers}
 use Rattle.progress.specs.Feed.{Feed, unitBegun, withPart}
-use Rattle.feed.specs.Fed.{UnitValidated, header, a-record, Fed, stopped, kept, completed}
-use Rattle.feed.specs.Parts.{PartTaken, not-yet, complete}
+use Rattle.unit.specs.Units.{UnitValidated, header, a-record}
+use Rattle.feed.specs.Fed.{Fed, stopped, kept, completed}
+use Rattle.unit.specs.Parts.{PartTaken, not-yet, complete}
 
 pub some-unit : (opened : Bool) → 0 < unitSize opened
 some-unit true = omega arith

@@ -1,26 +1,14 @@
 -- Document 02, b: what becomes of a feed and of the lent buffers when it takes bytes, and at the end of the log.
 use mathlib.Core.Path.{_≡_}
-use mathlib.Core.Bool.{Bool, true, false, cond}
+use mathlib.Core.Bool.{true, false}
 use mathlib.Core.List.{List, [], _++_}
-use Prim.Native.Nat.{ℕ, suc, _-_, _^_, _<_}
-use lib.Dec.{ltb, eqb}
+use Prim.Native.Nat.{ℕ, _<_}
 use lib.ListN.{length}
 use Rattle.rules.specs.Verdict.{badOpening}
-use Rattle.rules.specs.Log.{headerClasses, unitSize}
-use Rattle.opening.specs.Open.{Opened}
-use Rattle.validator.specs.Calls.{Buffers, Called}
+use Rattle.rules.specs.Log.{unitSize}
+use Rattle.validator.specs.Calls.{Buffers}
 use Rattle.progress.specs.Feed.{Feed, unitBegun, withPart}
-
--- One record more. The number would pass 2 to the 64 only in a log of more bytes than that; it stays there.
-unfoldable pub more : ℕ → ℕ
-more n = cond (ltb n (2 ^ 64 - 1)) (suc n) n
-
--- A unit is validated: the header opens desk and sheets, or is refused with 2; a record is handed to the step and counted.
-pub data UnitValidated (opened : Bool) (number : ℕ) (b : Buffers) (unit : List ℕ) : Feed → Buffers → Type 0 where
-  header : {answer : ℕ} {b′ : Buffers} → opened ≡ false → Opened (headerClasses unit) (b .desk) (b .sheet) (b .seen) answer (b′ .desk) (b′ .sheet) (b′ .seen)
-      → b′ .slip ≡ b .slip → UnitValidated opened number b unit (unitBegun answer (eqb answer 0) number) b′
-  a-record : {answer : ℕ} {b′ : Buffers} → opened ≡ true → Called b unit answer b′
-      → UnitValidated opened number b unit (unitBegun answer true (more number)) b′
+use Rattle.unit.specs.Units.{UnitValidated}
 
 -- "Header and records are judged when complete": bytes that do not complete the unit are kept; else it is validated and the bytes behind it are taken.
 -- "Once an answer but 0 has come, further pieces change nothing."

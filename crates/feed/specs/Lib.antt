@@ -1,3 +1,2 @@
 pub mod Fed
-pub mod Parts
 pub mod Calls

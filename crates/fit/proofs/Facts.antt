@@ -14,7 +14,7 @@ use Rattle.rules.specs.Context.{hardOverSoft, soft, hard, mayHoldSoft, mayHoldH
 use Rattle.rules.proofs.Booleans.{or-cases, or-left, or-right, and-cases, and-both}
 use Rattle.layout.specs.Layout.{frameCount, placeCount, deskSize, sheetSize, seenSize, frameNumber, classesOf, closedOf, stateOf, depthOf, markOf, heldOf, originBit, acceptedOf, pairNumber}
 use Rattle.layout.specs.Fit.{allBelow, classesFit, coreFits, heldFits, frameFits, originFits, markFits, kindsFit, graphFits, numberFits, numbersFit, fits}
-use Rattle.fit.proofs.AllBelow.{all-at, all-of}
+use Rattle.layout.proofs.AllBelow.{all-at, all-of}
 
 pub record CoreFacts (desk : List ℕ) (i : ℕ) : Type 0 where
   pub states : stateOf desk i ≤ hardOverSoft

@@ -1,6 +1,3 @@
-pub mod AllBelow
-pub mod Origins
-pub mod MarkTests
 pub mod Facts
 pub mod Places
 pub mod Journals

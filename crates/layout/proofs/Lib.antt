@@ -3,3 +3,4 @@ pub mod Buffers
 pub mod Held
 pub mod Numbers
 pub mod Slips
+pub mod AllBelow

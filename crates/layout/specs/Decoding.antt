@@ -12,9 +12,10 @@ use Rattle.rules.specs.Marks.{Marks, markBit}
 use Rattle.rules.specs.Graph.{Dependencies, kindBit, Graph, sourceNumber}
 use Rattle.rules.specs.Decision.{tabulate}
 use Rattle.rules.specs.Cycle.{Entry, entryBytes, entryAt, following}
+use Rattle.rules.specs.LeastCycle.{LeastCycle}
 use Rattle.rules.specs.Run.{Journal, State}
 use Rattle.layout.specs.Fit.{fits}
-use Rattle.layout.specs.Layout.{framesPerCore, frameNumber, numberSize, deskSize, seenSize, entriesAt, entrySize, classesOf, closedOf, stateOf, depthOf, markOf, heldOf, originOf, kindsOf, acceptedOf, numberOf, countOf, AreBytes}
+use Rattle.layout.specs.Layout.{framesPerCore, frameNumber, numberSize, deskSize, seenSize, slipSize, entriesAt, entrySize, classesOf, closedOf, stateOf, depthOf, markOf, heldOf, originOf, kindsOf, acceptedOf, numberOf, countOf, AreBytes, KeepsPast}
 use Rattle.layout.specs.Number.{bytesOf}
 
 -- "each class + 64 x mode", and the origin, "1 for a try"
@@ -78,3 +79,11 @@ pub record SlipBytes (seen : ℕ → ℕ → ℕ) (es : List Entry) (slip : List
   pub count : countOf slip ≡ length es
   pub entries : (i j : ℕ) → i < length es → j < entrySize
       → getD slip (entriesAt + entrySize * i + j) 0 ≡ getD (entryBytes (entryAt es i) ++ bytesOf numberSize (entrySeen seen es i)) j 0
+
+-- With a fault: the least cycle of the graph stands in the slip's first bytes, with the number of each pair, and the bytes past them stay. There is one
+-- such cycle only (crates/rules/proofs/LeastCycles.antt), so every byte of the slip is settled.
+pub record Reported (K : ℕ) (g : Graph) (numbers : ℕ → ℕ → ℕ) (slip slip′ : List ℕ) : Type 0 where
+  pub entries : List Entry
+  pub least : LeastCycle K g entries
+  pub bytes : SlipBytes numbers entries slip′
+  pub keeps : KeepsPast (slipSize (length entries)) slip slip′

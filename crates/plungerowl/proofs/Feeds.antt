@@ -25,10 +25,11 @@ use Rattle.validator.specs.Calls.{Buffers, Called}
 use Rattle.progress.specs.Feed.{Feed, fresh, feedSize, mostLoose, bytesOf, view, anyOf, isStepAnswer, standsWith, wellFormed, fits, unitBegun, withPart}
 use Rattle.progress.proofs.Fitness.{fit-facts, formed-loose, going-on, at-unit}
 use Rattle.progress.proofs.Kept.{view-back, fits-back, bytes-back}
-use Rattle.feed.specs.Fed.{more, UnitValidated, header, a-record, Fed, stopped, kept, completed, Ended, stands, no-header, between, short}
+use Rattle.unit.specs.Units.{more, UnitValidated, header, a-record}
+use Rattle.feed.specs.Fed.{Fed, stopped, kept, completed, Ended, stands, no-header, between, short}
 use Rattle.feed.specs.Calls.{holding, Started, GoesOn, FeedCall, FedPiece, FedEnd}
 use Rattle.feed.proofs.Cuts.{some-unit, fed-none, fed-append}
-use Rattle.feed.proofs.Turns.{one-counted, stays-counted, unit-most}
+use Rattle.unit.proofs.Units.{one-counted, stays-counted, unit-most}
 use Rattle.plungerowl.specs.Logs.{WholeLog, joined, FeedRan, no-piece, piece, end-between, LastCall, a-piece, the-end, ShortRefused, Repeated, SameFeed}
 use Rattle.plungerowl.proofs.Logs.{same-buffers, takes-nothing, record-validated}
 use Rattle.plungerowl.proofs.Wholes.{repeats, log-going, log-ended}

@@ -16,14 +16,15 @@ use Rattle.rules.specs.Run.{State, start, step}
 use Rattle.rules.specs.Log.{headerSize, unitSize, headerClasses, recordsOf, looseOf, shortRecord, Outcome, validate}
 use Rattle.rules.proofs.Booleans.{and-cases}
 use Rattle.layout.specs.Layout.{deskSize, sheetSize, seenSize, slipSize, KeepsPast, classesOf}
-use Rattle.layout.specs.Decoding.{StandFor}
+use Rattle.layout.specs.Decoding.{StandFor, Reported}
 use Rattle.layout.specs.Fit.{fits, fitsAll}
 use Rattle.opening.specs.Open.{Opened, opens, openedDesk, openedSheet}
-use Rattle.validator.specs.Step.{Reported, Validated}
+use Rattle.validator.specs.Step.{Validated}
 use Rattle.validator.specs.Calls.{Buffers, Called}
 use Rattle.progress.specs.Feed.{Feed, fresh, unitBegun, withPart}
-use Rattle.feed.specs.Fed.{more, UnitValidated, header, a-record, Fed, stopped, kept, completed, Ended, stands, no-header, between, short}
-use Rattle.feed.proofs.Turns.{one-counted}
+use Rattle.unit.specs.Units.{more, UnitValidated, header, a-record}
+use Rattle.feed.specs.Fed.{Fed, stopped, kept, completed, Ended, stands, no-header, between, short}
+use Rattle.unit.proofs.Units.{one-counted}
 use Rattle.validity.proofs.Kept.{valid-start}
 use Rattle.plungerowl.specs.Logs.{classesIn, recordsIn, refuseFirst, outcomeFor, LeftBy, WholeLog, short-header, bad-header, by-rules}
 use Rattle.plungerowl.proofs.Runs.{Holds, validated-by, step-holds, OpenedAs, opened-as}

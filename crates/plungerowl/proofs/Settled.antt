@@ -17,7 +17,8 @@ use Rattle.fit.proofs.Settled.{settled-desk-after, settled-sheet-after, settled
 use Rattle.validator.specs.Calls.{Buffers}
 use Rattle.progress.specs.Feed.{Feed, feedSize, view, fits, unitBegun, withPart}
 use Rattle.progress.proofs.Kept.{bytes-back}
-use Rattle.feed.specs.Fed.{more, UnitValidated, header, a-record, Fed, stopped, kept, completed, Ended, stands, no-header, between, short}
+use Rattle.unit.specs.Units.{more, UnitValidated, header, a-record}
+use Rattle.feed.specs.Fed.{Fed, stopped, kept, completed, Ended, stands, no-header, between, short}
 use Rattle.feed.specs.Calls.{holding, Started, FeedCall, FedPiece, FedEnd}
 use Rattle.validator.proofs.Reports.{reported-one}
 use Rattle.plungerowl.specs.Demands.{SameStep}

@@ -19,7 +19,8 @@ use Rattle.opening.specs.Open.{Opened, opens, openedDesk, openedSheet, openedSe
 use Rattle.validator.specs.Calls.{Buffers}
 use Rattle.validity.proofs.Kept.{valid-start}
 use Rattle.progress.specs.Feed.{Feed, fresh, unitBegun, withPart}
-use Rattle.feed.specs.Fed.{UnitValidated, header, a-record, Fed, stopped, kept, completed, Ended, stands, no-header, between, short}
+use Rattle.unit.specs.Units.{UnitValidated, header, a-record}
+use Rattle.feed.specs.Fed.{Fed, stopped, kept, completed, Ended, stands, no-header, between, short}
 use Rattle.plungerowl.specs.Logs.{classesIn, recordsIn, refuseFirst, outcomeFor, LeftBy, WholeLog, short-header, bad-header, by-rules}
 use Rattle.plungerowl.proofs.Runs.{Holds, opened-true, OpenedAs, opened-as}
 use Rattle.plungerowl.proofs.Logs.{Tells, After, AtEnd, takes-nothing, same-buffers, left-then, refuse-state, refuse-answer, records-fed, ended-after, tight-fed, tight-ended}

@@ -14,8 +14,7 @@ use Rattle.rules.specs.Balance.{acquires, releases, standing, tally}
 use Rattle.rules.specs.FirstSeen.{drawings, firstDrawn}
 use Rattle.layout.specs.Layout.{closedOf, kindsOf, acceptedOf, numberOf}
 use Rattle.layout.specs.Fit.{fitsAll}
-use Rattle.layout.specs.Decoding.{view, StandFor}
-use Rattle.validator.specs.Step.{Reported}
+use Rattle.layout.specs.Decoding.{view, StandFor, Reported}
 use Rattle.validator.specs.Calls.{Buffers}
 
 -- Two results of one call of the step: the number and every byte are the same.

@@ -11,9 +11,8 @@ use Rattle.rules.specs.Verdict.{closed, malformed, refusalNumber, badOpening, u
 use Rattle.rules.specs.Run.{start}
 use Rattle.rules.specs.Log.{headerSize, headerClasses, recordsOf, looseOf, shortRecord, Outcome, validate}
 use Rattle.layout.specs.Layout.{deskSize, sheetSize, seenSize, slipSize, KeepsPast}
-use Rattle.layout.specs.Decoding.{StandFor}
+use Rattle.layout.specs.Decoding.{StandFor, Reported}
 use Rattle.opening.specs.Open.{opens}
-use Rattle.validator.specs.Step.{Reported}
 use Rattle.validator.specs.Calls.{Buffers}
 use Rattle.progress.specs.Feed.{view}
 use Rattle.feed.specs.Calls.{FedPiece, FedEnd}

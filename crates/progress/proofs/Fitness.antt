@@ -11,7 +11,7 @@ use borrow.Author.Tests.{eq-eqb, ne-eqb, lt-ltb, le-ltb, le-leb, lt-leb, ltb-tru
 use Rattle.rules.proofs.Booleans.{and-cases}
 use Rattle.rules.specs.Log.{unitSize}
 use Rattle.layout.specs.Fit.{allBelow}
-use Rattle.fit.proofs.AllBelow.{all-at}
+use Rattle.layout.proofs.AllBelow.{all-at}
 use Rattle.progress.specs.Feed.{Feed, mostLoose, openedAt, countAt, looseAt, feedSize, view, anyOf, isStepAnswer, standsWith, wellFormed, unusedZero, fits}
 
 -- ---- The step's answers.

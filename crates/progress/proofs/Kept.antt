@@ -19,7 +19,7 @@ use Rattle.rules.specs.Record.{recordSize}
 use Rattle.rules.specs.Log.{unitSize}
 use Rattle.layout.specs.Layout.{AreBytes}
 use Rattle.layout.specs.Fit.{allBelow}
-use Rattle.fit.proofs.AllBelow.{all-of}
+use Rattle.layout.proofs.AllBelow.{all-of}
 use Rattle.layout.specs.Number.{lowFirst}
 use Rattle.progress.specs.Feed.{Feed, mostLoose, answerAt, openedAt, countAt, looseAt, numberAt, numberSize, feedSize, view, byteOf, bytesOf, wellFormed, unusedZero, fits}
 use Rattle.progress.proofs.Bytes.{answer-byte, opened-byte, count-byte, loose-byte, number-byte, past-end}

@@ -18,7 +18,8 @@ use Rattle.layout.specs.Layout.{framesPerCore, closedAt, statesAt, depthsAt, ma
 use Rattle.layout.specs.Encoding.{heldByteAt, originAt, DeskBytes}
 use Rattle.layout.proofs.Held.{same-bits}
 use Rattle.numbers.specs.Numbers.{NumberPut}
-use Rattle.update.specs.Update.{FrameBytes, KeepsElse, MarkBytes, KeepsUnmarked}
+use Rattle.held.specs.Frames.{FrameBytes, KeepsElse}
+use Rattle.update.specs.Update.{MarkBytes, KeepsUnmarked}
 
 -- The cores with one of them changed, as a step of the rules leaves them.
 abbrev pub changed : (ℕ → Core) → ℕ → Core → ℕ → Core

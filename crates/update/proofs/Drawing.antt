@@ -21,8 +21,9 @@ use Rattle.layout.proofs.Buffers.{cell-inside, cell-apart, keeps-self}
 use Rattle.layout.proofs.Flags.{kind-or}
 use Rattle.context.specs.Bits.{kindsBy, kindBits}
 use Rattle.layout.proofs.Held.{unheld}
-use Rattle.update.specs.Update.{FrameBytes, SmallLocks, drawnFrom, Drawn}
-use Rattle.update.proofs.Prefixes.{one-more, all-places, lock-at}
+use Rattle.held.specs.Frames.{FrameBytes, SmallLocks}
+use Rattle.update.specs.Update.{drawnFrom, Drawn}
+use Rattle.held.proofs.Prefixes.{one-more, all-places, lock-at}
 
 -- The first letter goes by the mode in which the lock is held.
 first-held : (mode : ℕ) → firstBy (heldAs mode) ≡ firstBy mode

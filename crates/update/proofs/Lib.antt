@@ -1,9 +1,4 @@
-pub mod Frames
-pub mod Last
 pub mod Notes
-pub mod Prefixes
 pub mod Drawing
-pub mod Numbering
 pub mod Marking
 pub mod Cores
-pub mod Releases

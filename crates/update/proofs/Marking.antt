@@ -20,8 +20,9 @@ use Rattle.layout.specs.Encoding.{markByte}
 use Rattle.layout.proofs.Flags.{mark-or}
 use Rattle.context.specs.Bits.{marksBy, markBits}
 use Rattle.layout.proofs.Held.{unheld, same-bits}
-use Rattle.update.specs.Update.{FrameBytes, SmallLocks, MarkBytes, KeepsUnmarked, Marked}
-use Rattle.update.proofs.Prefixes.{one-more, all-places, lock-at}
+use Rattle.held.specs.Frames.{FrameBytes, SmallLocks}
+use Rattle.update.specs.Update.{MarkBytes, KeepsUnmarked, Marked}
+use Rattle.held.proofs.Prefixes.{one-more, all-places, lock-at}
 
 same-marks : {desk : List ℕ} (m m′ : Marks) → ((c : ℕ) (l : Level) (u : Usage) → m c l u ≡ m′ c l u) → MarkBytes desk m → MarkBytes desk m′
 same-marks {desk} m m′ e b = subst (λ (x : Marks). MarkBytes desk x) (fun-ext (λ c. fun-ext (λ l. fun-ext (λ u. e c l u)))) b

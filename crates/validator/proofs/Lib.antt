@@ -1,4 +1,3 @@
 pub mod Fitness
-pub mod Conclusions
 pub mod Outcomes
 pub mod Reports

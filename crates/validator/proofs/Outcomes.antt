@@ -22,7 +22,7 @@ use Rattle.validity.specs.Valid.{ValidCore, Valid}
 use Rattle.validity.proofs.Kept.{valid-accept, valid-close}
 use Rattle.layout.specs.Layout.{acceptedAt, numberSize, deskSize, sheetSize, seenSize, slipSize, classesOf, closedOf, acceptedOf, AreBytes, KeepsPast}
 use Rattle.layout.specs.Encoding.{DeskBytes, SheetBytes, NumberBytes, SeenBytes, Encodes}
-use Rattle.layout.specs.Decoding.{view, StandFor}
+use Rattle.layout.specs.Decoding.{view, StandFor, Reported}
 use Rattle.layout.specs.Fit.{fits, fitsAll}
 use Rattle.layout.proofs.Buffers.{keeps-self, keeps-both, keeps-more}
 use Rattle.layout.proofs.Numbers.{number-is, same-value}
@@ -31,8 +31,8 @@ use Rattle.update.proofs.Cores.{count-changed}
 use Rattle.fit.proofs.Facts.{facts}
 use Rattle.fit.proofs.Fitting.{fit-encodes, fit-valid, encodes-stand}
 use Rattle.action.specs.Action.{ActedOn, refuses, accepts, Acted, Cored}
-use Rattle.validator.specs.Step.{Reported, Validated, Stepped}
-use Rattle.validator.specs.Conclude.{withMarks, Sheeted, ConcludedOn, is-clean, is-fault, Concluded}
+use Rattle.validator.specs.Step.{Validated, Stepped}
+use Rattle.conclusion.specs.Conclude.{withMarks, Sheeted, ConcludedOn, is-clean, is-fault, Concluded}
 
 -- ---- Unfit.
 

@@ -8,9 +8,8 @@ use Rattle.rules.specs.Graph.{Graph}
 use Rattle.rules.specs.Cycle.{Entry}
 use Rattle.rules.proofs.LeastCycles.{least-one}
 use Rattle.layout.specs.Layout.{entriesAt, entrySize, slipSize, KeepsPast}
-use Rattle.layout.specs.Decoding.{SlipBytes}
+use Rattle.layout.specs.Decoding.{SlipBytes, Reported}
 use Rattle.fit.proofs.Settled.{both-keep}
-use Rattle.validator.specs.Step.{Reported}
 
 -- Two slips with the same entries have the same first bytes.
 same-byte : {numbers : ℕ → ℕ → ℕ} {es : List Entry} {a b : List ℕ} → SlipBytes numbers es a → SlipBytes numbers es b → (j : ℕ) → j < slipSize (length es) → getD a j 0 ≡ getD b j 0

@@ -3,23 +3,11 @@ use mathlib.Core.Path.{_≡_}
 use mathlib.Core.Bool.{true, false}
 use mathlib.Core.List.{List}
 use Prim.Native.Nat.{ℕ, _<_}
-use lib.ListN.{length}
-use Rattle.rules.specs.Graph.{Graph}
-use Rattle.rules.specs.Cycle.{Entry}
-use Rattle.rules.specs.LeastCycle.{LeastCycle}
 use Rattle.rules.specs.Verdict.{unfit, number}
 use Rattle.rules.specs.Run.{State, step}
-use Rattle.layout.specs.Layout.{deskSize, sheetSize, seenSize, slipSize, classesOf, KeepsPast}
-use Rattle.layout.specs.Decoding.{view, StandFor, SlipBytes}
+use Rattle.layout.specs.Layout.{deskSize, sheetSize, seenSize, classesOf, KeepsPast}
+use Rattle.layout.specs.Decoding.{view, StandFor, Reported}
 use Rattle.layout.specs.Fit.{fitsAll}
-
--- With a fault: the least cycle of the graph stands in the slip's first bytes, with the number of each pair, and the bytes past them stay. There is one
--- such cycle only (crates/rules/proofs/LeastCycles.antt), so every byte of the slip is settled.
-pub record Reported (K : ℕ) (g : Graph) (numbers : ℕ → ℕ → ℕ) (slip slip′ : List ℕ) : Type 0 where
-  pub entries : List Entry
-  pub least : LeastCycle K g entries
-  pub bytes : SlipBytes numbers entries slip′
-  pub keeps : KeepsPast (slipSize (length entries)) slip slip′
 
 -- A record validated in the state s of the rules: the number is that of the rules, desk and sheets stand for the state that the rules give, and no
 -- byte past the sizes is touched. A refusal changes nothing; the slip is written with a fault only.

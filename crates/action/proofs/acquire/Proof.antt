@@ -15,8 +15,8 @@ use Rattle.action.proofs.acquire.Lts as lts
 use Rattle.action.proofs.frame_of.Reads as frame-of-reads
 use Rattle.action.proofs.is_full.Reads as is-full-reads
 use Rattle.update.proofs.draw.Reads as draw-reads
-use Rattle.update.proofs.number_pairs.Reads as number-pairs-reads
-use Rattle.update.proofs.push.Reads as push-reads
+use Rattle.numbering.proofs.number_pairs.Reads as number-pairs-reads
+use Rattle.held.proofs.push.Reads as push-reads
 
 slice-read-k : tie.Need-slice-read-k
 slice-read-k c = search needs

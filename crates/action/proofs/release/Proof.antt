@@ -9,8 +9,8 @@ use Rattle.action.proofs.release.Reads as reads
 use Rattle.action.proofs.release.Lts as lts
 use Rattle.action.proofs.frame_of.Reads as frame-of-reads
 use Rattle.action.proofs.is_full.Reads as is-full-reads
-use Rattle.update.proofs.newest.Reads as newest-reads
-use Rattle.update.proofs.remove.Reads as remove-reads
+use Rattle.held.proofs.newest.Reads as newest-reads
+use Rattle.held.proofs.remove.Reads as remove-reads
 
 shared-slice-read-class : tie.Need-shared-slice-read-class
 shared-slice-read-class c = search needs

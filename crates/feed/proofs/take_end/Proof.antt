@@ -2,13 +2,14 @@
 use native.Mathlib.Omega.{arith}
 use borrow.Author.Tests.{not-true, not-false}
 use Rattle.feed.specs.Fed.{stands}
-use Rattle.feed.proofs.Turns.{counted-within, end-in-header, end-between, end-in-record}
+use Rattle.unit.proofs.Units.{counted-within}
+use Rattle.feed.proofs.Turns.{end-in-header, end-between, end-in-record}
 use borrow.Author.Needs.{needs}
 use Rattle.feed.proofs.take_end.Statement.{statement}
 use Rattle.feed.proofs.take_end.Tie as tie
 use Rattle.feed.proofs.take_end.Reads as reads
 use Rattle.feed.proofs.take_end.Lts as lts
-use Rattle.feed.proofs.validate_unit.Reads as validate-unit-reads
+use Rattle.unit.proofs.validate_unit.Reads as validate-unit-reads
 use Rattle.progress.proofs.between_units.Reads as between-units-reads
 
 returns : tie.Need-returns

@@ -10,13 +10,13 @@ use Rattle.validator.specs.Calls.{buffers}
 use Rattle.progress.specs.Code.{feedOf, Counted}
 use Rattle.feed.specs.Fed.{Fed, stopped}
 use Rattle.feed.proofs.Cuts.{fed-none, fed-append, part-length, part-some, fed-part, part-loose}
-use Rattle.feed.proofs.Turns.{unit-most}
+use Rattle.unit.proofs.Units.{unit-most}
 use borrow.Author.Needs.{needs}
 use Rattle.feed.proofs.take_piece.Statement.{statement}
 use Rattle.feed.proofs.take_piece.Tie as tie
 use Rattle.feed.proofs.take_piece.Reads as reads
 use Rattle.feed.proofs.take_piece.Lts as lts
-use Rattle.feed.proofs.take_part.Reads as take-part-reads
+use Rattle.unit.proofs.take_part.Reads as take-part-reads
 use Rattle.progress.proofs.unit_size.Reads as unit-size-reads
 use Rattle.reader.proofs.next_part.Reads as next-part-reads
 

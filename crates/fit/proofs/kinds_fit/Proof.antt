@@ -6,7 +6,7 @@ use Prim.Native.Nat.{_≤_, _-_}
 use native.Mathlib.Omega.{arith}
 use borrow.Author.Tests.{le-leb, lt-leb}
 use Rattle.layout.specs.Fit.{allBelow, kindsFit}
-use Rattle.fit.proofs.AllBelow.{all-none, all-kept, all-lost}
+use Rattle.layout.proofs.AllBelow.{all-none, all-kept, all-lost}
 use Rattle.fit.proofs.kinds_fit.Statement.{statement}
 use Rattle.fit.proofs.kinds_fit.Tie as tie
 

@@ -10,7 +10,7 @@ use lib.ListN.{getD}
 use borrow.Author.Tests.{lt-ltb, le-ltb, lt-leb, le-leb}
 use Rattle.layout.specs.Layout.{pairNumber}
 use Rattle.layout.specs.Fit.{allBelow, numberFits}
-use Rattle.fit.proofs.AllBelow.{all-none, all-step}
+use Rattle.layout.proofs.AllBelow.{all-none, all-step}
 use Rattle.fit.proofs.numbers_fit.Statement.{statement}
 use Rattle.fit.proofs.numbers_fit.Tie as tie
 use Rattle.fit.proofs.numbers_fit.Reads as reads

@@ -5,7 +5,7 @@ use Prim.Native.Nat.{ℕ, _-_, _≤_, _<_}
 use native.Mathlib.Omega.{arith}
 use lib.ListN.{getD}
 use borrow.Author.Needs.{needs}
-use Rattle.fit.proofs.AllBelow.{all-of}
+use Rattle.layout.proofs.AllBelow.{all-of}
 use Rattle.progress.specs.Feed.{mostLoose, countAt, unusedZero}
 use Rattle.progress.proofs.Fitness.{used-zero, one-zero-more, not-zero}
 use Rattle.progress.proofs.unused_zero.Statement.{statement}

@@ -13,8 +13,8 @@ use Rattle.validator.proofs.step.Lts as lts
 use Rattle.action.proofs.act.Reads as act-reads
 use Rattle.fit.proofs.fits.Reads as fits-reads
 use Rattle.record.proofs.is_malformed.Reads as is-malformed-reads
-use Rattle.update.proofs.count_record.Reads as count-record-reads
-use Rattle.validator.proofs.conclude.Reads as conclude-reads
+use Rattle.numbering.proofs.count_record.Reads as count-record-reads
+use Rattle.conclusion.proofs.conclude.Reads as conclude-reads
 
 fits-requires : tie.Need-fits-requires
 fits-requires c κs = search needs

@@ -1,0 +1,4 @@
+pub mod Frames
+pub mod Last
+pub mod Prefixes
+pub mod Releases
