@@ -1,4 +1,1 @@
-pub mod Routes
-pub mod Levels
-pub mod Starts
 pub mod Shortest

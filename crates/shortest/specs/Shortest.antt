@@ -20,8 +20,8 @@ use Rattle.successors.specs.Column.{kindWord}
 use Rattle.successors.specs.Successors.{levelDigit, usageDigit, safeOf}
 use Rattle.successors.specs.declared.KindWords.{KindWords}
 use Rattle.successors.specs.declared.SafeWords.{SafeWords}
-use Rattle.shortest.specs.Routes.{Home, Start, Greedy}
-use Rattle.shortest.specs.Levels.{letterAt, levelAt, Level}
+use Rattle.routes.specs.Routes.{Home, Start, Greedy}
+use Rattle.levels.specs.Levels.{letterAt, levelAt, Level}
 use Rattle.shortest.specs.declared.Choice.{Choice}
 use Rattle.shortest.specs.declared.Found.{Found}
 

@@ -1,7 +1,7 @@
 use borrow.Author.Needs.{needs}
-use Rattle.shortest.proofs.Levels.{home-r, home-n}
-use Rattle.shortest.proofs.home.Statement.{statement}
-use Rattle.shortest.proofs.home.Tie as tie
+use Rattle.levels.proofs.Levels.{home-r, home-n}
+use Rattle.levels.proofs.home.Statement.{statement}
+use Rattle.levels.proofs.home.Tie as tie
 
 with-requires : tie.Need-with-requires
 with-requires c κs = search needs

@@ -19,7 +19,7 @@ use Rattle.rules.proofs.Rounds.{raise, repeats, turned}
 use Rattle.rules.proofs.CycleExists.{following-at, Leads, first-entry, round-cycle}
 use Rattle.rules.proofs.Ranks.{source-less, rank-less, number-before, number-same, same-entry}
 use Rattle.search.proofs.Visits.{after-N}
-use Rattle.shortest.specs.Routes.{widest, Step, Home, Start, Greedy, done, choose}
+use Rattle.routes.specs.Routes.{widest, Step, Home, Start, Greedy, done, choose}
 
 pub after-E : (b : Second) → strongJoint b E ≡ true
 after-E R = refl

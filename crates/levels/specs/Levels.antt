@@ -12,7 +12,7 @@ use Rattle.rules.specs.Cycle.{Entry, entryAt}
 use Rattle.search.specs.Rows.{Successor, Rows}
 use Rattle.search.specs.Arrivals.{In, kindBy}
 use Rattle.search.specs.declared.Arrivals.{Arrivals}
-use Rattle.shortest.specs.Routes.{widest, Home}
+use Rattle.routes.specs.Routes.{widest, Home}
 
 abbrev pub letterAt : ℕ → Second
 letterAt zero = R

@@ -12,11 +12,11 @@ use Rattle.rules.specs.Rounds.{Route, stay, pass, Round}
 use Rattle.rules.proofs.Rounds.{turned}
 use Rattle.rules.proofs.Pigeons.{some-below}
 use Rattle.search.specs.Rows.{secondIndex, Rows}
-use Rattle.shortest.specs.Routes.{Start}
-use Rattle.shortest.specs.Levels.{letterAt, Above, NoneUpTo, Filled}
-use Rattle.shortest.specs.Starts.{startOf, Better, Begun}
-use Rattle.shortest.specs.declared.Begin.{Begin}
-use Rattle.shortest.proofs.Routes.{home-round, round-home, cycle-round}
+use Rattle.routes.specs.Routes.{Start}
+use Rattle.levels.specs.Levels.{letterAt, Above, NoneUpTo, Filled}
+use Rattle.levels.specs.Starts.{startOf, Better, Begun}
+use Rattle.levels.specs.declared.Begin.{Begin}
+use Rattle.routes.proofs.Routes.{home-round, round-home, cycle-round}
 
 none-less : {rows : List ℕ} {K x m n : ℕ} {d : Second} → m ≤ n → NoneUpTo rows K x d n → NoneUpTo rows K x d m
 none-less l o = record { none = λ g r i u v h a. o .none g r i u (omega arith) h a }

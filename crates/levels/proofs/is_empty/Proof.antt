@@ -1,6 +1,6 @@
-use Rattle.shortest.proofs.Levels.{not-empty, empty-law}
-use Rattle.shortest.proofs.is_empty.Statement.{statement}
-use Rattle.shortest.proofs.is_empty.Tie as tie
+use Rattle.levels.proofs.Levels.{not-empty, empty-law}
+use Rattle.levels.proofs.is_empty.Statement.{statement}
+use Rattle.levels.proofs.is_empty.Tie as tie
 
 returns : tie.Need-returns
 returns c = not-empty
