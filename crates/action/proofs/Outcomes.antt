@@ -33,7 +33,7 @@ use Rattle.numbering.proofs.Numbering.{same-seen}
 use Rattle.held.proofs.Releases.{NewestCases, not-found, found-at, newest-is}
 use Rattle.action.specs.Action.{ActedOn, refuses, accepts, Acted}
 use Rattle.action.proofs.Refusals.{refusalBy, orFull, refusal-by}
-use Rattle.action.proofs.Bytes.{small-locks}
+use Rattle.cores.proofs.Bytes.{small-locks}
 
 keeps-past : {n : ℕ} {before after : List ℕ} → n < frameCount → KeepsElse n before after → KeepsPast acceptedAt before after
 keeps-past {n} l k = record { long = k .long; past = λ j h. k .else j (λ e. omega arith) (inr (omega arith)) (inr h) }

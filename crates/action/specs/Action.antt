@@ -1,26 +1,14 @@
 -- What a well-formed record does to an open desk and its sheets.
 use mathlib.Core.Path.{_≡_}
-use mathlib.Core.Bool.{Bool, false}
+use mathlib.Core.Bool.{false}
 use mathlib.Core.List.{List}
 use mathlib.Core.Option.{none, some}
-use Prim.Native.Nat.{ℕ, _≤_}
-use Rattle.rules.specs.Limits.{maxClasses}
-use Rattle.rules.specs.HeldLocks.{Core}
-use Rattle.rules.specs.Marks.{Marks}
+use Prim.Native.Nat.{ℕ}
 use Rattle.rules.specs.Verdict.{Refusal, refusalNumber, refusal}
 use Rattle.rules.specs.Run.{State, situation, accept}
-use Rattle.validity.specs.Valid.{ValidCore, Valid}
+use Rattle.validity.specs.Valid.{Valid}
 use Rattle.layout.specs.Layout.{acceptedAt, sheetSize, seenSize, classesOf, KeepsPast}
 use Rattle.layout.specs.Encoding.{DeskBytes, SheetBytes, SeenBytes, Encodes}
-
--- The desk encodes valid cores.
-pub record Cored (desk : List ℕ) : Type 0 where
-  pub few : classesOf desk ≤ maxClasses
-  pub is-closed : Bool
-  pub cores : ℕ → Core
-  pub marks : Marks
-  pub encodes : DeskBytes (classesOf desk) is-closed cores marks desk
-  pub valid : (i : ℕ) → ValidCore (classesOf desk) (cores i)
 
 -- A refusal leaves the buffers; an accepted record leaves the cores, the lock dependencies and their numbers that the rules give, and the marks and the count
 -- as they were.

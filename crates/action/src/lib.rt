@@ -6,18 +6,17 @@ use answers::NOT_HELD;
 use answers::OK;
 use answers::STILL_HELD;
 use answers::TOO_DEEP;
-use context::CoreState;
 use context::EXIT_HARD;
 use context::EXIT_SOFT;
 use context::NO_STATE;
 use context::next;
+use cores::frame_of;
 use held::newest;
 use held::push;
 use held::remove;
 use layout::ACCEPTED_AT;
 use layout::CLASSES_AT;
 use layout::DEPTHS_AT;
-use layout::FRAMES_PER_CORE;
 use layout::MAX_ACCEPTED;
 use layout::MAX_DEPTH;
 use layout::STATES_AT;
@@ -33,24 +32,16 @@ use record::RELEASE;
 use update::draw;
 ghost use mathlib.Core.Path.{_≡_};
 ghost use mathlib.Core.List.{List};
-ghost use Prim.Native.Nat.{ℕ, _*_, _<_, _≤_};
+ghost use Prim.Native.Nat.{ℕ, _<_, _≤_};
 ghost use lib.Dec.{leb};
 ghost use lib.ListN.{length};
-ghost use Rattle.rules.specs.Context.{frameOf, leavesHandler};
+ghost use Rattle.rules.specs.Context.{leavesHandler};
 ghost use Rattle.rules.specs.Record.{kindOf};
 ghost use Rattle.rules.specs.WellFormed.{WellFormed};
-ghost use Rattle.rules.specs.Limits.{coreCount, maxAccepted};
-ghost use Rattle.layout.specs.Layout.{deskSize, sheetSize, seenSize, frameNumber, classesOf, stateOf, acceptedOf};
-ghost use Rattle.action.specs.Action.{Cored, Acted};
-
-// The number of the frame in which a core holds locks now.
-pub fn frame_of(desk: &[u8], core: usize) -> usize
-    requires { ⌜ (deskSize ≤ length (now desk)) × (core < coreCount) × (stateOf (now desk) core < 9) ⌝ }
-    ensures { λ r. ⌜ r ≡ frameNumber core (frameOf (stateOf (now (desk .entry)) core)) ⌝ }
-{
-    let frame = CoreState(desk[STATES_AT + core]).frame();
-    FRAMES_PER_CORE * core + frame as usize
-}
+ghost use Rattle.rules.specs.Limits.{maxAccepted};
+ghost use Rattle.layout.specs.Layout.{deskSize, sheetSize, seenSize, classesOf, acceptedOf};
+ghost use Rattle.cores.specs.Cores.{Cored};
+ghost use Rattle.action.specs.Action.{Acted};
 
 // The count can take no record more.
 fn is_full(desk: &[u8]) -> bool

@@ -29,8 +29,8 @@ use Rattle.context.proofs.Frames.{frame-less}
 use Rattle.held.specs.Frames.{FrameBytes}
 use Rattle.update.specs.Update.{MarkBytes, Marked}
 use Rattle.update.proofs.Cores.{frame-bytes, marks-changed, closed-changed}
-use Rattle.action.specs.Action.{Cored}
-use Rattle.action.proofs.Bytes.{small-locks}
+use Rattle.cores.specs.Cores.{Cored}
+use Rattle.cores.proofs.Bytes.{small-locks}
 use Rattle.search.specs.Rows.{Rows}
 use Rattle.clash.specs.Clash.{Bounded}
 use Rattle.successors.specs.Successors.{Successors}

@@ -1,8 +1,8 @@
 // What follows an accepted record.
-use action::frame_of;
 use answers::FAULT;
 use answers::OK;
 use clash::cycle_bound;
+use cores::frame_of;
 use layout::CLASSES_AT;
 use layout::CLOSED_AT;
 use layout::STATES_AT;
@@ -14,7 +14,7 @@ ghost use Prim.Native.Nat.{_<_, _≤_};
 ghost use lib.ListN.{length};
 ghost use Rattle.rules.specs.Limits.{coreCount};
 ghost use Rattle.layout.specs.Layout.{seenSize, slipSize, classesOf};
-ghost use Rattle.action.specs.Action.{Cored};
+ghost use Rattle.cores.specs.Cores.{Cored};
 ghost use Rattle.conclusion.specs.Conclude.{Sheeted, Concluded};
 
 // After an accepted record of a core: its held locks are marked, and the graph is searched.

@@ -1,4 +1,4 @@
-// Back from the start: the arrivals from which a number of dependencies leads there, and which start is the best.
+// Where the shortest cycle starts, and from which arrivals it can still be closed in time.
 use layout::MAX_CLASSES;
 use search::Arrivals;
 use successors::ROWS;

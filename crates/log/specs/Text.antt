@@ -1,6 +1,6 @@
 -- Document 01, "Logs for the bench": the text of the answers, in ASCII.
 use mathlib.Core.Path.{_≡_}
-use mathlib.Core.Bool.{Bool, true, false, cond}
+use mathlib.Core.Bool.{cond}
 use mathlib.Core.List.{List, [], _∷_, _++_}
 use Prim.Native.Nat.{ℕ, zero, suc, _+_, _/_, _%_, _≤_}
 use lib.Dec.{ltb}
@@ -14,13 +14,7 @@ use Rattle.rules.specs.Ranks.{kindOfByte, sourceOfByte}
 use Rattle.layout.specs.Slip.{entriesOf}
 use Rattle.rules.specs.Limits.{maxClasses}
 use Rattle.rules.specs.Cycle.{Entry, entryAt, following}
-use Rattle.log.specs.declared.Outcome.{Outcome}
-
--- What came of a log whose last answer, or first answer but 0, has a number: of records, or of its record.
-abbrev pub outcomeOf : (answer number : ℕ) → Outcome
-outcomeOf zero n = Outcome.Clean n
-outcomeOf (suc zero) n = Outcome.Fault n
-outcomeOf (suc (suc a)) n = Outcome.Refused (suc (suc a)) n
+use Rattle.outcome.specs.declared.Outcome.{Outcome}
 
 -- The decimal digits of n, in at most `most` places.
 unfoldable pub digitsIn : (most n : ℕ) → List ℕ
@@ -124,12 +118,6 @@ textOf (Outcome.Clean n) slip = cleanText n
 textOf (Outcome.Refused answer i) slip = refusedText answer i
 textOf (Outcome.Fault i) slip = faultText i ++ cycleText (entriesOf slip)
 textOf Outcome.Unread slip = readFailedText
-
-abbrev pub isAnswer : Outcome → Bool
-isAnswer (Outcome.Clean n) = true
-isAnswer (Outcome.Refused answer i) = true
-isAnswer (Outcome.Fault i) = true
-isAnswer Outcome.Unread = false
 
 -- The slip of a fault has a cycle of at most 64 dependencies.
 abbrev pub Showable : Outcome → (slip : List ℕ) → Type 0

@@ -1,10 +1,9 @@
-// Document 01, "Logs for the bench": what comes of a log, and its text.
-use answers::FAULT;
-use answers::OK;
+// Document 01, "Logs for the bench": the text of what came of a log.
 use layout::COUNT_AT;
 use layout::ENTRIES_AT;
 use layout::ENTRY_SIZE;
 use layout::MAX_CLASSES;
+use outcome::Outcome;
 ghost use mathlib.Core.Path.{_≡_};
 ghost use mathlib.Core.List.{_++_};
 ghost use Prim.Native.Nat.{_+_, _*_, _<_, _≤_};
@@ -13,34 +12,10 @@ ghost use Rattle.rules.specs.Limits.{maxClasses};
 ghost use Rattle.layout.specs.Layout.{slipSize, entriesAt, entrySize, countOf};
 ghost use Rattle.rules.specs.Ranks.{kindOfByte, sourceOfByte};
 ghost use Rattle.layout.specs.Slip.{entriesOf, nextPlace};
-ghost use Rattle.log.specs.Text.{digits, kindText, sourceText, cycleText, cleanText, refusedText, faultText, lineSize, entryLineSize, cycleSize, Appended, EntryPut, Showable, textOf, isAnswer, outcomeOf};
+ghost use Rattle.log.specs.Text.{digits, kindText, sourceText, cycleText, cleanText, refusedText, faultText, lineSize, entryLineSize, cycleSize, Appended, EntryPut, Showable, textOf};
 
 // Room for the longest text: a line, and a line for each entry of a cycle.
 pub const TEXT_SIZE: usize = 64 + 16 * MAX_CLASSES;
-
-// What came of a log.
-pub enum Outcome {
-    // So many records, each accepted and clean.
-    Clean(u64),
-    // The number of the refusal, and the record: 0 is the header.
-    Refused(u8, u64),
-    Fault(u64),
-    // A read failed, or the log was not ended when the turns were used up.
-    Unread,
-}
-
-// What the answer at the end of a log, or the first answer but 0, and the number with it say.
-pub fn outcome_of(answer: u8, number: u64) -> Outcome
-    ensures { λ r. ⌜ r ≡ outcomeOf answer number ⌝ }
-{
-    if answer == OK {
-        return Outcome::Clean(number);
-    }
-    if answer == FAULT {
-        return Outcome::Fault(number);
-    }
-    Outcome::Refused(answer, number)
-}
 
 fn wide(byte: u8) -> u64
     ensures { λ r. ⌜ r ≡ byte ⌝ }
@@ -210,17 +185,5 @@ pub fn put_text(out: &mut [u8], outcome: Outcome, slip: &[u8]) -> usize
         Outcome::Refused(answer, at) => put_refused(out, answer, at),
         Outcome::Fault(at) => put_fault_cycle(out, at, slip),
         Outcome::Unread => put_word(out, 0, b"read failed\n"),
-    }
-}
-
-// Whether the text is an answer, for standard output, or a complaint, for standard error.
-pub fn is_answer(outcome: Outcome) -> bool
-    ensures { λ r. ⌜ r ≡ isAnswer outcome ⌝ }
-{
-    match outcome {
-        Outcome::Clean(_records) => true,
-        Outcome::Refused(_answer, _at) => true,
-        Outcome::Fault(_at) => true,
-        Outcome::Unread => false,
     }
 }

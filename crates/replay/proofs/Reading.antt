@@ -13,8 +13,9 @@ use Rattle.progress.specs.Feed.{feedSize}
 use Rattle.feed.specs.Calls.{Started, FedPiece}
 use Rattle.plungerowl.specs.Logs.{WholeLog, joined, FeedRan, no-piece, piece, end-between, the-end}
 use Rattle.plungerowl.proofs.Feeds.{log-in-pieces, ended-run, run-shown}
-use Rattle.log.specs.Text.{outcomeOf, Showable}
-use Rattle.log.specs.declared.Outcome.{Outcome}
+use Rattle.outcome.specs.Outcomes.{outcomeOf}
+use Rattle.outcome.specs.declared.Outcome.{Outcome}
+use Rattle.log.specs.Text.{Showable}
 use Rattle.replay.specs.Replayed.{Taken, ReadToEnd, Replayed, unread, whole}
 
 -- ---- A turn of the loop.

@@ -6,8 +6,9 @@ use Prim.Native.Nat.{ℕ}
 use Rattle.validator.specs.Calls.{Buffers}
 use Rattle.feed.specs.Calls.{Started, FedEnd}
 use Rattle.plungerowl.specs.Logs.{FeedRan}
-use Rattle.log.specs.Text.{outcomeOf, Appended, textOf, isAnswer}
-use Rattle.log.specs.declared.Outcome.{Outcome}
+use Rattle.outcome.specs.Outcomes.{outcomeOf, isAnswer}
+use Rattle.outcome.specs.declared.Outcome.{Outcome}
+use Rattle.log.specs.Text.{Appended, textOf}
 
 -- Each read's piece was fed, in order.
 pub record Taken (feed : List ℕ) (b : Buffers) (feed′ : List ℕ) (b′ : Buffers) : Type 0 where

@@ -10,8 +10,8 @@ use layout::NUMBER_SIZE;
 use libc::STDERR_FILENO;
 use libc::STDIN_FILENO;
 use libc::STDOUT_FILENO;
-use log::Outcome;
 use log::TEXT_SIZE;
+use outcome::Outcome;
 use progress::FEED_SIZE;
 ghost use Prim.Native.Nat.{_+_, _≤_};
 ghost use lib.ListN.{length};
@@ -80,7 +80,7 @@ fn replay(
         return Outcome::Unread;
     }
     let said = feed::feed_end(feed, desk, sheet, seen, slip);
-    log::outcome_of(said.answer, said.number)
+    outcome::outcome_of(said.answer, said.number)
 }
 
 // A text, and whether it is an answer or a complaint.
@@ -105,7 +105,7 @@ fn text_of_input(
     let outcome = replay(feed, desk, sheet, seen, slip, buf);
     let size = log::put_text(out, outcome, slip);
     Text {
-        answer: log::is_answer(outcome),
+        answer: outcome::is_answer(outcome),
         size,
     }
 }

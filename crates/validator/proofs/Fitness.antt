@@ -8,7 +8,7 @@ use Rattle.layout.specs.Fit.{fits}
 use Rattle.layout.specs.Decoding.{view}
 use Rattle.fit.proofs.Facts.{facts}
 use Rattle.fit.proofs.Fitting.{fit-encodes, fit-valid}
-use Rattle.action.specs.Action.{Cored}
+use Rattle.cores.specs.Cores.{Cored}
 
 pub fit-cored : (desk sheet seen : List ℕ) → fits desk sheet seen ≡ true → AreBytes deskSize desk → AreBytes (seenSize (classesOf desk)) seen → Cored desk
 fit-cored desk sheet seen f bytes numbers =

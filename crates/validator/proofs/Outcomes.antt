@@ -30,7 +30,8 @@ use Rattle.numbers.specs.Numbers.{NumberPut}
 use Rattle.update.proofs.Cores.{count-changed}
 use Rattle.fit.proofs.Facts.{facts}
 use Rattle.fit.proofs.Fitting.{fit-encodes, fit-valid, encodes-stand}
-use Rattle.action.specs.Action.{ActedOn, refuses, accepts, Acted, Cored}
+use Rattle.cores.specs.Cores.{Cored}
+use Rattle.action.specs.Action.{ActedOn, refuses, accepts, Acted}
 use Rattle.validator.specs.Step.{Validated, Stepped}
 use Rattle.conclusion.specs.Conclude.{withMarks, Sheeted, ConcludedOn, is-clean, is-fault, Concluded}
 

@@ -5,14 +5,14 @@ use Prim.Native.Nat.{_+_}
 use native.Mathlib.Omega.{arith}
 use Rattle.rules.specs.Record.{coreOf}
 use Rattle.layout.specs.Layout.{depthsAt, acceptedOf}
-use Rattle.action.proofs.Bytes.{state-less, number-less, held-in}
+use Rattle.cores.proofs.Bytes.{state-less, number-less, held-in}
 use Rattle.action.proofs.Outcomes.{acquire-no-class, acquire-too-deep, acquire-count-full, acquire-accepts}
 use borrow.Author.Needs.{needs}
 use Rattle.action.proofs.acquire.Statement.{statement}
 use Rattle.action.proofs.acquire.Tie as tie
 use Rattle.action.proofs.acquire.Reads as reads
 use Rattle.action.proofs.acquire.Lts as lts
-use Rattle.action.proofs.frame_of.Reads as frame-of-reads
+use Rattle.cores.proofs.frame_of.Reads as frame-of-reads
 use Rattle.action.proofs.is_full.Reads as is-full-reads
 use Rattle.update.proofs.draw.Reads as draw-reads
 use Rattle.numbering.proofs.number_pairs.Reads as number-pairs-reads

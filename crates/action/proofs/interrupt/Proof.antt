@@ -6,14 +6,14 @@ use native.Mathlib.Omega.{arith}
 use Rattle.rules.specs.Record.{coreOf, kindOf}
 use Rattle.rules.specs.Context.{frameOf, leavesHandler}
 use Rattle.layout.specs.Layout.{statesAt, frameNumber, stateOf, depthOf}
-use Rattle.action.proofs.Bytes.{state-less, number-less}
+use Rattle.cores.proofs.Bytes.{state-less, number-less}
 use Rattle.action.proofs.Outcomes.{interrupt-no-transition, interrupt-still-held, interrupt-count-full, interrupt-accepts}
 use borrow.Author.Needs.{needs}
 use Rattle.action.proofs.interrupt.Statement.{statement}
 use Rattle.action.proofs.interrupt.Tie as tie
 use Rattle.action.proofs.interrupt.Reads as reads
 use Rattle.action.proofs.interrupt.Lts as lts
-use Rattle.action.proofs.frame_of.Reads as frame-of-reads
+use Rattle.cores.proofs.frame_of.Reads as frame-of-reads
 use Rattle.action.proofs.is_full.Reads as is-full-reads
 use Rattle.action.proofs.leaves_handler.Reads as leaves-handler-reads
 use Rattle.context.proofs.next.Reads as next-reads

@@ -1,13 +1,13 @@
 use mathlib.Core.Path.{sym, _∙_}
 use Rattle.rules.specs.Record.{coreOf}
-use Rattle.action.proofs.Bytes.{state-less, held-in, newest-inside}
+use Rattle.cores.proofs.Bytes.{state-less, held-in, newest-inside}
 use Rattle.action.proofs.Outcomes.{release-no-class, release-not-held, release-count-full, release-accepts}
 use borrow.Author.Needs.{needs}
 use Rattle.action.proofs.release.Statement.{statement}
 use Rattle.action.proofs.release.Tie as tie
 use Rattle.action.proofs.release.Reads as reads
 use Rattle.action.proofs.release.Lts as lts
-use Rattle.action.proofs.frame_of.Reads as frame-of-reads
+use Rattle.cores.proofs.frame_of.Reads as frame-of-reads
 use Rattle.action.proofs.is_full.Reads as is-full-reads
 use Rattle.held.proofs.newest.Reads as newest-reads
 use Rattle.held.proofs.remove.Reads as remove-reads

@@ -1,14 +1,14 @@
 use Prim.Native.Nat.{_+_}
 use native.Mathlib.Omega.{arith}
 use Rattle.layout.specs.Layout.{statesAt}
-use Rattle.action.proofs.Bytes.{state-less, held-in}
+use Rattle.cores.proofs.Bytes.{state-less, held-in}
 use Rattle.conclusion.proofs.Conclusions.{found-ranged, conclude-clean, conclude-fault}
 use borrow.Author.Needs.{needs}
 use Rattle.conclusion.proofs.conclude.Statement.{statement}
 use Rattle.conclusion.proofs.conclude.Tie as tie
 use Rattle.conclusion.proofs.conclude.Reads as reads
 use Rattle.conclusion.proofs.conclude.Lts as lts
-use Rattle.action.proofs.frame_of.Reads as frame-of-reads
+use Rattle.cores.proofs.frame_of.Reads as frame-of-reads
 use Rattle.clash.proofs.cycle_bound.Reads as cycle-bound-reads
 use Rattle.report.proofs.show.Reads as show-reads
 use Rattle.shortest.proofs.shortest_cycle.Reads as shortest-cycle-reads

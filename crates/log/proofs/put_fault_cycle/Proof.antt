@@ -1,4 +1,4 @@
--- `log::put_fault_report` meets its contract. Assumes nothing.
+-- `log::put_fault_cycle` meets its contract. Assumes nothing.
 use native.Mathlib.Omega.{arith}
 use borrow.Author.Needs.{needs}
 use Rattle.log.proofs.Lines.{fault-short}

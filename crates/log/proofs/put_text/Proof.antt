@@ -1,7 +1,7 @@
 -- `log::put_text` meets its contract. Assumes nothing.
 use mathlib.Core.Path.{ap, subst}
 use borrow.Author.Needs.{needs}
-use Rattle.log.specs.declared.Outcome.{Outcome}
+use Rattle.outcome.specs.declared.Outcome.{Outcome}
 use Rattle.log.specs.Text.{Showable, textOf}
 use Rattle.log.proofs.Writing.{as-text}
 use Rattle.log.proofs.put_text.Statement.{statement}

@@ -10,7 +10,7 @@ use Rattle.replay.proofs.replay.Reads as reads
 use Rattle.replay.proofs.replay.Lts as lts
 use Rattle.feed.proofs.feed_end.Reads as feed-end-reads
 use Rattle.feed.proofs.start.Reads as start-reads
-use Rattle.log.proofs.outcome_of.Reads as outcome-of-reads
+use Rattle.outcome.proofs.outcome_of.Reads as outcome-of-reads
 use Rattle.replay.proofs.feed_input.Reads as feed-input-reads
 
 start-requires : tie.Need-start-requires

@@ -5,7 +5,7 @@ use Rattle.replay.proofs.text_of_input.Statement.{statement}
 use Rattle.replay.proofs.text_of_input.Tie as tie
 use Rattle.replay.proofs.text_of_input.Reads as reads
 use Rattle.replay.proofs.text_of_input.Lts as lts
-use Rattle.log.proofs.is_answer.Reads as is-answer-reads
+use Rattle.outcome.proofs.is_answer.Reads as is-answer-reads
 use Rattle.log.proofs.put_text.Reads as put-text-reads
 use Rattle.replay.proofs.replay.Reads as replay-reads
 

@@ -15,7 +15,7 @@ use Rattle.held.specs.Frames.{FrameBytes, SmallLocks, HeldIn, newestOf}
 use Rattle.held.proofs.Prefixes.{Lock, lock-at}
 use Rattle.held.proofs.Releases.{found-at, newest-is}
 use Rattle.update.proofs.Cores.{frame-bytes}
-use Rattle.action.specs.Action.{Cored}
+use Rattle.cores.specs.Cores.{Cored}
 
 module _ {K : ℕ} (few : K ≤ maxClasses) (core : Core) (valid : ValidCore K core) where
   pub small-locks : (f : Frame) → SmallLocks (core .held f)

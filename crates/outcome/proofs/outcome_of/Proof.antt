@@ -1,10 +1,10 @@
--- `log::outcome_of` meets its contract. Assumes nothing.
+-- `outcome::outcome_of` meets its contract. Assumes nothing.
 use mathlib.Core.Path.{_≡_, refl}
 use Prim.Native.Nat.{ℕ, zero, suc}
-use Rattle.log.specs.Text.{outcomeOf}
-use Rattle.log.specs.declared.Outcome.{Outcome}
-use Rattle.log.proofs.outcome_of.Statement.{statement}
-use Rattle.log.proofs.outcome_of.Tie as tie
+use Rattle.outcome.specs.Outcomes.{outcomeOf}
+use Rattle.outcome.specs.declared.Outcome.{Outcome}
+use Rattle.outcome.proofs.outcome_of.Statement.{statement}
+use Rattle.outcome.proofs.outcome_of.Tie as tie
 
 other : (a n : ℕ) → (a ≡ 0 → ⊥) → (a ≡ 1 → ⊥) → Outcome.Refused a n ≡ outcomeOf a n
 other zero n z o = absurd (z refl)
