@@ -7,7 +7,6 @@ use layout::NUMBER_SIZE;
 use numbers::number_at;
 use numbers::put_number;
 use update::TRY;
-ghost use mathlib.Core.Path.{_≡_};
 ghost use Prim.Native.Nat.{suc, _<_, _≤_};
 ghost use lib.ListN.{length};
 ghost use Rattle.rules.specs.Limits.{maxAccepted};

@@ -14,7 +14,7 @@ use Rattle.rules.specs.Graph.{Kind, Graph, Source, dependencyBy}
 use Rattle.rules.specs.StrongPath.{strongJoint}
 use Rattle.rules.specs.Decision.{tabulate}
 use Rattle.rules.specs.Cycle.{Entry}
-use Rattle.rules.specs.Ranks.{kindOfPlace, rankCount, rank, kindAt, sourceAt}
+use Rattle.rules.specs.Ranks.{rankCount, rank, kindAt, sourceAt}
 use Rattle.rules.specs.Rounds.{Route, stay}
 use Rattle.rules.proofs.Closure.{length-tabulate}
 use Rattle.rules.proofs.Rounds.{connect}

@@ -25,7 +25,7 @@ ghost use Prim.Native.Nat.{_+_, _*_, _/_, _%_, _<_, _≤_};
 ghost use lib.ListN.{length};
 ghost use Rattle.successors.specs.Column.{Columns};
 ghost use Rattle.successors.specs.Successors.{Ready, SafeColumns};
-ghost use Rattle.levels.specs.Levels.{letterAt, levelAt};
+ghost use Rattle.levels.specs.Levels.{letterAt};
 ghost use Rattle.shortest.specs.Shortest.{lockAt, safeAt, unsafeAt, Side, ranksAfter, Picked, RankWord, RankWords, Written, Letter, Chained, Shortest};
 
 // ---- The dependencies of a class by rank: three times the kind's place (ER 0, EN 1, SR 2, SN 3) and the source. Ranks are in the order of

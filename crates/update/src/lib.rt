@@ -7,7 +7,6 @@ use layout::HELD_MODES;
 use layout::MARKS_AT;
 use layout::MAX_DEPTH;
 use origins::origin;
-ghost use mathlib.Core.Path.{_≡_};
 ghost use Prim.Native.Nat.{_*_, _<_, _≤_};
 ghost use lib.ListN.{length};
 ghost use Rattle.rules.specs.Limits.{modeCount};
