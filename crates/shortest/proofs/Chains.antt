@@ -24,15 +24,15 @@ use Rattle.search.specs.Arrivals.{wordBy}
 use Rattle.search.specs.declared.Arrivals.{Arrivals}
 use Rattle.search.proofs.Visits.{after-N}
 use Rattle.routes.specs.Routes.{widest, Step, Home, rankOf, Chosen, Greedy, done, choose}
-use Rattle.levels.specs.Levels.{letterAt, Above, levelAt, Level, Filled}
-use Rattle.levels.specs.Starts.{Begun}
+use Rattle.starts.specs.Levels.{letterAt, Above, levelAt, Level, Filled}
+use Rattle.starts.specs.Starts.{Begun}
 use Rattle.shortest.specs.Shortest.{Encoded, ByRank, RankWords, ranksAfter, Hit, Picked, foundEntry, Written, Letter, Prepared, Chained, Shortest}
-use Rattle.levels.specs.declared.Begin.{Begin}
+use Rattle.starts.specs.declared.Begin.{Begin}
 use Rattle.shortest.specs.declared.Choice.{Choice}
 use Rattle.shortest.specs.declared.Found.{Found}
 use Rattle.routes.proofs.Routes.{first-E, place-E, step, stays, home-round, least-law}
-use Rattle.levels.proofs.Levels.{home-first}
-use Rattle.levels.proofs.Starts.{above-round, begun-start, begun-some}
+use Rattle.starts.proofs.Levels.{home-first}
+use Rattle.starts.proofs.Starts.{above-round, begun-start, begun-some}
 use Rattle.shortest.proofs.Words.{place-of-E}
 use Rattle.shortest.proofs.Picks.{ranks-few}
 

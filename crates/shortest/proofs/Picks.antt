@@ -9,7 +9,7 @@ use Rattle.words.specs.Bits.{bit, Both, Lowest}
 use Rattle.words.proofs.Words.{bit-zero}
 use Rattle.rules.specs.HeldLocks.{Second, R, N}
 use Rattle.search.specs.declared.Arrivals.{Arrivals}
-use Rattle.levels.specs.Levels.{letterAt}
+use Rattle.starts.specs.Levels.{letterAt}
 use Rattle.shortest.specs.Shortest.{Side, ranksAfter, Hit, Picked}
 use Rattle.shortest.proofs.Words.{place-of-R, place-of-N}
 

@@ -20,7 +20,7 @@ use Rattle.successors.specs.declared.SafeWords.{SafeWords}
 use Rattle.successors.proofs.Digits.{column-bit, column-out, columns-at}
 use Rattle.successors.proofs.Classes.{safe-at}
 use Rattle.successors.proofs.Encoded.{mark-digit, kind-digit, flag-and, flag-true}
-use Rattle.levels.specs.Levels.{letterAt}
+use Rattle.starts.specs.Levels.{letterAt}
 use Rattle.shortest.specs.Shortest.{Encoded, lockAt, safeAt, unsafeAt, digitBy, RankWord, RankWords}
 
 -- ---- By the kind's place.

@@ -21,7 +21,7 @@ use Rattle.successors.specs.Successors.{levelDigit, usageDigit, safeOf}
 use Rattle.successors.specs.declared.KindWords.{KindWords}
 use Rattle.successors.specs.declared.SafeWords.{SafeWords}
 use Rattle.routes.specs.Routes.{Home, Start, Greedy}
-use Rattle.levels.specs.Levels.{letterAt, levelAt, Level}
+use Rattle.starts.specs.Levels.{letterAt, levelAt, Level}
 use Rattle.shortest.specs.declared.Choice.{Choice}
 use Rattle.shortest.specs.declared.Found.{Found}
 

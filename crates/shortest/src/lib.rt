@@ -2,12 +2,12 @@
 // dependency, by kind, source and next class, from which the start is reached again in time.
 use layout::MARKS_AT;
 use layout::MAX_CLASSES;
-use levels::Begin;
-use levels::LEVELS;
-use levels::fill;
-use levels::first_start;
-use levels::level;
 use search::Arrivals;
+use starts::Begin;
+use starts::LEVELS;
+use starts::fill;
+use starts::first_start;
+use starts::level;
 use successors::HARD_DIGITS;
 use successors::KindWords;
 use successors::ROWS;
@@ -25,7 +25,7 @@ ghost use Prim.Native.Nat.{_+_, _*_, _/_, _%_, _<_, _≤_};
 ghost use lib.ListN.{length};
 ghost use Rattle.successors.specs.Column.{Columns};
 ghost use Rattle.successors.specs.Successors.{Ready, SafeColumns};
-ghost use Rattle.levels.specs.Levels.{letterAt};
+ghost use Rattle.starts.specs.Levels.{letterAt};
 ghost use Rattle.shortest.specs.Shortest.{lockAt, safeAt, unsafeAt, Side, ranksAfter, Picked, RankWord, RankWords, Written, Letter, Chained, Shortest};
 
 // ---- The dependencies of a class by rank: three times the kind's place (ER 0, EN 1, SR 2, SN 3) and the source. Ranks are in the order of

@@ -2,7 +2,7 @@ use mathlib.Core.Path.{_≡_}
 use Prim.Native.Nat.{_-_, _≤_}
 use borrow.Author.Needs.{needs}
 use native.Mathlib.Omega.{arith}
-use Rattle.levels.specs.Levels.{letterAt}
+use Rattle.starts.specs.Levels.{letterAt}
 use Rattle.shortest.specs.Shortest.{ranksAfter}
 use Rattle.shortest.proofs.Picks.{ranks-few, Passed, passed-none, passed-more, picked-some, picked-none}
 use Rattle.shortest.proofs.pick.Statement.{statement}

@@ -1,8 +1,8 @@
 use mathlib.Core.Path.{refl}
 use borrow.Author.Needs.{needs}
 use native.Mathlib.Omega.{arith}
-use Rattle.levels.proofs.better.Statement.{statement}
-use Rattle.levels.proofs.better.Tie as tie
+use Rattle.starts.proofs.better.Statement.{statement}
+use Rattle.starts.proofs.better.Tie as tie
 
 returns : tie.Need-returns
 returns c = record { none = λ z. refl; some = λ z. absurd (z (c .if1 .taken)) }

@@ -3,10 +3,10 @@ use Prim.Native.Nat.{_-_, _*_, _≤_}
 use borrow.Author.Needs.{needs}
 use native.Mathlib.Omega.{arith}
 use lib.ListN.{length}
-use Rattle.levels.specs.Starts.{Begun}
-use Rattle.levels.proofs.Starts.{begun-none, begun-more}
-use Rattle.levels.proofs.first_start.Statement.{statement}
-use Rattle.levels.proofs.first_start.Tie as tie
+use Rattle.starts.specs.Starts.{Begun}
+use Rattle.starts.proofs.Starts.{begun-none, begun-more}
+use Rattle.starts.proofs.first_start.Statement.{statement}
+use Rattle.starts.proofs.first_start.Tie as tie
 
 abbrev Inv-loop : tie.InvT-loop
 Inv-loop rows k limit levels₀ best₀ start₀ levels best start = (start ≤ 2 * k) × (k ≤ 64) × (length levels ≡ 128) × Begun rows k limit start best

@@ -13,9 +13,9 @@ use Rattle.rules.proofs.Rounds.{turned}
 use Rattle.rules.proofs.Pigeons.{some-below}
 use Rattle.search.specs.Rows.{secondIndex, Rows}
 use Rattle.routes.specs.Routes.{Start}
-use Rattle.levels.specs.Levels.{letterAt, Above, NoneUpTo, Filled}
-use Rattle.levels.specs.Starts.{startOf, Better, Begun}
-use Rattle.levels.specs.declared.Begin.{Begin}
+use Rattle.starts.specs.Levels.{letterAt, Above, NoneUpTo, Filled}
+use Rattle.starts.specs.Starts.{startOf, Better, Begun}
+use Rattle.starts.specs.declared.Begin.{Begin}
 use Rattle.routes.proofs.Routes.{home-round, round-home, cycle-round}
 
 none-less : {rows : List ℕ} {K x m n : ℕ} {d : Second} → m ≤ n → NoneUpTo rows K x d n → NoneUpTo rows K x d m

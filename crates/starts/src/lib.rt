@@ -8,8 +8,8 @@ ghost use mathlib.Core.Path.{_≡_};
 ghost use Prim.Native.Nat.{_*_, _<_, _≤_};
 ghost use lib.ListN.{length};
 ghost use Rattle.search.specs.Rows.{firstAt, firstIndex};
-ghost use Rattle.levels.specs.Levels.{LeadsBy, Widened, Behind, AtHome, IsIn, IsEmpty, stored, letterAt, Filled, levelAt};
-ghost use Rattle.levels.specs.Starts.{Better, Begun};
+ghost use Rattle.starts.specs.Levels.{LeadsBy, Widened, Behind, AtHome, IsIn, IsEmpty, stored, letterAt, Filled, levelAt};
+ghost use Rattle.starts.specs.Starts.{Better, Begun};
 
 // ---- Back from the start: the arrivals from which a number of dependencies leads there.
 

@@ -2,10 +2,10 @@ use mathlib.Core.Path.{_≡_}
 use Prim.Native.Nat.{_-_, _≤_}
 use borrow.Author.Needs.{needs}
 use native.Mathlib.Omega.{arith}
-use Rattle.levels.specs.Levels.{Behind}
-use Rattle.levels.proofs.Levels.{behind-none, behind-more}
-use Rattle.levels.proofs.behind.Statement.{statement}
-use Rattle.levels.proofs.behind.Tie as tie
+use Rattle.starts.specs.Levels.{Behind}
+use Rattle.starts.proofs.Levels.{behind-none, behind-more}
+use Rattle.starts.proofs.behind.Statement.{statement}
+use Rattle.starts.proofs.behind.Tie as tie
 
 abbrev Inv-loop : tie.InvT-loop
 Inv-loop rows from k to out₀ class₀ out class = (class ≤ k) × (k ≤ 64) × Behind rows from class to out

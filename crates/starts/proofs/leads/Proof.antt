@@ -1,9 +1,9 @@
 use borrow.Author.Needs.{needs}
 use native.Mathlib.Omega.{arith}
 use Rattle.search.proofs.Sets.{first-small}
-use Rattle.levels.proofs.Levels.{leads-r, leads-n, leads-none}
-use Rattle.levels.proofs.leads.Statement.{statement}
-use Rattle.levels.proofs.leads.Tie as tie
+use Rattle.starts.proofs.Levels.{leads-r, leads-n, leads-none}
+use Rattle.starts.proofs.leads.Statement.{statement}
+use Rattle.starts.proofs.leads.Tie as tie
 
 mul-i : tie.Need-mul-i
 mul-i c = search needs

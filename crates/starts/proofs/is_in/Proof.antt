@@ -1,7 +1,7 @@
 use borrow.Author.Needs.{needs}
-use Rattle.levels.proofs.Levels.{in-r, not-in-r, in-n, not-in-n}
-use Rattle.levels.proofs.is_in.Statement.{statement}
-use Rattle.levels.proofs.is_in.Tie as tie
+use Rattle.starts.proofs.Levels.{in-r, not-in-r, in-n, not-in-n}
+use Rattle.starts.proofs.is_in.Statement.{statement}
+use Rattle.starts.proofs.is_in.Tie as tie
 
 shr-if2 : tie.Need-shr-if2
 shr-if2 c = search needs

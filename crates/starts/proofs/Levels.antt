@@ -24,7 +24,7 @@ use Rattle.search.specs.Arrivals.{none, In}
 use Rattle.search.specs.declared.Arrivals.{Arrivals}
 use Rattle.search.proofs.Sets.{empty, no-arrival, row-r, row-n}
 use Rattle.routes.specs.Routes.{widest, Step, Home}
-use Rattle.levels.specs.Levels.{letterAt, LeadsInto, LeadsBy, Widened, Behind, AtHome, IsIn, IsEmpty, Above, stored, levelAt, Level, NoneUpTo, Filled}
+use Rattle.starts.specs.Levels.{letterAt, LeadsInto, LeadsBy, Widened, Behind, AtHome, IsIn, IsEmpty, Above, stored, levelAt, Level, NoneUpTo, Filled}
 use Rattle.routes.proofs.Routes.{after-E, stays}
 
 -- ---- One class.

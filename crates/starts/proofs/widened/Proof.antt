@@ -1,7 +1,7 @@
 use borrow.Author.Needs.{needs}
-use Rattle.levels.proofs.Levels.{widened-e, widened-s, widened-none}
-use Rattle.levels.proofs.widened.Statement.{statement}
-use Rattle.levels.proofs.widened.Tie as tie
+use Rattle.starts.proofs.Levels.{widened-e, widened-s, widened-none}
+use Rattle.starts.proofs.widened.Statement.{statement}
+use Rattle.starts.proofs.widened.Tie as tie
 
 leads-requires : tie.Need-leads-requires
 leads-requires c κs = search needs

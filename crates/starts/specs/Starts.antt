@@ -6,8 +6,8 @@ use Rattle.rules.specs.HeldLocks.{Second}
 use Rattle.rules.specs.Graph.{Graph}
 use Rattle.search.specs.Rows.{secondIndex, Rows}
 use Rattle.routes.specs.Routes.{Home}
-use Rattle.levels.specs.Levels.{letterAt, NoneUpTo}
-use Rattle.levels.specs.declared.Begin.{Begin}
+use Rattle.starts.specs.Levels.{letterAt, NoneUpTo}
+use Rattle.starts.specs.declared.Begin.{Begin}
 
 -- The place of a class and a letter in the order of the starts.
 abbrev pub startOf : ℕ → Second → ℕ

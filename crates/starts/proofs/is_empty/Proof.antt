@@ -1,6 +1,6 @@
-use Rattle.levels.proofs.Levels.{not-empty, empty-law}
-use Rattle.levels.proofs.is_empty.Statement.{statement}
-use Rattle.levels.proofs.is_empty.Tie as tie
+use Rattle.starts.proofs.Levels.{not-empty, empty-law}
+use Rattle.starts.proofs.is_empty.Statement.{statement}
+use Rattle.starts.proofs.is_empty.Tie as tie
 
 returns : tie.Need-returns
 returns c = not-empty

@@ -3,10 +3,10 @@ use Prim.Native.Nat.{_-_, _<_, _≤_}
 use borrow.Author.Needs.{needs}
 use native.Mathlib.Omega.{arith}
 use lib.ListN.{length}
-use Rattle.levels.specs.Levels.{letterAt}
-use Rattle.levels.proofs.Levels.{Filling, filling-none, filling-more, filled-some, filled-empty, filled-none, stored-long}
-use Rattle.levels.proofs.fill.Statement.{statement}
-use Rattle.levels.proofs.fill.Tie as tie
+use Rattle.starts.specs.Levels.{letterAt}
+use Rattle.starts.proofs.Levels.{Filling, filling-none, filling-more, filled-some, filled-empty, filled-none, stored-long}
+use Rattle.starts.proofs.fill.Statement.{statement}
+use Rattle.starts.proofs.fill.Tie as tie
 
 abbrev Inv-loop : tie.InvT-loop
 Inv-loop rows k class letter limit levels₀ back₀ m₀ levels back m =
