@@ -7,10 +7,11 @@ from pathlib import Path
 
 root = Path(__file__).resolve().parent.parent
 library = ctypes.CDLL(str(Path(sys.argv[1]).resolve()))
-header = {name.replace("_", " ").lower(): int(value) for name, value in
-          re.findall(r"PLUNGEROWL_(\w+) = (\d+)", (root / "include/plungerowl.h").read_text(encoding="utf-8"))}
+header_text = (root / "include/plungerowl.h").read_text(encoding="utf-8")
+header = {name.replace("_", " ").lower(): int(value) for name, value in re.findall(r"PLUNGEROWL_(\w+) = (\d+)", header_text)}
+header_answers = {int(value) for value in re.findall(r" = (\d+)", re.search(r"enum plungerowl_answer \{(.*?)\n\};", header_text, re.DOTALL)[1])}
 page = (Path(sys.argv[2]) if len(sys.argv) > 2 else root / "docs/FORMATS.md").read_text(encoding="utf-8")
-for call in "open", "step", "ask", "feed_start", "feed", "feed_end":
+for call in "open", "step", "ask", "feed_start", "feed", "feed_end", "balance":
     getattr(library, f"plungerowl_{call}").restype = ctypes.c_uint8
 checks = wrong = 0
 FILL = 0xEE

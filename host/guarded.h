@@ -8,6 +8,7 @@
 #include <string.h>
 
 #define GUARD_SIZE 67 /* odd, so that the buffers are not aligned */
+#define NUMBERS_GUARD_SIZE 68 /* aligned for numbers of 4 bytes, no more */
 #define GUARD_BYTE 0xA5
 
 struct guarded {
@@ -24,18 +25,30 @@ static inline void guarded_fill(struct guarded *g, uint8_t fill)
     memset(g->bytes + g->size, GUARD_BYTE, g->behind);
 }
 
-/* Allocate size bytes of the given fill and the guards; 1 on success. */
-static inline int guarded_make(struct guarded *g, size_t size, uint8_t fill)
+/* Allocate size bytes of the given fill between two guards; 1 on success. */
+static inline int guarded_make_between(struct guarded *g, size_t size,
+                                       uint8_t fill, size_t guard)
 {
-    uint8_t *block = malloc(GUARD_SIZE + size + GUARD_SIZE);
+    uint8_t *block = malloc(guard + size + guard);
 
     if (block == NULL)
         return 0;
-    g->bytes = block + GUARD_SIZE;
+    g->bytes = block + guard;
     g->size = size;
-    g->before = g->behind = GUARD_SIZE;
+    g->before = g->behind = guard;
     guarded_fill(g, fill);
     return 1;
+}
+
+static inline int guarded_make(struct guarded *g, size_t size, uint8_t fill)
+{
+    return guarded_make_between(g, size, fill, GUARD_SIZE);
+}
+
+static inline int guarded_make_numbers(struct guarded *g, size_t size,
+                                       uint8_t fill)
+{
+    return guarded_make_between(g, size, fill, NUMBERS_GUARD_SIZE);
 }
 
 static inline void guarded_free(struct guarded *g)

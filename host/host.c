@@ -1,13 +1,21 @@
 /*
- * host.c - validate a lock log through libplungerowl.a.
+ * host.c - validate a lock log, or balance a piece of one, through
+ * libplungerowl.a.
  *
  * Usage: host [-p BYTES] [LOG]      (standard input without LOG)
+ *        host balance [PIECE]       (standard input without PIECE)
  *
  * Feeds the log as it comes, a read a piece, up to the first answer but 0; a
  * read asks for BYTES bytes, 1 to 1048576, or 4096 without -p. Prints what the
  * program prints (docs/FORMATS.md, "The program") and, after a clean or faulted
  * log, one line "class C reaches N: i j k" for each class from which a strong
  * path leads to something.
+ *
+ * With balance as its first argument it reads a piece: up to its end, but one
+ * byte more than the longest piece has at most, which is enough to see that it
+ * is too long. Prints a line "CLASS BALANCE" for each class whose balance is
+ * not 0, the lowest first, so nothing at all where every balance is 0, or
+ * "refused 14". A log in a file called balance is validated by ./balance.
  *
  * Exit status: 0 the whole output was written, whatever it says; 2 trouble with
  * usage, input, output or memory; 3 the library broke its promises (guard
@@ -128,16 +136,16 @@ static unsigned ask_buffers(const struct buffers *b, unsigned class_,
     return answer;
 }
 
-/* Read the next piece; its length, 0 at the end of the input. */
-static size_t read_piece(struct buffers *b, int input)
+/* Read up to size bytes; how many were read, 0 at the end of the input. */
+static size_t read_bytes(int input, uint8_t *bytes, size_t size)
 {
     ssize_t length;
 
     do {
-        length = read(input, b->piece.bytes, b->piece.size);
+        length = read(input, bytes, size);
     } while (length < 0 && errno == EINTR);
     if (length < 0)
-        quit(STATUS_TROUBLE, "the log cannot be read");
+        quit(STATUS_TROUBLE, "the input cannot be read");
     return (size_t)length;
 }
 
@@ -148,7 +156,8 @@ static unsigned feed_log(struct buffers *b, int input, uint64_t *record)
     size_t length;
 
     start_feed(b);
-    while (answer == PLUNGEROWL_OK && (length = read_piece(b, input)) > 0)
+    while (answer == PLUNGEROWL_OK
+           && (length = read_bytes(input, b->piece.bytes, b->piece.size)) > 0)
         answer = feed_piece(b, length, record);
     if (answer == PLUNGEROWL_OK)
         answer = end_feed(b, record);
@@ -248,6 +257,56 @@ static void validate_log(int input, size_t piece_size)
     free_buffers(&b);
 }
 
+/* Fill the buffer; how many bytes it got, fewer than it has if the input ends
+ * before. */
+static size_t read_whole(int input, struct guarded *piece)
+{
+    size_t length = 0;
+    size_t more;
+
+    while (length < piece->size
+           && (more = read_bytes(input, piece->bytes + length,
+                                 piece->size - length)) > 0)
+        length += more;
+    return length;
+}
+
+static void print_balances(const int32_t balances[PLUNGEROWL_MAX_CLASSES])
+{
+    unsigned class_;
+
+    for (class_ = 0; class_ < PLUNGEROWL_MAX_CLASSES; class_++)
+        if (balances[class_] != 0)
+            printf("%u %" PRId32 "\n", class_, balances[class_]);
+}
+
+static void balance_piece(int input)
+{
+    struct guarded piece, room;
+    int32_t balances[PLUNGEROWL_MAX_CLASSES];
+    unsigned answer;
+    size_t length;
+
+    if (!guarded_make(&piece, PLUNGEROWL_MAX_PIECE_SIZE + 1, 0xEE)
+        || !guarded_make_numbers(&room, sizeof balances, 0xEE))
+        quit(STATUS_TROUBLE, "out of memory");
+    length = read_whole(input, &piece);
+    answer = plungerowl_balance(piece.bytes, length, (int32_t *)room.bytes);
+    if (!guarded_intact(&piece))
+        quit(STATUS_LIBRARY, "bytes around the piece were changed");
+    if (!guarded_intact(&room))
+        quit(STATUS_LIBRARY, "bytes around the balances were changed");
+    memcpy(balances, room.bytes, sizeof balances);
+    if (answer == PLUNGEROWL_OK)
+        print_balances(balances);
+    else if (answer == PLUNGEROWL_BAD_PIECE)
+        printf("refused %u\n", answer);
+    else
+        quit(STATUS_LIBRARY, "a balance has an unknown answer");
+    guarded_free(&piece);
+    guarded_free(&room);
+}
+
 static size_t piece_size_of(const char *text)
 {
     char *end;
@@ -263,17 +322,25 @@ int main(int argc, char **argv)
 {
     size_t piece_size = PIECE_SIZE;
     int input = STDIN_FILENO;
+    int balance = argc > 1 && strcmp(argv[1], "balance") == 0;
 
-    if (argc > 2 && strcmp(argv[1], "-p") == 0) {
+    if (balance) {
+        argc--;
+        argv++;
+    } else if (argc > 2 && strcmp(argv[1], "-p") == 0) {
         piece_size = piece_size_of(argv[2]);
         argc -= 2;
         argv += 2;
     }
     if (argc > 2)
-        quit(STATUS_TROUBLE, "usage: host [-p BYTES] [LOG]");
+        quit(STATUS_TROUBLE,
+             "usage: host [-p BYTES] [LOG], or host balance [PIECE]");
     if (argc == 2 && (input = open(argv[1], O_RDONLY)) < 0)
-        quit(STATUS_TROUBLE, "the log cannot be opened");
-    validate_log(input, piece_size);
+        quit(STATUS_TROUBLE, "the input cannot be opened");
+    if (balance)
+        balance_piece(input);
+    else
+        validate_log(input, piece_size);
     if (input != STDIN_FILENO)
         close(input);
     if (fflush(stdout) != 0 || ferror(stdout))

@@ -6,9 +6,9 @@
  * host/run_tests reads the lists below and tries each plant with the test of
  * the selftest that is meant for it.
  *
- * The feed has a second version here, in C over real_open and real_step, with
- * places for mistakes; the plants of the second list and "feed_right", which
- * has no mistake, use it.
+ * The feed has a second version here, in C over real_open and real_step, and
+ * the balance has one too, with places for mistakes; the plants of the second
+ * list and of the third use them, and "right" uses both, without a mistake.
  */
 #include <stdlib.h>
 #include <string.h>
@@ -358,6 +358,7 @@
     X(feed_fit_9_at_0, feed_unfit, wrong) \
     X(feed_fit_9_before_opening, feed_unfit, wrong) \
     X(feed_fit_12, feed_unfit, wrong) \
+    X(feed_fit_14, feed_unfit, wrong) \
     X(feed_fit_255, feed_unfit, wrong) \
     X(feed_fit_answer_at_0, feed_unfit, wrong) \
     X(feed_fit_answer_at_0_only_1, feed_unfit, wrong) \
@@ -517,12 +518,221 @@
     X(end_repeats_number_more, feed_stop, wrong) \
     X(end_reads_behind_feed, feed_end, killed)
 
+#define BALANCE_PLANTS(X) \
+    X(balance_60000_refused, balance_lengths, wrong) \
+    X(balance_59994_refused, balance_lengths, wrong) \
+    X(balance_60006_taken, balance_lengths, wrong) \
+    X(balance_60012_taken, balance_lengths, wrong) \
+    X(balance_limit_10000_bytes, balance_lengths, wrong) \
+    X(balance_limit_4096_records, balance_lengths, wrong) \
+    X(balance_limit_65535_bytes, balance_lengths, wrong) \
+    X(balance_limit_65535_records, balance_longer, wrong) \
+    X(balance_limit_60000_records, balance_longer, wrong) \
+    X(balance_limit_of_16_bits, balance_lengths, wrong) \
+    X(balance_limit_of_17_bits, balance_longer, wrong) \
+    X(balance_limit_of_20_bits, balance_longer, wrong) \
+    X(balance_limit_of_31_bits, balance_huge, wrong) \
+    X(balance_limit_of_32_bits, balance_huge, wrong) \
+    X(balance_limit_signed, balance_huge, wrong) \
+    X(balance_no_limit, balance_lengths, wrong) \
+    X(balance_long_cut, balance_lengths, wrong) \
+    X(balance_60001_taken, balance_lengths, wrong) \
+    X(balance_rest_ignored, balance_lengths, wrong) \
+    X(balance_rest_1_taken, balance_lengths, wrong) \
+    X(balance_rest_2_taken, balance_lengths, wrong) \
+    X(balance_rest_3_taken, balance_lengths, wrong) \
+    X(balance_rest_4_taken, balance_lengths, wrong) \
+    X(balance_rest_5_taken, balance_lengths, wrong) \
+    X(balance_rest_of_8_bits, balance_lengths, wrong) \
+    X(balance_rest_ignored_of_long, balance_lengths, wrong) \
+    X(balance_rest_ignored_of_short, balance_lengths, wrong) \
+    X(balance_rest_padded, balance_lengths, wrong) \
+    X(balance_whole_by_2, balance_lengths, wrong) \
+    X(balance_whole_by_3, balance_lengths, wrong) \
+    X(balance_whole_by_4, balance_lengths, wrong) \
+    X(balance_whole_by_12, balance_lengths, wrong) \
+    X(balance_empty_refused, balance_lengths, wrong) \
+    X(balance_one_record_refused, balance_lengths, wrong) \
+    X(balance_log_taken, balance_header, wrong) \
+    X(balance_log_taken_by_its_k, balance_header, wrong) \
+    X(balance_refused_as_0, balance_lengths, wrong) \
+    X(balance_refused_as_1, balance_lengths, wrong) \
+    X(balance_refused_as_11, balance_lengths, wrong) \
+    X(balance_refused_as_12, balance_lengths, wrong) \
+    X(balance_refused_as_13, balance_lengths, wrong) \
+    X(balance_refused_as_15, balance_lengths, wrong) \
+    X(balance_refused_as_255, balance_lengths, wrong) \
+    X(balance_rest_as_3, balance_lengths, wrong) \
+    X(balance_rest_as_2, balance_lengths, wrong) \
+    X(balance_rest_as_11, balance_lengths, wrong) \
+    X(balance_long_as_2, balance_lengths, wrong) \
+    X(balance_long_as_3, balance_lengths, wrong) \
+    X(balance_long_as_8, balance_lengths, wrong) \
+    X(balance_long_as_9, balance_lengths, wrong) \
+    X(balance_long_as_13, balance_lengths, wrong) \
+    X(balance_log_as_2, balance_header, wrong) \
+    X(balance_first_byte_any, balance_bytes, wrong) \
+    X(balance_second_byte_any, balance_bytes, wrong) \
+    X(balance_signature_any, balance_bytes, wrong) \
+    X(balance_signature_either, balance_bytes, wrong) \
+    X(balance_signature_turned, balance_malformed, wrong) \
+    X(balance_signature_of_header, balance_malformed, wrong) \
+    X(balance_signature_of_7_bits, balance_bytes, wrong) \
+    X(balance_signature_small, balance_bytes, wrong) \
+    X(balance_core_8, balance_cores, wrong) \
+    X(balance_core_255, balance_cores, wrong) \
+    X(balance_core_any, balance_cores, wrong) \
+    X(balance_core_7_left_out, balance_lengths, wrong) \
+    X(balance_core_0_only, balance_cores, wrong) \
+    X(balance_core_0_left_out, balance_lengths, wrong) \
+    X(balance_mode_6, balance_modes, wrong) \
+    X(balance_mode_255, balance_modes, wrong) \
+    X(balance_mode_any, balance_modes, wrong) \
+    X(balance_mode_of_3_bits, balance_modes, wrong) \
+    X(balance_modes_0_to_2, balance_modes, wrong) \
+    X(balance_mode_0_only, balance_modes, wrong) \
+    X(balance_reads_left_out, balance_modes, wrong) \
+    X(balance_mode_3_left_out, balance_modes, wrong) \
+    X(balance_mode_4_left_out, balance_modes, wrong) \
+    X(balance_mode_5_left_out, balance_modes, wrong) \
+    X(balance_release_mode_1, balance_modes, wrong) \
+    X(balance_release_mode_3, balance_modes, wrong) \
+    X(balance_release_modes, balance_modes, wrong) \
+    X(balance_release_mode_any, balance_modes, wrong) \
+    X(balance_kind_2_acquires, balance_kinds, wrong) \
+    X(balance_kind_2_releases, balance_kinds, wrong) \
+    X(balance_kind_9_releases, balance_kinds, wrong) \
+    X(balance_kinds_by_low_bit, balance_kinds, wrong) \
+    X(balance_kinds_over_0_release, balance_kinds, wrong) \
+    X(balance_kinds_of_4_bits, balance_kinds, wrong) \
+    X(balance_kinds_of_7_bits, balance_kinds, wrong) \
+    X(balance_kind_10_releases, balance_kinds, wrong) \
+    X(balance_kind_255_releases, balance_kinds, wrong) \
+    X(balance_events_with_a_class, balance_kinds, wrong) \
+    X(balance_class_64_at_0, balance_classes, wrong) \
+    X(balance_class_64_at_63, balance_classes, wrong) \
+    X(balance_class_255_at_0, balance_classes, wrong) \
+    X(balance_class_of_6_bits, balance_classes, wrong) \
+    X(balance_class_of_7_bits, balance_classes, wrong) \
+    X(balance_class_over_at_63, balance_classes, wrong) \
+    X(balance_class_0_left_out, balance_classes, wrong) \
+    X(balance_class_63_left_out, balance_classes, wrong) \
+    X(balance_32_classes, balance_classes, wrong) \
+    X(balance_8_classes, balance_classes, wrong) \
+    X(balance_classes_turned, balance_classes, wrong) \
+    X(balance_classes_one_up, balance_classes, wrong) \
+    X(balance_classes_as_kinds, balance_classes, wrong) \
+    X(balance_below_0_not_kept, balance_order, wrong) \
+    X(balance_at_most_1, balance_numbers, wrong) \
+    X(balance_at_most_20, balance_numbers, wrong) \
+    X(balance_at_most_127, balance_numbers, wrong) \
+    X(balance_at_most_255, balance_numbers, wrong) \
+    X(balance_at_most_4095, balance_numbers, wrong) \
+    X(balance_at_most_9999, balance_most, wrong) \
+    X(balance_at_least_1_below, balance_numbers, wrong) \
+    X(balance_at_least_128_below, balance_numbers, wrong) \
+    X(balance_at_least_4096_below, balance_numbers, wrong) \
+    X(balance_at_least_9999_below, balance_most, wrong) \
+    X(balance_below_0_as_0, balance_numbers, wrong) \
+    X(balance_below_0_as_most, balance_numbers, wrong) \
+    X(balance_absolute, balance_numbers, wrong) \
+    X(balance_turned, balance_order, wrong) \
+    X(balance_twice, balance_numbers, wrong) \
+    X(balance_as_sign, balance_numbers, wrong) \
+    X(balance_of_8_bits, balance_numbers, wrong) \
+    X(balance_of_8_bits_unsigned, balance_numbers, wrong) \
+    X(balance_of_12_bits, balance_numbers, wrong) \
+    X(balance_of_12_bits_unsigned, balance_numbers, wrong) \
+    X(balance_of_13_bits, balance_numbers, wrong) \
+    X(balance_of_14_bits, balance_numbers, wrong) \
+    X(balance_of_16_bits_unsigned, balance_numbers, wrong) \
+    X(balance_high_byte_first, balance_numbers, wrong) \
+    X(balance_first_left_out, balance_lengths, wrong) \
+    X(balance_last_left_out, balance_lengths, wrong) \
+    X(balance_last_of_most_left_out, balance_most, wrong) \
+    X(balance_every_other, balance_lengths, wrong) \
+    X(balance_only_255, balance_lengths, wrong) \
+    X(balance_only_4096_bytes, balance_lengths, wrong) \
+    X(balance_only_4096, balance_lengths, wrong) \
+    X(balance_only_8192, balance_numbers, wrong) \
+    X(balance_from_the_end, balance_malformed_long, wrong) \
+    X(balance_accepted_only, balance_not_accepted, wrong) \
+    X(balance_up_to_refusal, balance_not_accepted, wrong) \
+    X(balance_up_to_fault, balance_not_accepted, wrong) \
+    X(balance_not_full_only, balance_not_accepted, wrong) \
+    X(balance_held_only, balance_not_accepted, wrong) \
+    X(balance_own_core_only, balance_order, wrong) \
+    X(balance_malformed_ends, balance_malformed, wrong) \
+    X(balance_signature_ends, balance_malformed, wrong) \
+    X(balance_zeros_end, balance_malformed, wrong) \
+    X(balance_class_64_ends, balance_classes, wrong) \
+    X(balance_malformed_as_3, balance_malformed, wrong) \
+    X(balance_malformed_as_14, balance_malformed, wrong) \
+    X(balance_malformed_as_14_counted, balance_malformed, wrong) \
+    X(balance_malformed_first_as_14, balance_malformed, wrong) \
+    X(balance_malformed_last_as_14, balance_malformed, wrong) \
+    X(balance_class_64_as_4, balance_classes, wrong) \
+    X(balance_class_64_as_14, balance_classes, wrong) \
+    X(balance_malformed_clears, balance_malformed, wrong) \
+    X(balance_malformed_takes_next, balance_malformed, wrong) \
+    X(balance_acquire_sets_1, balance_order, wrong) \
+    X(balance_release_sets_0, balance_order, wrong) \
+    X(balance_acquires_only, balance_order, wrong) \
+    X(balance_releases_only, balance_order, wrong) \
+    X(balance_below_0_as_5, balance_example, wrong) \
+    X(balance_below_0_as_14, balance_example, wrong) \
+    X(balance_full_as_8, balance_numbers, wrong) \
+    X(balance_uneven_as_1, balance_example, wrong) \
+    X(balance_nothing_as_14, balance_example, wrong) \
+    X(balance_first_not_written, balance_written, wrong) \
+    X(balance_last_not_written, balance_written, wrong) \
+    X(balance_left_where_not_met, balance_written, wrong) \
+    X(balance_left_where_even, balance_written, wrong) \
+    X(balance_left_of_nothing, balance_written, wrong) \
+    X(balance_numbers_of_2_bytes, balance_written, wrong) \
+    X(balance_added_to_old, balance_written, wrong) \
+    X(balance_added_to_last, balance_again, wrong) \
+    X(balance_summed_up, balance_order, wrong) \
+    X(balance_14_leaves_first, balance_written, wrong) \
+    X(balance_14_leaves_last, balance_written, wrong) \
+    X(balance_14_clears_32, balance_written, wrong) \
+    X(balance_14_clears_64_bytes, balance_written, wrong) \
+    X(balance_14_leaves_all, balance_written, wrong) \
+    X(balance_14_leaves_long, balance_written, wrong) \
+    X(balance_14_leaves_rest, balance_written, wrong) \
+    X(balance_14_with_sums, balance_written, wrong) \
+    X(balance_14_with_sums_of_long, balance_written, wrong) \
+    X(balance_14_with_sums_of_rest, balance_written, wrong) \
+    X(balance_14_writes_1_below, balance_written, wrong) \
+    X(balance_writes_65, balance_written, wrong) \
+    X(balance_writes_65_on_14, balance_written, wrong) \
+    X(balance_writes_before, balance_written, wrong) \
+    X(balance_writes_piece, balance_random, wrong) \
+    X(balance_writes_end_of_piece, balance_random, wrong) \
+    X(balance_writes_piece_and_back, balance_read_only, killed) \
+    X(balance_writes_behind_piece, balance_random, wrong) \
+    X(balance_writes_before_piece, balance_random, wrong) \
+    X(balance_reads_behind_piece, balance_example, killed) \
+    X(balance_reads_before_piece, balance_example, killed) \
+    X(balance_reads_a_whole_record, balance_example, killed) \
+    X(balance_reads_behind_balances, balance_example, killed) \
+    X(balance_reads_before_balances, balance_example, killed) \
+    X(balance_piece_aligned_by_2, balance_places, wrong) \
+    X(balance_piece_aligned_by_16, balance_places, wrong) \
+    X(balance_numbers_aligned_by_8, balance_places, wrong) \
+    X(balance_refused_behind_refused, balance_again, wrong) \
+    X(balance_length_of_8_bits, balance_lengths, wrong) \
+    X(balance_length_of_16_bits, balance_lengths, wrong) \
+    X(balance_length_of_32_bits, balance_huge, wrong) \
+    X(balance_searches_signature, balance_header, wrong)
+
 #define ENUMERATOR(name, test, how) name,
 #define NAME(name, test, how) #name,
 
-enum plant { PLANTS(ENUMERATOR) FEED_PLANTS(ENUMERATOR) feed_right, none };
-static const char *const names[] = { PLANTS(NAME) FEED_PLANTS(NAME)
-                                     "feed_right", "none" };
+enum plant { PLANTS(ENUMERATOR) FEED_PLANTS(ENUMERATOR) right,
+             BALANCE_PLANTS(ENUMERATOR) none };
+static const char *const names[] = { PLANTS(NAME) FEED_PLANTS(NAME) "right",
+                                     BALANCE_PLANTS(NAME) "none" };
 
 uint8_t real_feed_start(uint8_t *, size_t);
 uint8_t real_feed(uint8_t *, size_t, uint8_t *, size_t, uint8_t *, size_t,
@@ -536,6 +746,7 @@ uint8_t real_step(uint8_t *, size_t, uint8_t *, size_t, uint8_t *, size_t,
                   uint8_t *, size_t, const uint8_t *, size_t);
 uint8_t real_ask(const uint8_t *, size_t, const uint8_t *, size_t,
                  const uint8_t *, size_t, uint64_t, uint64_t *, uint32_t *);
+uint8_t real_balance(const uint8_t *, size_t, int32_t *);
 
 static enum plant plant(void)
 {
@@ -2255,7 +2466,7 @@ enum { ANSWER_AT = PLUNGEROWL_FEED_ANSWER_AT,
 
 static int is_feed_plant(void)
 {
-    return plant() > ask_desk_without_origins && plant() <= feed_right;
+    return plant() > ask_desk_without_origins && plant() <= right;
 }
 
 /* What a call was lent. */
@@ -2387,6 +2598,7 @@ static int takes_unfit(const uint8_t *feed, size_t length)
         return p.opened == 1 && p.answer == 9 && p.number == 0;
     case feed_fit_9_before_opening: return p.opened == 0 && p.answer == 9;
     case feed_fit_12: return p.answer == 12 && p.number != 0;
+    case feed_fit_14: return p.answer == 14 && p.number != 0;
     case feed_fit_255: return p.answer == 255 && p.number != 0;
     case feed_fit_answer_at_0: return p.opened == 1 && p.number == 0;
     case feed_fit_answer_at_0_only_1:
@@ -2996,4 +3208,590 @@ uint8_t plungerowl_feed_end(uint8_t *feed, size_t feed_len,
     default: break;
     }
     return answer;
+}
+
+/* ------------------------------------------------------------- the balance */
+
+enum { CLASSES = PLUNGEROWL_MAX_CLASSES, MOST_BYTES = PLUNGEROWL_MAX_PIECE_SIZE,
+       MOST_RECORDS = PLUNGEROWL_MAX_PIECE_RECORDS };
+
+static int is_balance_plant(void)
+{
+    return plant() >= right && plant() < none;
+}
+
+static int starts_as_log(const uint8_t *piece, size_t length)
+{
+    return length >= 4 && piece[0] == 0x4C && piece[1] == 0x48 && piece[2] == 1;
+}
+
+/* Whether the piece is too long. */
+static int is_long(size_t length)
+{
+    switch (plant()) {
+    case balance_60000_refused: return length >= MOST_BYTES;
+    case balance_59994_refused: return length >= MOST_BYTES - 6;
+    case balance_60001_taken: return length > MOST_BYTES + 1;
+    case balance_60006_taken: return length > MOST_BYTES + 6;
+    case balance_60012_taken: return length > MOST_BYTES && length != 60012;
+    case balance_limit_10000_bytes: return length > MOST_RECORDS;
+    case balance_limit_4096_records: return length > 6 * 4096;
+    case balance_limit_65535_bytes: return length > 65535;
+    case balance_limit_65535_records: return length / 6 > 65535;
+    case balance_limit_60000_records: return length / 6 > MOST_BYTES;
+    case balance_limit_of_16_bits: return (length & 0xFFFF) > MOST_BYTES;
+    case balance_limit_of_17_bits: return (length & 0x1FFFF) > MOST_BYTES;
+    case balance_limit_of_20_bits: return (length & 0xFFFFF) > MOST_BYTES;
+    case balance_limit_of_31_bits: return (length & 0x7FFFFFFF) > MOST_BYTES;
+    case balance_limit_of_32_bits: return (uint32_t)length > MOST_BYTES;
+    case balance_limit_signed: return (length & 0xFFFFFFFF) <= INT32_MAX
+                                      && length > MOST_BYTES;
+    case balance_no_limit: return 0;
+    case balance_long_cut: return 0;
+    default: return length > MOST_BYTES;
+    }
+}
+
+/* Whether the piece is not a whole number of records. */
+static int has_rest(const uint8_t *piece, size_t length)
+{
+    size_t rest = length % 6;
+
+    switch (plant()) {
+    case balance_60001_taken: return rest != 0 && length != 60001;
+    case balance_rest_ignored: return 0;
+    case balance_rest_1_taken: return rest > 1;
+    case balance_rest_2_taken: return rest != 0 && rest != 2;
+    case balance_rest_3_taken: return rest != 0 && rest != 3;
+    case balance_rest_4_taken: return rest != 0 && rest != 4;
+    case balance_rest_5_taken: return rest != 0 && rest != 5;
+    case balance_rest_of_8_bits: return length % 256 % 6 != 0;
+    case balance_rest_ignored_of_long: return rest != 0 && length < 4096;
+    case balance_rest_ignored_of_short: return rest != 0 && length > 6;
+    case balance_rest_padded: return 0;
+    case balance_whole_by_2: return length % 2 != 0;
+    case balance_whole_by_3: return length % 3 != 0;
+    case balance_whole_by_4: return length % 4 != 0;
+    case balance_whole_by_12: return length % 12 != 0;
+    case balance_empty_refused: return rest != 0 || length == 0;
+    case balance_one_record_refused: return rest != 0 || length == 6;
+    case balance_log_taken:
+    case balance_log_taken_by_its_k:
+        return rest != (starts_as_log(piece, length) ? 4 : 0);
+    default: return rest != 0;
+    }
+}
+
+/* The refusal, as a wrong version gives it. */
+static unsigned refusal(const uint8_t *piece, size_t length)
+{
+    int too_long = length > MOST_BYTES;
+
+    switch (plant()) {
+    case balance_refused_as_0: return 0;
+    case balance_refused_as_1: return 1;
+    case balance_refused_as_11: return 11;
+    case balance_refused_as_12: return 12;
+    case balance_refused_as_13: return 13;
+    case balance_refused_as_15: return 15;
+    case balance_refused_as_255: return 255;
+    case balance_rest_as_3: return too_long ? 14 : 3;
+    case balance_rest_as_2: return too_long ? 14 : 2;
+    case balance_rest_as_11: return too_long ? 14 : 11;
+    case balance_long_as_2: return too_long ? 2 : 14;
+    case balance_long_as_3: return too_long ? 3 : 14;
+    case balance_long_as_8: return too_long ? 8 : 14;
+    case balance_long_as_9: return too_long ? 9 : 14;
+    case balance_long_as_13: return too_long ? 13 : 14;
+    case balance_log_as_2: return starts_as_log(piece, length) ? 2 : 14;
+    default: return 14;
+    }
+}
+
+/* Whether a record has the form that refusal 3 asks for. */
+static int has_signature(const uint8_t *at)
+{
+    int signs = at[0] == 0x4C && at[1] == 0x4B;
+
+    switch (plant()) {
+    case balance_first_byte_any: return at[1] == 0x4B;
+    case balance_second_byte_any: return at[0] == 0x4C;
+    case balance_signature_any: return 1;
+    case balance_signature_either: return at[0] == 0x4C || at[1] == 0x4B;
+    case balance_signature_turned: return signs || (at[0] == 0x4B
+                                                    && at[1] == 0x4C);
+    case balance_signature_of_header: return signs || (at[0] == 0x4C
+                                                       && at[1] == 0x48);
+    case balance_signature_of_7_bits: return at[0] % 128 == 0x4C
+                                             && at[1] % 128 == 0x4B;
+    case balance_signature_small: return (at[0] | 32) == 'l'
+                                         && (at[1] | 32) == 'k';
+    default: return signs;
+    }
+}
+
+static int has_core(unsigned core)
+{
+    switch (plant()) {
+    case balance_core_8: return core <= 8;
+    case balance_core_255: return core < 8 || core == 255;
+    case balance_core_any: return 1;
+    case balance_core_7_left_out: return core < 7;
+    case balance_core_0_only: return core == 0;
+    case balance_core_0_left_out: return core > 0 && core < 8;
+    default: return core < 8;
+    }
+}
+
+static int has_mode(unsigned mode)
+{
+    switch (plant()) {
+    case balance_mode_6: return mode <= 6;
+    case balance_mode_255: return mode <= 5 || mode == 255;
+    case balance_mode_any: return 1;
+    case balance_mode_of_3_bits: return mode % 8 <= 5;
+    case balance_modes_0_to_2: return mode <= 2;
+    case balance_mode_0_only: return mode == 0;
+    case balance_reads_left_out: return mode == 0 || mode == TRY;
+    case balance_mode_3_left_out: return mode <= 5 && mode != 3;
+    case balance_mode_4_left_out: return mode <= 5 && mode != 4;
+    case balance_mode_5_left_out: return mode <= 4;
+    default: return mode <= 5;
+    }
+}
+
+static int has_release_mode(unsigned mode)
+{
+    switch (plant()) {
+    case balance_release_mode_1: return mode <= 1;
+    case balance_release_mode_3: return mode == 0 || mode == 3;
+    case balance_release_modes: return mode <= 5;
+    case balance_release_mode_any: return 1;
+    default: return mode == 0;
+    }
+}
+
+/* What a record counts at its class: 1, -1 or 0. */
+static int weight_of(const uint8_t *at)
+{
+    unsigned kind = at[3];
+    int plain = at[4] == 0 && at[5] == 0;
+
+    if (!has_signature(at) || !has_core(at[2]))
+        return 0;
+    switch (plant()) {
+    case balance_kind_2_acquires: kind = kind == 2 && plain ? 0 : kind; break;
+    case balance_kind_2_releases: kind = kind == 2 && plain ? 1 : kind; break;
+    case balance_kind_9_releases: kind = kind == 9 && plain ? 1 : kind; break;
+    case balance_kinds_by_low_bit: kind = kind <= 9 ? kind % 2 : kind; break;
+    case balance_kinds_over_0_release: kind = kind > 1 && plain ? 1 : kind;
+        break;
+    case balance_kinds_of_4_bits: kind %= 16; break;
+    case balance_kinds_of_7_bits: kind %= 128; break;
+    case balance_kind_10_releases: kind = kind == 10 ? 1 : kind; break;
+    case balance_kind_255_releases: kind = kind == 255 ? 1 : kind; break;
+    case balance_events_with_a_class: kind = kind <= 9 && at[4] ? kind & 1
+                                             : kind; break;
+    default: break;
+    }
+    if (kind == PLUNGEROWL_ACQUIRE && has_mode(at[5]))
+        return 1;
+    if (kind == PLUNGEROWL_RELEASE && has_release_mode(at[5]))
+        return -1;
+    return 0;
+}
+
+static int is_malformed(const uint8_t *at)
+{
+    return at[0] != 0x4C || at[1] != 0x4B || at[2] > 7 || at[3] > 9
+           || at[5] > 5 || (at[3] > 0 && at[5] != 0)
+           || (at[3] > 1 && at[4] != 0);
+}
+
+/* Where a class is counted; CLASSES for nowhere. */
+static unsigned place_of(unsigned class_, unsigned k)
+{
+    switch (plant()) {
+    case balance_class_64_at_0: return class_ == 64 ? 0 : class_;
+    case balance_class_64_at_63: return class_ == 64 ? 63 : class_;
+    case balance_class_255_at_0: return class_ == 255 ? 0 : class_;
+    case balance_class_of_6_bits: return class_ % 64;
+    case balance_class_of_7_bits: return class_ % 128;
+    case balance_class_over_at_63: return class_ > 63 ? 63 : class_;
+    case balance_class_0_left_out: return class_ == 0 ? CLASSES : class_;
+    case balance_class_63_left_out: return class_ == 63 ? CLASSES : class_;
+    case balance_32_classes: return class_ < 32 ? class_ : CLASSES;
+    case balance_8_classes: return class_ < 8 ? class_ : CLASSES;
+    case balance_classes_turned: return class_ < 64 ? 63 - class_ : CLASSES;
+    case balance_classes_one_up: return class_ < 64 ? (class_ + 1) % 64
+                                                    : CLASSES;
+    case balance_classes_as_kinds: return class_ < 64 ? class_ / 2 : CLASSES;
+    case balance_log_taken_by_its_k: return class_ < k ? class_ : CLASSES;
+    default: return class_;
+    }
+}
+
+/* A number that a wrong version keeps at each record, or gives at the end. */
+static int32_t kept(int32_t sum)
+{
+    switch (plant()) {
+    case balance_below_0_not_kept: return sum < 0 ? 0 : sum;
+    case balance_at_most_1: return sum > 1 ? 1 : sum;
+    case balance_at_most_20: return sum > 20 ? 20 : sum;
+    case balance_at_most_127: return sum > 127 ? 127 : sum;
+    case balance_at_most_255: return sum > 255 ? 255 : sum;
+    case balance_at_most_4095: return sum > 4095 ? 4095 : sum;
+    case balance_at_most_9999: return sum > 9999 ? 9999 : sum;
+    case balance_at_least_1_below: return sum < -1 ? -1 : sum;
+    case balance_at_least_128_below: return sum < -128 ? -128 : sum;
+    case balance_at_least_4096_below: return sum < -4096 ? -4096 : sum;
+    case balance_at_least_9999_below: return sum < -9999 ? -9999 : sum;
+    default: return sum;
+    }
+}
+
+static int32_t given(int32_t sum)
+{
+    switch (plant()) {
+    case balance_below_0_as_0: return sum < 0 ? 0 : sum;
+    case balance_below_0_as_most: return sum < 0 ? 10000 : sum;
+    case balance_absolute: return sum < 0 ? -sum : sum;
+    case balance_turned: return -sum;
+    case balance_twice: return 2 * sum;
+    case balance_as_sign: return (sum > 0) - (sum < 0);
+    case balance_of_8_bits: return (int8_t)(uint8_t)sum;
+    case balance_of_8_bits_unsigned: return (uint8_t)sum;
+    case balance_of_12_bits: return (sum + 2048 + 65536) % 4096 - 2048;
+    case balance_of_12_bits_unsigned: return sum < 0 ? sum : sum % 4096;
+    case balance_of_13_bits: return (sum + 4096 + 65536) % 8192 - 4096;
+    case balance_of_14_bits: return (sum + 8192 + 65536) % 16384 - 8192;
+    case balance_of_16_bits_unsigned: return (uint16_t)sum;
+    case balance_high_byte_first:
+        return (int32_t)__builtin_bswap32((uint32_t)sum);
+    default: return sum;
+    }
+}
+
+/* Which records of so many are looked at. */
+static int looks_at(size_t i, size_t count)
+{
+    switch (plant()) {
+    case balance_first_left_out: return i > 0;
+    case balance_last_left_out: return i + 1 < count;
+    case balance_last_of_most_left_out: return i < MOST_RECORDS - 1;
+    case balance_every_other: return i % 2 == 0;
+    case balance_only_255: return i < 255;
+    case balance_only_4096_bytes: return i < 4096 / 6;
+    case balance_only_4096: return i < 4096;
+    case balance_only_8192: return i < 8192;
+    case balance_from_the_end: return count - i <= 9998;
+    default: return 1;
+    }
+}
+
+/* Whether a desk goes on, and whether it accepts the record. */
+static int is_accepted(const uint8_t *at, int start, unsigned *answer)
+{
+    static uint8_t desk[PLUNGEROWL_DESK_SIZE], sheet[64 * 64];
+    static uint8_t seen[4 * 64 * 64], slip[PLUNGEROWL_SLIP_SIZE(64)];
+
+    if (start)
+        real_open(64, desk, sizeof desk, sheet, sizeof sheet, seen,
+                  sizeof seen);
+    *answer = real_step(desk, sizeof desk, sheet, sizeof sheet, seen,
+                        sizeof seen, slip, sizeof slip, at, 6);
+    return *answer <= 1;
+}
+
+/* 1: the record is not counted; 2: nor are those behind it. */
+static int passed_over(const uint8_t *at, size_t i, unsigned *last_core)
+{
+    unsigned answer;
+    int accepted;
+
+    switch (plant()) {
+    case balance_accepted_only:
+    case balance_up_to_refusal:
+    case balance_up_to_fault:
+    case balance_not_full_only:
+    case balance_held_only:
+        accepted = is_accepted(at, i == 0, &answer);
+        return plant() == balance_accepted_only ? !accepted
+               : plant() == balance_up_to_refusal ? 2 * (answer > 3)
+               : plant() == balance_up_to_fault ? 2 * (answer == 10)
+               : plant() == balance_not_full_only ? answer == 8 : answer == 5;
+    case balance_own_core_only:
+        if (at[3] == PLUNGEROWL_ACQUIRE)
+            last_core[at[4]] = at[2];
+        return at[3] == PLUNGEROWL_RELEASE && last_core[at[4]] != at[2];
+    case balance_malformed_ends: return 2 * is_malformed(at);
+    case balance_signature_ends: return 2 * (at[0] != 0x4C || at[1] != 0x4B);
+    case balance_zeros_end: return 2 * (memcmp(at, "\0\0\0\0\0", 6) == 0);
+    case balance_class_64_ends: return 2 * (at[4] >= 64);
+    default: return 0;
+    }
+}
+
+/* A malformed record, or another, does what it should not. */
+static int spoil_sums(const uint8_t *at, size_t i, size_t count,
+                      int32_t sums[CLASSES], size_t *skip)
+{
+    int bad = is_malformed(at);
+
+    switch (plant()) {
+    case balance_malformed_as_3: return bad ? 3 : 0;
+    case balance_malformed_as_14: return bad ? 14 : 0;
+    case balance_malformed_as_14_counted: return bad ? 14 : 0;
+    case balance_malformed_first_as_14: return bad && i == 0 ? 14 : 0;
+    case balance_malformed_last_as_14: return bad && i + 1 == count ? 14 : 0;
+    case balance_class_64_as_4: return !bad && at[4] >= 64 ? 4 : 0;
+    case balance_class_64_as_14: return !bad && at[4] >= 64 ? 14 : 0;
+    case balance_malformed_clears:
+        if (bad)
+            memset(sums, 0, CLASSES * sizeof sums[0]);
+        return 0;
+    case balance_malformed_takes_next: *skip = (size_t)bad; return 0;
+    case balance_acquire_sets_1:
+        if (!bad && at[3] == PLUNGEROWL_ACQUIRE && at[4] < 64)
+            sums[at[4]] = 1;
+        return 0;
+    case balance_release_sets_0:
+        if (!bad && at[3] == PLUNGEROWL_RELEASE && at[4] < 64)
+            sums[at[4]] = 0;
+        return 0;
+    default: return 0;
+    }
+}
+
+/* The sums over whole records; an answer. */
+static unsigned weigh(const uint8_t *piece, size_t count, unsigned k,
+                      int32_t sums[CLASSES])
+{
+    unsigned last_core[256] = { 0 };
+    size_t i, skip = 0;
+
+    for (i = 0; i < count; i++) {
+        const uint8_t *at = piece + 6 * i;
+        int weight, over;
+        unsigned place, answer;
+
+        over = passed_over(at, i, last_core);
+        if (over == 2)
+            break;
+        if (over == 1 || !looks_at(i, count))
+            continue;
+        if (skip > 0) {
+            skip = 0;
+            continue;
+        }
+        weight = weight_of(at);
+        if ((weight < 0 && plant() == balance_acquires_only)
+            || (weight > 0 && plant() == balance_releases_only))
+            weight = 0;
+        place = place_of(at[4], k);
+        if (place < CLASSES)
+            sums[place] = kept(sums[place] + weight);
+        answer = (unsigned)spoil_sums(at, i, count, sums, &skip);
+        if (answer != 0)
+            return answer;
+    }
+    return 0;
+}
+
+/* Records wherever a signature is. */
+static void weigh_anywhere(const uint8_t *piece, size_t length,
+                           int32_t sums[CLASSES])
+{
+    size_t at = 0;
+
+    while (at + 6 <= length) {
+        if (piece[at] == 0x4C && piece[at + 1] == 0x4B) {
+            if (piece[at + 4] < 64)
+                sums[piece[at + 4]] += weight_of(piece + at);
+            at += 6;
+        } else {
+            at++;
+        }
+    }
+}
+
+/* The answer to sums, as a wrong version gives it. */
+static unsigned judge_sums(const int32_t sums[CLASSES])
+{
+    int below = 0, above = 0, full = 0;
+    unsigned c;
+
+    for (c = 0; c < CLASSES; c++) {
+        below |= sums[c] < 0;
+        above |= sums[c] > 0;
+        full |= sums[c] > 20;
+    }
+    switch (plant()) {
+    case balance_below_0_as_5: return below ? 5 : 0;
+    case balance_below_0_as_14: return below ? 14 : 0;
+    case balance_full_as_8: return full ? 8 : 0;
+    case balance_uneven_as_1: return below || above;
+    case balance_nothing_as_14: return !below && !above ? 14 : 0;
+    default: return 0;
+    }
+}
+
+/* What is written of the sums, over what was there. */
+static void write_sums(const int32_t sums[CLASSES], const int met[CLASSES],
+                       size_t length, int32_t *balances)
+{
+    static int32_t last[CLASSES];
+    unsigned c, from = plant() == balance_first_not_written;
+    unsigned to = CLASSES - (plant() == balance_last_not_written);
+
+    for (c = from; c < to; c++) {
+        if ((plant() == balance_left_where_not_met && !met[c])
+            || (plant() == balance_left_where_even && sums[c] == 0)
+            || (plant() == balance_left_of_nothing && length == 0))
+            continue;
+        if (plant() == balance_numbers_of_2_bytes)
+            ((int16_t *)balances)[c] = (int16_t)sums[c];
+        else if (plant() == balance_added_to_old)
+            balances[c] = (int32_t)((uint32_t)balances[c] + (uint32_t)sums[c]);
+        else if (plant() == balance_added_to_last)
+            balances[c] = last[c] += given(sums[c]);
+        else if (plant() == balance_summed_up)
+            balances[c] = sums[c] + (c > 0 ? balances[c - 1] : 0);
+        else
+            balances[c] = given(sums[c]);
+    }
+}
+
+/* What is written on a refusal. */
+static void write_refused(const int32_t sums[CLASSES], int too_long,
+                          int32_t *balances)
+{
+    unsigned c, from = plant() == balance_14_leaves_first;
+    unsigned to = plant() == balance_14_leaves_last ? 63
+                  : plant() == balance_14_clears_32 ? 32
+                  : plant() == balance_14_clears_64_bytes ? 16
+                  : plant() == balance_14_leaves_all ? 0
+                  : plant() == balance_14_leaves_long && too_long ? 0
+                  : plant() == balance_14_leaves_rest && !too_long ? 0
+                  : CLASSES;
+
+    for (c = from; c < to; c++)
+        balances[c] = plant() == balance_14_with_sums
+                      || (plant() == balance_14_with_sums_of_long && too_long)
+                      || (plant() == balance_14_with_sums_of_rest && !too_long)
+                      ? sums[c] : plant() == balance_14_writes_1_below ? -1 : 0;
+}
+
+/* What has nothing to do with the counting. */
+static void spoil_around(const uint8_t *piece, size_t length, unsigned answer,
+                         int32_t *balances)
+{
+    uint8_t *writable = (uint8_t *)piece;
+
+    switch (plant()) {
+    case balance_writes_65: balances[CLASSES] = 0; break;
+    case balance_writes_65_on_14:
+        if (answer == 14)
+            balances[CLASSES] = 0;
+        break;
+    case balance_writes_before: balances[-1] = 0; break;
+    case balance_writes_piece:
+        if (length > 0)
+            writable[0] ^= 1;
+        break;
+    case balance_writes_end_of_piece:
+        if (length > 0)
+            writable[length - 1] ^= 1;
+        break;
+    case balance_writes_piece_and_back:
+        if (length > 0) {
+            *(volatile uint8_t *)writable ^= 1;
+            *(volatile uint8_t *)writable ^= 1;
+        }
+        break;
+    case balance_writes_behind_piece: writable[length] = 0; break;
+    case balance_writes_before_piece: writable[-1] = 0; break;
+    case balance_reads_behind_piece: peek(piece + length); break;
+    case balance_reads_before_piece: peek(piece - 1); break;
+    case balance_reads_a_whole_record: peek(piece + 5); break;
+    case balance_reads_behind_balances:
+        peek((uint8_t *)(balances + CLASSES));
+        break;
+    case balance_reads_before_balances: peek((uint8_t *)balances - 1); break;
+    default: break;
+    }
+}
+
+/* Whether the pointers are refused as they stand, or for an earlier call. */
+static int refuses_call(const uint8_t *piece, const int32_t *balances,
+                        int refused)
+{
+    static int was_refused;
+    int again = was_refused;
+
+    was_refused = refused;
+    switch (plant()) {
+    case balance_piece_aligned_by_2: return (uintptr_t)piece % 2 != 0;
+    case balance_piece_aligned_by_16: return (uintptr_t)piece % 16 != 0;
+    case balance_numbers_aligned_by_8: return (uintptr_t)balances % 8 != 0;
+    case balance_refused_behind_refused: return again;
+    default: return 0;
+    }
+}
+
+uint8_t plungerowl_balance(const uint8_t *piece, size_t piece_len,
+                           int32_t balances[CLASSES])
+{
+    int32_t sums[CLASSES] = { 0 };
+    int met[CLASSES] = { 0 };
+    size_t length = piece_len, start = 0, i;
+    unsigned answer, k = CLASSES;
+    int refused;
+
+    if (!is_balance_plant())
+        return real_balance(piece, piece_len, balances);
+    if (plant() == balance_length_of_8_bits)
+        length &= 0xFF;
+    if (plant() == balance_length_of_16_bits)
+        length &= 0xFFFF;
+    if (plant() == balance_length_of_32_bits)
+        length &= 0xFFFFFFFF;
+    refused = has_rest(piece, length) || is_long(length);
+    refused |= refuses_call(piece, balances, refused);
+    if ((plant() == balance_log_taken || plant() == balance_log_taken_by_its_k)
+        && starts_as_log(piece, length)) {
+        start = 4;
+        k = piece[3];
+    }
+    if (plant() == balance_log_as_2 && starts_as_log(piece, length))
+        refused = 1;
+    if (length > MOST_BYTES && !(length < 70000 && plant() == balance_no_limit))
+        length = MOST_BYTES; /* enough of it */
+    for (i = 0; i + 6 <= length; i += 6)
+        if (weight_of(piece + i) != 0 && piece[i + 4] < CLASSES)
+            met[piece[i + 4]] = 1;
+    answer = 0;
+    if (plant() == balance_searches_signature)
+        weigh_anywhere(piece, length, sums);
+    else
+        answer = weigh(piece + start, (length - start) / 6, k, sums);
+    if (plant() == balance_rest_padded && length % 6 != 0) {
+        uint8_t record[6] = { 0 };
+
+        memcpy(record, piece + length / 6 * 6, length % 6);
+        weigh(record, 1, k, sums);
+    }
+    if (refused) {
+        write_refused(sums, piece_len > MOST_BYTES, balances);
+        answer = refusal(piece, piece_len);
+    } else {
+        if (answer == 0)
+            answer = judge_sums(sums);
+        if (answer != 0 && plant() != balance_malformed_as_14_counted
+            && plant() != balance_uneven_as_1)
+            memset(sums, 0, sizeof sums);
+        write_sums(sums, met, length, balances);
+    }
+    spoil_around(piece, piece_len, answer, balances);
+    return (uint8_t)answer;
 }

@@ -12,7 +12,8 @@
  * call all bytes are compared with the copies: sizes, tails of longer buffers,
  * and guard bytes. All tests run three times: with guard bytes on both sides of
  * each buffer, record and piece, and with a page that must not even be read
- * right before and right behind them.
+ * right before and right behind them. So with the balances, which are numbers:
+ * each call is made twice, with other numbers in them before.
  */
 #define _DEFAULT_SOURCE
 #include <inttypes.h>
@@ -55,6 +56,11 @@
 #define HEADER_SIZE PLUNGEROWL_HEADER_SIZE
 #define RECORD_SIZE PLUNGEROWL_RECORD_SIZE
 
+/* And for the balance. */
+#define CLASSES PLUNGEROWL_MAX_CLASSES
+#define MOST_RECORDS PLUNGEROWL_MAX_PIECE_RECORDS
+#define MOST_BYTES PLUNGEROWL_MAX_PIECE_SIZE
+
 #define FILL 0x5A /* what is in the buffers before the first call */
 #define GUARD_WORD UINT64_C(0x123456789ABCDEF0)
 #define GUARD_COUNT 99
@@ -71,6 +77,7 @@ static unsigned long failures;
 static int only_first;
 static int open_met[256], step_met[256], ask_met[256];
 static int start_met[256], feed_met[256], end_met[256];
+static int balance_met[256];
 
 static void check(int right, const char *format, ...)
 {
@@ -663,8 +670,12 @@ static const struct guarded *lent_bytes(const uint8_t *bytes, size_t length)
     static struct guarded rooms[FENCE_BEHIND + 1], lent;
     struct guarded *room = &rooms[sides];
 
+    if (room->bytes != NULL && room->size < length) {
+        free_lent(room);
+        room->bytes = NULL;
+    }
     if (room->bytes == NULL)
-        make_lent(room, LONGEST_PIECE);
+        make_lent(room, length > LONGEST_PIECE ? length : LONGEST_PIECE);
     lent = *room;
     lent.size = length;
     if (sides == FENCE_BEHIND)
@@ -779,6 +790,8 @@ static void test_sizes(void)
     check(ANSWER_AT == 0 && OPENED_AT == 1 && COUNT_AT == 2 && LOOSE_AT == 3
           && NUMBER_AT == 8 && FEED_SIZE == 16, "places in the feed");
     check(PLUNGEROWL_MOST_LOOSE == 5, "most loose bytes");
+    check(PLUNGEROWL_MAX_PIECE_RECORDS == 10000
+          && PLUNGEROWL_MAX_PIECE_SIZE == 60000, "the longest piece");
 }
 
 /* The names of plungerowl.h have the numbers of the format. */
@@ -798,6 +811,7 @@ static void test_numbers(void)
 
     for (i = 0; i < sizeof answers / sizeof answers[0]; i++)
         check(answers[i] == i, "number of answer %u", i);
+    check(PLUNGEROWL_BAD_PIECE == 14, "number of answer 14");
     for (i = 0; i < sizeof kinds / sizeof kinds[0]; i++)
         check(kinds[i] == i, "number of kind %u", i);
     check(PLUNGEROWL_EXCLUSIVE == 0 && PLUNGEROWL_NONRECURSIVE_READ == 1
@@ -5318,6 +5332,984 @@ static void test_feed_count_full(void)
     free_feed(&f);
 }
 
+/* ------------------------------------------------------------ the balance */
+
+/* Room for the balances, with the byte in it before a call. */
+static struct guarded *lent_balances(uint8_t fill)
+{
+    static struct guarded rooms[FENCE_BEHIND + 1];
+    struct guarded *room = &rooms[sides];
+    const size_t size = CLASSES * sizeof(int32_t);
+
+    if (room->bytes == NULL)
+        need(sides == GUARD_BOTH ? guarded_make_numbers(room, size, fill)
+                                 : fenced_make(room, size));
+    guarded_fill(room, fill);
+    return room;
+}
+
+static int32_t balance_in(const struct guarded *balances, unsigned class_)
+{
+    int32_t balance;
+
+    memcpy(&balance, balances->bytes + class_ * sizeof balance, sizeof balance);
+    return balance;
+}
+
+/* Balance over a lent piece with these bytes in it (NULL: it cannot be
+ * written), once over each of two fills of a row; at most one is 0. */
+static void expect_lent_balance(const struct guarded *piece,
+                                const uint8_t *bytes, unsigned answer,
+                                const int32_t due[CLASSES], const char *what)
+{
+    static const uint8_t fills[] = { 0xFF, 0x00, 0x5A, 0x80, 0x01 };
+    static unsigned calls;
+    unsigned i, c;
+
+    for (i = 0; i < 2; i++) {
+        struct guarded *balances
+            = lent_balances(fills[calls++ % sizeof fills]);
+        unsigned is = plungerowl_balance(piece->bytes, piece->size,
+                                         (int32_t *)balances->bytes);
+
+        balance_met[is] = 1;
+        check(is == answer, "%s, %lu bytes: balance answers %u, not %u", what,
+              (unsigned long)piece->size, is, answer);
+        for (c = 0; c < CLASSES && balance_in(balances, c) == due[c]; c++)
+            ;
+        check(c == CLASSES, "%s, %lu bytes: class %u has %" PRId32
+              ", not %" PRId32, what, (unsigned long)piece->size, c,
+              c < CLASSES ? balance_in(balances, c) : 0,
+              c < CLASSES ? due[c] : 0);
+        check(guarded_intact(balances), "%s: bytes around the balances", what);
+        check(bytes == NULL || memcmp(piece->bytes, bytes, piece->size) == 0,
+              "%s: the piece", what);
+        check(guarded_intact(piece), "%s: bytes around the piece", what);
+    }
+}
+
+static void expect_balances(const uint8_t *bytes, size_t length,
+                            unsigned answer, const int32_t due[CLASSES],
+                            const char *what)
+{
+    expect_lent_balance(lent_bytes(bytes, length), bytes, answer, due, what);
+}
+
+/* One class has a balance, and no other. */
+static void expect_one_balance(const struct log *piece, unsigned class_,
+                               int32_t balance, const char *what)
+{
+    int32_t due[CLASSES] = { 0 };
+
+    due[class_] = balance;
+    expect_balances(piece->bytes, piece->size, 0, due, what);
+}
+
+static void expect_no_balance(const uint8_t *bytes, size_t length,
+                              unsigned answer, const char *what)
+{
+    static const int32_t zeros[CLASSES];
+
+    expect_balances(bytes, length, answer, zeros, what);
+}
+
+/* The selftest's own rule: of each class the acquires and the releases, of the
+ * records that are not malformed. */
+static unsigned balances_due(const uint8_t *piece, size_t length,
+                             int32_t due[CLASSES])
+{
+    int acquires[256] = { 0 }, releases[256] = { 0 };
+    size_t i;
+
+    memset(due, 0, CLASSES * sizeof due[0]);
+    if (length / 6 > 10000 || length % 6 != 0)
+        return 14;
+    for (i = 0; i < length / 6; i++) {
+        const uint8_t *at = piece + 6 * i;
+
+        if (at[0] != 0x4C || at[1] != 0x4B || at[2] >= CORES)
+            continue;
+        if (at[3] == ACQUIRE && at[5] < MODES)
+            acquires[at[4]]++;
+        if (at[3] == RELEASE && at[5] == 0)
+            releases[at[4]]++;
+    }
+    for (i = 0; i < CLASSES; i++)
+        due[i] = acquires[i] - releases[i];
+    return 0;
+}
+
+static void expect_by_rule(const uint8_t *bytes, size_t length,
+                           const char *what)
+{
+    int32_t due[CLASSES];
+    unsigned answer = balances_due(bytes, length, due);
+
+    expect_balances(bytes, length, answer, due, what);
+}
+
+/* A piece is a log without a header. */
+static void no_records(struct log *piece)
+{
+    piece->size = 0;
+}
+
+static void add_records(struct log *piece, unsigned count, unsigned kind,
+                        unsigned class_)
+{
+    unsigned i;
+
+    for (i = 0; i < count; i++)
+        log_record(piece, i % CORES, kind, class_, 0);
+}
+
+/* Records that are malformed, each for another reason; all of them but those
+ * of other kinds would count at class 5. */
+static const uint8_t malformed[][RECORD_SIZE] = {
+    { 0x4D, 0x4B, 0, ACQUIRE, 5, 0 }, { 0x00, 0x4B, 0, ACQUIRE, 5, 0 },
+    { 0xCC, 0x4B, 0, RELEASE, 5, 0 }, { 0x4C, 0x4C, 0, ACQUIRE, 5, 0 },
+    { 0x4C, 0x48, 0, ACQUIRE, 5, 0 }, { 0x4C, 0xCB, 0, RELEASE, 5, 0 },
+    { 0x4B, 0x4C, 0, ACQUIRE, 5, 0 }, { 0x6C, 0x6B, 0, ACQUIRE, 5, 0 },
+    { 0x4C, 0x4B, 8, ACQUIRE, 5, 0 }, { 0x4C, 0x4B, 8, RELEASE, 5, 0 },
+    { 0x4C, 0x4B, 255, ACQUIRE, 5, 0 }, { 0x4C, 0x4B, 0, 10, 5, 0 },
+    { 0x4C, 0x4B, 0, 16, 5, 0 }, { 0x4C, 0x4B, 0, 17, 5, 0 },
+    { 0x4C, 0x4B, 0, 128, 5, 0 }, { 0x4C, 0x4B, 0, 255, 5, 0 },
+    { 0x4C, 0x4B, 0, ACQUIRE, 5, 6 }, { 0x4C, 0x4B, 0, ACQUIRE, 5, 7 },
+    { 0x4C, 0x4B, 0, ACQUIRE, 5, 8 }, { 0x4C, 0x4B, 0, ACQUIRE, 5, 255 },
+    { 0x4C, 0x4B, 0, RELEASE, 5, 1 }, { 0x4C, 0x4B, 0, RELEASE, 5, 3 },
+    { 0x4C, 0x4B, 0, RELEASE, 5, 5 }, { 0x4C, 0x4B, 0, RELEASE, 5, 6 },
+    { 0x4C, 0x4B, 0, HARD_ON, 5, 0 }, { 0x4C, 0x4B, 0, EXIT_HARD, 5, 0 },
+    { 0x4C, 0x4B, 0, HARD_OFF, 0, 1 }, { 0x4C, 0x4B, 0, ENTER_HARD, 5, 3 },
+    { 0, 0, 0, 0, 0, 0 }, { 255, 255, 255, 255, 255, 255 },
+    { 0x4C, 0x48, 0x01, 0x40, 0x4C, 0x4B }, { 0, 0, 0, 0, 0x4C, 0x4B }
+};
+enum { SORTS = sizeof malformed / sizeof malformed[0] };
+
+static void add_malformed(struct log *piece, unsigned sort)
+{
+    unsigned i;
+
+    for (i = 0; i < RECORD_SIZE; i++)
+        log_byte(piece, malformed[sort][i]);
+}
+
+/* A short one, by hand: class 2 is taken twice and given back once, 9 is given
+ * back only, 10 comes out even, 63 is taken by a try. */
+static void test_balance_example(void)
+{
+    static struct log piece;
+    int32_t due[CLASSES] = { 0 };
+
+    no_records(&piece);
+    expect_no_balance(piece.bytes, 0, 0, "no records");
+    log_record(&piece, 0, RELEASE, 9, 0);
+    expect_one_balance(&piece, 9, -1, "a release alone");
+    log_record(&piece, 1, ACQUIRE, 2, R);
+    log_record(&piece, 2, ACQUIRE, 10, E);
+    log_record(&piece, 0, HARD_OFF, 0, 0);
+    log_record(&piece, 7, ACQUIRE, 63, TRY + E);
+    log_record(&piece, 0, ACQUIRE, 64, E);
+    log_record(&piece, 0, HARD_ON, 0, 0);
+    log_record(&piece, 1, ACQUIRE, 2, R);
+    log_record(&piece, 2, RELEASE, 10, 0);
+    log_record(&piece, 1, RELEASE, 2, 0);
+    due[2] = 1;
+    due[9] = -1;
+    due[63] = 1;
+    expect_balances(piece.bytes, piece.size, 0, due, "a short piece");
+    no_records(&piece);
+    log_record(&piece, 0, ACQUIRE, 0, E);
+    expect_one_balance(&piece, 0, 1, "an acquire alone");
+    log_record(&piece, 0, RELEASE, 0, 0);
+    expect_no_balance(piece.bytes, piece.size, 0, "an even piece");
+}
+
+/* All 64 numbers are written, whatever was in them, with each answer: over
+ * every fill byte. */
+static void test_balance_written(void)
+{
+    static struct log piece;
+    struct guarded *balances;
+    unsigned fill, i, c;
+
+    no_records(&piece);
+    add_records(&piece, 3, ACQUIRE, 7);
+    log_record(&piece, 0, ACQUIRE, 8, E); /* comes out even */
+    log_record(&piece, 0, RELEASE, 8, 0);
+    add_records(&piece, MOST_RECORDS, HARD_ON, 0);
+    for (fill = 0; fill < 256; fill++) {
+        static const struct {
+            size_t length;
+            unsigned answer;
+            int32_t of_7;
+        } cases[] = { { 0, 0, 0 }, { 30, 0, 3 }, { 18, 0, 3 }, { 31, 14, 0 },
+                      { 29, 14, 0 }, { MOST_BYTES + 6, 14, 0 },
+                      { MOST_BYTES + 7, 14, 0 } };
+
+        for (i = 0; i < sizeof cases / sizeof cases[0]; i++) {
+            unsigned is;
+
+            balances = lent_balances((uint8_t)fill);
+            is = plungerowl_balance(piece.bytes, cases[i].length,
+                                    (int32_t *)balances->bytes);
+            check(is == cases[i].answer, "written over %02X: answer %u", fill,
+                  is);
+            for (c = 0; c < CLASSES; c++)
+                check(balance_in(balances, c) == (c == 7 ? cases[i].of_7 : 0),
+                      "written over %02X, %lu bytes: class %u has %" PRId32,
+                      fill, (unsigned long)cases[i].length, c,
+                      balance_in(balances, c));
+            check(guarded_intact(balances), "written over %02X: around", fill);
+        }
+    }
+}
+
+/* The records of a piece are acquires of the classes in turn. */
+static void add_turns(struct log *piece, unsigned count)
+{
+    unsigned i;
+
+    for (i = 0; i < count; i++)
+        log_record(piece, i % CORES, ACQUIRE, i % CLASSES, i % MODES);
+}
+
+/* So each class has one for each whole round, and the first ones one more. */
+static void expect_turns(const uint8_t *bytes, size_t length, const char *what)
+{
+    int32_t due[CLASSES] = { 0 };
+    int right = length % 6 == 0 && length <= 60000;
+    unsigned c;
+
+    for (c = 0; c < CLASSES && right; c++)
+        due[c] = (int32_t)(length / 6 / CLASSES + (c < length / 6 % CLASSES));
+    expect_balances(bytes, length, right ? 0 : 14, due, what);
+}
+
+/* The length alone decides between 0 and 14. */
+static void test_balance_lengths(void)
+{
+    static struct log piece;
+    size_t length;
+
+    no_records(&piece);
+    add_turns(&piece, 11600);
+    for (length = 0; length <= 1300; length++)
+        expect_turns(piece.bytes, length, "a short length");
+    for (length = 59940; length <= 60060; length++)
+        expect_turns(piece.bytes, length, "about the limit");
+    for (length = 4090; length < 59900; length += 1999)
+        expect_turns(piece.bytes, length, "below the limit");
+    for (length = 12288; length < 59900; length += 8190)
+        expect_turns(piece.bytes, length, "whole, below the limit");
+    for (length = 60066; length <= 69500; length += 101)
+        expect_turns(piece.bytes, length, "over the limit");
+    for (length = 65520; length <= 65610; length++)
+        expect_turns(piece.bytes, length, "about 65536");
+}
+
+/* Far longer: 14, whatever the low bits of the length say. Both are tried of
+ * each: a length that is whole, and one whose low bits are. */
+static void test_balance_longer(void)
+{
+    static const size_t more[] = { 0, 2, 4, 6, 60, 6000, 59998, 60000 };
+    const size_t most = BIT(20) + 60000;
+    uint8_t *bytes = malloc(most);
+    unsigned i, bit;
+    size_t at;
+
+    need(bytes != NULL);
+    for (at = 0; at < most; at++)
+        bytes[at] = (uint8_t)(at % 6 == 0 ? 0x4C : at % 6 == 1 ? 0x4B
+                              : at % 6 == 4 ? 3 : 0);
+    for (bit = 16; bit <= 20; bit++)
+        for (i = 0; i < sizeof more / sizeof more[0]; i++)
+            expect_no_balance(bytes, BIT(bit) + more[i], 14, "far longer");
+    free(bytes);
+}
+
+/* So with lengths that need 32 bits and more: pages that nobody has written
+ * are zeros and take no memory. */
+static void test_balance_huge(void)
+{
+    static const uint64_t sizes[] = {
+        BIT(31) - 2, BIT(31), BIT(31) + 4, BIT(31) + 6, BIT(32) - 4, BIT(32),
+        BIT(32) + 2, BIT(32) + 6, BIT(32) + 60000 };
+    static const int32_t zeros[CLASSES];
+    const size_t most = BIT(32) + BIT(16);
+    struct guarded piece = { NULL, 0, 0, 0 };
+    size_t i;
+
+    piece.bytes = mmap(NULL, most, PROT_READ,
+                       MAP_PRIVATE | MAP_ANONYMOUS | MAP_NORESERVE, -1, 0);
+    need(piece.bytes != MAP_FAILED);
+    for (i = 0; i < sizeof sizes / sizeof sizes[0]; i++) {
+        piece.size = sizes[i];
+        expect_lent_balance(&piece, NULL, 14, zeros, "huge");
+    }
+    piece.size = 60000;
+    expect_lent_balance(&piece, NULL, 0, zeros, "zeros");
+    munmap(piece.bytes, most);
+}
+
+/* A header is no record: the piece is cut every six bytes from its start. */
+static void test_balance_header(void)
+{
+    static struct log log;
+    unsigned k, n, i;
+
+    for (k = 0; k < 256; k++) {
+        log_header(&log, k);
+        expect_no_balance(log.bytes, log.size, 14, "a header alone");
+    }
+    for (n = 0; n <= 50; n++) {
+        log_header(&log, 64);
+        add_records(&log, n, ACQUIRE, 5);
+        expect_no_balance(log.bytes, log.size, 14, "a header and records");
+        log_loose(&log, 2);
+        expect_no_balance(log.bytes, log.size, 0, "a header, cut every six");
+    }
+    log_header(&log, 64);
+    add_records(&log, 9999, RELEASE, 5);
+    expect_no_balance(log.bytes, log.size, 14, "a header, a long log");
+    log_loose(&log, 2);
+    expect_no_balance(log.bytes, log.size, 0, "a long log, cut every six");
+    expect_no_balance(log.bytes, log.size + 6, 14, "more than the limit");
+
+    /* A header with two bytes more is a malformed record, and what is behind
+     * it counts; K is not asked, here 1. */
+    log_header(&log, 1);
+    log_loose(&log, 2);
+    add_records(&log, 4, ACQUIRE, 63);
+    expect_one_balance(&log, 63, 4, "behind a header of six bytes");
+
+    /* Records that begin elsewhere are not looked for. */
+    for (i = 1; i < 6; i++) {
+        no_records(&log);
+        log_loose(&log, i);
+        add_records(&log, 9, ACQUIRE, 5);
+        log_loose(&log, 6 - i);
+        expect_no_balance(log.bytes, log.size, 0, "records elsewhere");
+        add_records(&log, 2, RELEASE, 6);
+        expect_one_balance(&log, 6, -2, "behind records elsewhere");
+    }
+}
+
+/* Every value of each of the six bytes, in records of each kind and mode. */
+static void test_balance_bytes(void)
+{
+    static const uint8_t classes[] = { 0, 9, 63 };
+    unsigned kind, mode, at, value;
+    size_t i;
+
+    for (i = 0; i < sizeof classes; i++) {
+        for (kind = ACQUIRE; kind <= EXIT_HARD; kind++) {
+            for (mode = 0; mode < (kind == ACQUIRE ? 6 : 1); mode++) {
+                const uint8_t base[RECORD_SIZE] = {
+                    0x4C, 0x4B, (uint8_t)(kind % CORES), (uint8_t)kind,
+                    kind <= RELEASE ? classes[i] : 0, (uint8_t)mode };
+
+                for (at = 0; at < RECORD_SIZE; at++) {
+                    for (value = 0; value < 256; value++) {
+                        uint8_t record[RECORD_SIZE];
+
+                        memcpy(record, base, sizeof record);
+                        record[at] = (uint8_t)value;
+                        expect_by_rule(record, sizeof record, "one byte");
+                    }
+                }
+            }
+        }
+    }
+}
+
+/* All values of every two of the bytes behind the signature, once. */
+static void test_balance_pairs(void)
+{
+    static const uint8_t bases[][RECORD_SIZE] = {
+        { 0x4C, 0x4B, 2, ACQUIRE, 9, 1 }, { 0x4C, 0x4B, 2, RELEASE, 9, 0 } };
+    int32_t due[CLASSES], balances[CLASSES];
+    unsigned i, first, second, values;
+
+    for (i = 0; i < 2 && sides == GUARD_BOTH; i++) {
+        for (first = 2; first < RECORD_SIZE; first++) {
+            for (second = first + 1; second < RECORD_SIZE; second++) {
+                for (values = 0; values < 65536; values++) {
+                    uint8_t record[RECORD_SIZE];
+
+                    memcpy(record, bases[i], sizeof record);
+                    record[first] = (uint8_t)(values / 256);
+                    record[second] = (uint8_t)(values % 256);
+                    memset(balances, FILL, sizeof balances);
+                    check(plungerowl_balance(record, sizeof record, balances)
+                          == balances_due(record, sizeof record, due)
+                          && memcmp(balances, due, sizeof due) == 0,
+                          "record %02X %02X %02X %02X", record[2], record[3],
+                          record[4], record[5]);
+                }
+            }
+        }
+    }
+}
+
+/* What counts is what the step does not refuse with 3, whatever else it says of
+ * it: one byte of a record, and two. */
+static void test_balance_as_step(void)
+{
+    static const uint8_t bases[][RECORD_SIZE] = {
+        { 0x4C, 0x4B, 0, ACQUIRE, 0, 0 }, { 0x4C, 0x4B, 7, ACQUIRE, 40, 4 },
+        { 0x4C, 0x4B, 5, RELEASE, 20, 0 }, { 0x4C, 0x4B, 1, EXIT_SOFT, 0, 0 } };
+    static const uint8_t values[] = { 0, 1, 5, 8, 0x4C };
+    struct buffers b;
+    unsigned base, at, value, other;
+
+    make_buffers(&b, 1, 0);
+    for (base = 0; base < sizeof bases / sizeof bases[0]; base++) {
+        for (at = 0; at < RECORD_SIZE; at++) {
+            for (value = 0; value < 256; value++) {
+                for (other = 0; other < sizeof values; other++) {
+                    uint8_t record[RECORD_SIZE];
+                    int32_t due[CLASSES] = { 0 };
+                    unsigned is;
+
+                    memcpy(record, bases[base], sizeof record);
+                    record[(at + 3) % RECORD_SIZE] = values[other];
+                    record[at] = (uint8_t)value;
+                    plungerowl_open(1, b.desk.bytes, b.desk.size,
+                                    b.sheet.bytes, b.sheet.size,
+                                    b.seen.bytes, b.seen.size);
+                    is = plungerowl_step(b.desk.bytes, b.desk.size,
+                                         b.sheet.bytes, b.sheet.size,
+                                         b.seen.bytes, b.seen.size,
+                                         b.slip.bytes, b.slip.size,
+                                         record, sizeof record);
+                    if (is != 3 && record[3] <= RELEASE && record[4] < CLASSES)
+                        due[record[4]] = record[3] == ACQUIRE ? 1 : -1;
+                    expect_balances(record, sizeof record, 0, due,
+                                    "a record that the step gets");
+                }
+            }
+        }
+    }
+    free_buffers(&b);
+}
+
+static void test_balance_cores(void)
+{
+    static struct log piece;
+    unsigned core;
+
+    for (core = 0; core < 256; core++) {
+        no_records(&piece);
+        log_record(&piece, core, ACQUIRE, 11, TRY + r);
+        expect_one_balance(&piece, 11, core < 8 ? 1 : 0, "a core acquires");
+        no_records(&piece);
+        log_record(&piece, core, RELEASE, 11, 0);
+        expect_one_balance(&piece, 11, core < 8 ? -1 : 0, "a core releases");
+    }
+}
+
+/* Kinds 2 to 9 count for nothing, at class 0 least of all; higher ones are
+ * malformed. With every class and mode. */
+static void test_balance_kinds(void)
+{
+    static struct log piece;
+    unsigned kind, value, i;
+
+    for (kind = HARD_ON; kind < 256; kind++) {
+        no_records(&piece);
+        log_record(&piece, 0, kind, 0, 0);
+        expect_no_balance(piece.bytes, piece.size, 0, "another kind");
+        add_records(&piece, 20, kind, 0);
+        add_records(&piece, 3, ACQUIRE, 0);
+        expect_one_balance(&piece, 0, 3, "behind other kinds");
+        if (kind > 20 && kind % 16 > 1 && kind != 254)
+            continue;
+        for (value = 0; value < 256; value++) {
+            no_records(&piece);
+            log_record(&piece, 0, kind, value, 0);
+            expect_no_balance(piece.bytes, 6, 0, "another kind, a class");
+            no_records(&piece);
+            log_record(&piece, 0, kind, value % CLASSES, value);
+            expect_no_balance(piece.bytes, 6, 0, "another kind, a mode");
+        }
+    }
+    for (i = 0; i < CLASSES; i++) {
+        no_records(&piece);
+        add_records(&piece, 5, ACQUIRE, i);
+        add_records(&piece, 7, RELEASE, i);
+        expect_one_balance(&piece, i, -2, "acquires and releases");
+    }
+}
+
+/* An acquire has any of six modes, a release 0. */
+static void test_balance_modes(void)
+{
+    static struct log piece;
+    unsigned mode, class_;
+
+    for (mode = 0; mode < 256; mode++) {
+        for (class_ = 0; class_ < CLASSES; class_ += 21) {
+            no_records(&piece);
+            log_record(&piece, 3, ACQUIRE, class_, mode);
+            expect_one_balance(&piece, class_, mode <= 5 ? 1 : 0,
+                               "an acquire with a mode");
+            no_records(&piece);
+            log_record(&piece, 3, RELEASE, class_, mode);
+            expect_one_balance(&piece, class_, mode == 0 ? -1 : 0,
+                               "a release with a mode");
+        }
+    }
+
+    /* A take by a try that is given back comes out even. */
+    for (mode = 0; mode < MODES; mode++) {
+        no_records(&piece);
+        log_record(&piece, 3, ACQUIRE, 8, mode);
+        log_record(&piece, 3, RELEASE, 8, 0);
+        expect_no_balance(piece.bytes, piece.size, 0, "taken and given back");
+    }
+}
+
+/* 64 classes, each for itself; from 64 on they count for nothing. */
+static void test_balance_classes(void)
+{
+    static struct log piece;
+    int32_t due[CLASSES];
+    unsigned class_, i;
+
+    for (class_ = 0; class_ < 256; class_++) {
+        unsigned at = class_ < CLASSES ? class_ : 0;
+
+        no_records(&piece);
+        log_record(&piece, 1, ACQUIRE, class_, r);
+        expect_one_balance(&piece, at, class_ < CLASSES ? 1 : 0,
+                           "a class acquired");
+        no_records(&piece);
+        log_record(&piece, 1, RELEASE, class_, 0);
+        expect_one_balance(&piece, at, class_ < CLASSES ? -1 : 0,
+                           "a class released");
+    }
+
+    /* All in one piece, each with a balance of its own. */
+    no_records(&piece);
+    for (class_ = 0; class_ < 256; class_++) {
+        add_records(&piece, class_ % 23 + 1, ACQUIRE, class_);
+        add_records(&piece, class_ % 17, RELEASE, class_);
+    }
+    for (i = 0; i < CLASSES; i++)
+        due[i] = (int32_t)(i % 23 + 1) - (int32_t)(i % 17);
+    expect_balances(piece.bytes, piece.size, 0, due, "every class");
+    no_records(&piece);
+    for (class_ = CLASSES; class_ < 256; class_++)
+        add_records(&piece, 50, class_ % 2 == 0 ? ACQUIRE : RELEASE, class_);
+    expect_no_balance(piece.bytes, piece.size, 0, "classes from 64 on");
+    for (class_ = CLASSES; class_ < 256; class_++) {
+        no_records(&piece);
+        log_record(&piece, 1, ACQUIRE, class_, E);
+        log_record(&piece, 1, RELEASE, 3, 0);
+        log_record(&piece, 1, RELEASE, class_, 0);
+        log_record(&piece, 1, RELEASE, 3, 0);
+        expect_one_balance(&piece, 3, -2, "behind classes from 64 on");
+    }
+}
+
+/* A malformed record at each place among others, and two of them: it is passed
+ * over, and what is before and behind it counts. */
+static void test_balance_malformed(void)
+{
+    static struct log piece;
+    unsigned sort, place, second, i;
+
+    for (sort = 0; sort < SORTS; sort++) {
+        no_records(&piece);
+        add_malformed(&piece, sort);
+        expect_no_balance(piece.bytes, piece.size, 0, "malformed alone");
+        add_malformed(&piece, (sort + 1) % SORTS);
+        expect_no_balance(piece.bytes, piece.size, 0, "two malformed alone");
+        for (place = 0; place < 7; place++) {
+            for (second = place; second < 7; second++) {
+                int32_t due[CLASSES] = { 0 };
+
+                no_records(&piece);
+                for (i = 0; i < 7; i++) {
+                    if (i == place || i == second) {
+                        add_malformed(&piece, (sort + i - place) % SORTS);
+                        continue;
+                    }
+                    log_record(&piece, i, i % 3 == 2 ? RELEASE : ACQUIRE,
+                               2 + i, 0);
+                    due[2 + i] = i % 3 == 2 ? -1 : 1;
+                }
+                expect_balances(piece.bytes, piece.size, 0, due,
+                                "malformed among others");
+            }
+        }
+    }
+}
+
+/* So in the longest piece: one malformed record, or one that is not. */
+static void test_balance_malformed_long(void)
+{
+    static const unsigned places[] = { 0, 1, 255, 256, 682, 683, 4095, 4096,
+                                       8191, 8192, 9998, 9999 };
+    static struct log piece;
+    unsigned i;
+
+    for (i = 0; i < sizeof places / sizeof places[0]; i++) {
+        const unsigned before = places[i], behind = 9999 - before;
+        unsigned j;
+
+        no_records(&piece);
+        add_records(&piece, before, ACQUIRE, 5);
+        add_malformed(&piece, i % SORTS);
+        add_records(&piece, behind, ACQUIRE, 5);
+        expect_one_balance(&piece, 5, 9999, "one malformed of many");
+        no_records(&piece);
+        for (j = 0; j < before; j++)
+            add_malformed(&piece, j % SORTS);
+        log_record(&piece, 7, RELEASE, 62, 0);
+        for (j = 0; j < behind; j++)
+            add_malformed(&piece, j % SORTS);
+        expect_one_balance(&piece, 62, -1, "many malformed");
+    }
+}
+
+/* Balances of each size, up and down, at the first class, the last, others. */
+static void test_balance_numbers(void)
+{
+    static const unsigned numbers[] = {
+        1, 2, 3, 19, 20, 21, 63, 64, 65, 126, 127, 128, 129, 254, 255, 256,
+        257, 511, 512, 1023, 1024, 2047, 2048, 2049, 4094, 4095, 4096, 4097,
+        8190, 8191, 8192, 8193, 9998, 9999, 10000 };
+    static const unsigned classes[] = { 0, 17, 63 };
+    static struct log piece;
+    unsigned i, c;
+
+    for (i = 0; i < sizeof numbers / sizeof numbers[0]; i++) {
+        const int32_t n = (int32_t)numbers[i];
+
+        for (c = 0; c < sizeof classes / sizeof classes[0]; c++) {
+            no_records(&piece);
+            add_records(&piece, numbers[i], ACQUIRE, classes[c]);
+            expect_one_balance(&piece, classes[c], n, "many acquires");
+            no_records(&piece);
+            add_records(&piece, numbers[i], RELEASE, classes[c]);
+            expect_one_balance(&piece, classes[c], -n, "many releases");
+        }
+    }
+}
+
+/* 10,000 of every class, up and down; 9,999 and one back; half and half. */
+static void test_balance_most(void)
+{
+    static struct log piece;
+    unsigned c;
+
+    for (c = 0; c < CLASSES; c++) {
+        no_records(&piece);
+        add_records(&piece, MOST_RECORDS, c % 2, c);
+        expect_one_balance(&piece, c, c % 2 == ACQUIRE ? 10000 : -10000,
+                           "the most");
+    }
+    no_records(&piece);
+    add_records(&piece, 9999, ACQUIRE, 63);
+    add_records(&piece, 1, RELEASE, 63);
+    expect_one_balance(&piece, 63, 9998, "one back");
+    no_records(&piece);
+    add_records(&piece, 1, ACQUIRE, 0);
+    add_records(&piece, 9999, RELEASE, 0);
+    expect_one_balance(&piece, 0, -9998, "one before");
+    no_records(&piece);
+    add_records(&piece, 5000, ACQUIRE, 31);
+    add_records(&piece, 5000, RELEASE, 31);
+    expect_no_balance(piece.bytes, piece.size, 0, "half and half");
+    no_records(&piece);
+    add_records(&piece, 5000, ACQUIRE, 0);
+    add_records(&piece, 5000, RELEASE, 63);
+    expect_by_rule(piece.bytes, piece.size, "half up and half down");
+    log_record(&piece, 0, ACQUIRE, 0, 0);
+    expect_no_balance(piece.bytes, piece.size, 14, "one too many");
+}
+
+/* The order of the records is nothing to the sums. */
+static void test_balance_order(void)
+{
+    static const struct {
+        unsigned first, acquires, then;
+    } cases[] = { { 1, 1, 0 }, { 0, 1, 1 }, { 1, 2, 0 }, { 2, 1, 0 },
+                  { 1, 1, 1 }, { 100, 30, 0 }, { 30, 100, 0 }, { 30, 0, 100 },
+                  { 5000, 5000, 0 }, { 2500, 5000, 2500 }, { 200, 300, 200 },
+                  { 6000, 4000, 0 }, { 4000, 6000, 0 }, { 0, 4000, 6000 } };
+    static struct log piece;
+    unsigned i, j;
+
+    for (i = 0; i < sizeof cases / sizeof cases[0]; i++) {
+        no_records(&piece);
+        add_records(&piece, cases[i].first, RELEASE, 12);
+        add_records(&piece, cases[i].acquires, ACQUIRE, 12);
+        add_records(&piece, cases[i].then, RELEASE, 12);
+        expect_one_balance(&piece, 12, (int32_t)cases[i].acquires
+                           - (int32_t)(cases[i].first + cases[i].then),
+                           "releases first");
+    }
+
+    /* Two classes against each other, one record in turn. */
+    no_records(&piece);
+    for (j = 0; j < 5000; j++) {
+        log_record(&piece, 0, RELEASE, 12, 0);
+        log_record(&piece, 1, ACQUIRE, 13, E);
+    }
+    expect_by_rule(piece.bytes, piece.size, "two classes in turn");
+    no_records(&piece);
+    for (j = 0; j < 3000; j++) {
+        log_record(&piece, 0, RELEASE, 12, 0);
+        log_record(&piece, 1, ACQUIRE, 12, E);
+        log_record(&piece, 2, RELEASE, 12, 0);
+    }
+    expect_one_balance(&piece, 12, -3000, "back and forth");
+}
+
+/* Whether a desk would accept a record is not asked. */
+static void test_balance_not_accepted(void)
+{
+    static struct log piece;
+    unsigned i;
+
+    for (i = 19; i <= 23; i++) { /* 8 from the 21st on */
+        no_records(&piece);
+        while (piece.size < 6 * i)
+            log_record(&piece, 0, ACQUIRE, 4, R);
+        expect_one_balance(&piece, 4, (int32_t)i, "a frame that is full");
+    }
+    while (piece.size < 6 * 300)
+        log_record(&piece, 0, ACQUIRE, 4, TRY + E);
+    expect_one_balance(&piece, 4, 300, "a frame that is long full");
+
+    no_records(&piece); /* 5: not held, by nobody, elsewhere, in a handler */
+    log_record(&piece, 0, RELEASE, 3, 0);
+    log_record(&piece, 0, ACQUIRE, 3, E);
+    log_record(&piece, 1, RELEASE, 3, 0);
+    log_record(&piece, 0, ENTER_HARD, 0, 0);
+    log_record(&piece, 0, RELEASE, 3, 0);
+    expect_one_balance(&piece, 3, -2, "releases of what is not held");
+
+    no_records(&piece); /* 6 */
+    log_record(&piece, 0, EXIT_HARD, 0, 0);
+    log_record(&piece, 0, ACQUIRE, 3, E);
+    log_record(&piece, 0, EXIT_SOFT, 0, 0);
+    log_record(&piece, 0, ACQUIRE, 3, E);
+    expect_one_balance(&piece, 3, 2, "events that are not allowed");
+
+    no_records(&piece); /* 7 */
+    log_record(&piece, 0, ENTER_SOFT, 0, 0);
+    log_record(&piece, 0, ACQUIRE, 3, E);
+    log_record(&piece, 0, EXIT_SOFT, 0, 0);
+    log_record(&piece, 0, ACQUIRE, 3, R);
+    expect_one_balance(&piece, 3, 2, "an exit with a held lock");
+
+    no_records(&piece); /* 1, and 10 behind it */
+    log_record(&piece, 0, ACQUIRE, 60, E);
+    log_record(&piece, 0, ACQUIRE, 61, E);
+    log_record(&piece, 1, ACQUIRE, 61, E);
+    log_record(&piece, 1, ACQUIRE, 60, E);
+    log_record(&piece, 1, RELEASE, 61, 0);
+    log_record(&piece, 0, RELEASE, 61, 0);
+    log_record(&piece, 0, ACQUIRE, 60, E);
+    expect_one_balance(&piece, 60, 3, "behind a fault");
+
+    no_records(&piece); /* 1 by one class, at once */
+    add_records(&piece, 16, ACQUIRE, 63);
+    expect_one_balance(&piece, 63, 16, "one class over itself");
+}
+
+static void add_random_record(struct log *piece, unsigned classes)
+{
+    unsigned kind = below(2), class_ = below(classes);
+
+    switch (below(8)) {
+    case 0: add_malformed(piece, below(SORTS)); break;
+    case 1: log_record(piece, below(9), below(11), below(2), below(2)); break;
+    case 2: log_record(piece, below(CORES), ACQUIRE, class_, below(8)); break;
+    case 3: log_record(piece, below(CORES), kind, below(256), 0); break;
+    default: log_record(piece, below(CORES), kind, class_, 0); break;
+    }
+}
+
+/* Pieces of any length up to the most, with few classes or with all. */
+static void test_balance_random(void)
+{
+    static struct log piece;
+    unsigned i;
+
+    seed = 20261116;
+    for (i = 0; i < 400; i++) {
+        size_t records = i % 20 == 0 ? MOST_RECORDS
+                         : i % 20 == 1 ? below(MOST_RECORDS + 1) : below(200);
+        unsigned classes = i % 3 == 0 ? 2 : CLASSES;
+
+        no_records(&piece);
+        while (piece.size < 6 * records)
+            add_random_record(&piece, classes);
+        expect_by_rule(piece.bytes, piece.size, "a random piece");
+    }
+    for (i = 0; i < 400; i++) { /* any bytes, any length */
+        size_t length = below(i % 40 == 0 ? 65000 : 300);
+
+        no_records(&piece);
+        while (piece.size < length)
+            log_byte(&piece, below(4) == 0 ? below(256)
+                     : piece.size % 6 == 0 ? 0x4C
+                     : piece.size % 6 == 1 ? 0x4B : below(3));
+        expect_by_rule(piece.bytes, piece.size, "random bytes");
+    }
+}
+
+/* The balances of the two parts of a piece add up to its own. */
+static void expect_joined(const struct log *piece, size_t first,
+                          const char *what)
+{
+    int32_t parts[3][CLASSES];
+    const size_t from[] = { 0, 0, 6 * first };
+    const size_t to[] = { piece->size, 6 * first, piece->size };
+    unsigned i, c;
+
+    for (i = 0; i < 3; i++) {
+        const struct guarded *lent = lent_bytes(piece->bytes + from[i],
+                                                to[i] - from[i]);
+
+        memset(parts[i], FILL, sizeof parts[i]);
+        check(plungerowl_balance(lent->bytes, lent->size, parts[i]) == 0,
+              "%s: part %u", what, i);
+    }
+    for (c = 0; c < CLASSES; c++)
+        check(parts[0][c] == parts[1][c] + parts[2][c],
+              "%s, cut at %lu: class %u has %" PRId32 ", not %" PRId32 " + %"
+              PRId32, what, (unsigned long)first, c, parts[0][c], parts[1][c],
+              parts[2][c]);
+}
+
+static void test_balance_joined(void)
+{
+    static const unsigned cuts[] = { 0, 1, 255, 4095, 5000, 8192, 9999, 10000 };
+    static struct log piece;
+    unsigned i, n;
+
+    seed = 99;
+    for (n = 0; n <= 40; n++) {
+        no_records(&piece);
+        while (piece.size < 6 * n)
+            add_random_record(&piece, 5);
+        for (i = 0; i <= n; i++)
+            expect_joined(&piece, i, "a short piece");
+    }
+    for (n = 0; n < 2; n++) { /* the second has class 2 down and up */
+        no_records(&piece);
+        while (n == 0 && piece.size < MOST_BYTES)
+            add_random_record(&piece, CLASSES);
+        add_records(&piece, 5000 * n, RELEASE, 2);
+        add_records(&piece, 5000 * n, ACQUIRE, 2);
+        for (i = 0; i < sizeof cuts / sizeof cuts[0]; i++)
+            expect_joined(&piece, cuts[i], "the longest piece");
+    }
+
+    /* Each of the two within the limit, and both together over it. */
+    log_record(&piece, 0, ACQUIRE, 2, E);
+    expect_by_rule(piece.bytes, MOST_BYTES, "all but the last");
+    expect_by_rule(piece.bytes + 6, MOST_BYTES, "all but the first");
+    expect_no_balance(piece.bytes, piece.size, 14, "both together");
+}
+
+/* The calls know nothing of each other, nor of those on a desk. */
+static void test_balance_again(void)
+{
+    static struct log one, other, refused;
+    struct buffers b;
+    unsigned i;
+
+    no_records(&one);
+    no_records(&other);
+    no_records(&refused);
+    add_records(&one, 300, ACQUIRE, 6);
+    add_records(&other, 7, RELEASE, 40);
+    log_loose(&refused, 5);
+    open_buffers(&b, 8, 0);
+    for (i = 0; i < 3; i++) {
+        expect_one_balance(&one, 6, 300, "again");
+        expect_no_balance(refused.bytes, refused.size, 14, "refused again");
+        expect_one_balance(&other, 40, -7, "another, behind a refused one");
+        expect_step(&b, 0, ACQUIRE, 1 + i, E, 0, "a step between");
+        expect_no_balance(one.bytes, 0, 0, "nothing, behind others");
+        expect_one_balance(&one, 6, 300, "again, behind a step");
+        check_buffers(&b, "behind a balance");
+        expect_reach(&b, 7, 0, 0, "asked behind a balance");
+    }
+    free_buffers(&b);
+}
+
+/* The piece may begin anywhere, the balances at every fourth byte. */
+static void test_balance_places(void)
+{
+    static union {
+        uint8_t bytes[MOST_BYTES + 64];
+        uint64_t aligned;
+    } room;
+    static union {
+        int32_t numbers[CLASSES + 8];
+        uint64_t aligned;
+    } balances;
+    static struct log piece;
+    const size_t lengths[] = { 6, 12, 600, MOST_BYTES };
+    unsigned at, i, place, c;
+
+    seed = 7;
+    no_records(&piece);
+    while (piece.size < MOST_BYTES)
+        add_random_record(&piece, CLASSES);
+    for (at = 0; at < 32; at++) {
+        for (i = 0; i < 4; i++) {
+            int32_t due[CLASSES];
+
+            balances_due(piece.bytes, lengths[i], due);
+            memcpy(room.bytes + at, piece.bytes, lengths[i]);
+            place = at % 8;
+            memset(balances.numbers, FILL, sizeof balances.numbers);
+            check(plungerowl_balance(room.bytes + at, lengths[i],
+                                     balances.numbers + place) == 0,
+                  "a piece at %u, balances at %u", at, place);
+            for (c = 0; c < CLASSES; c++)
+                check(balances.numbers[place + c] == due[c],
+                      "a piece at %u, balances at %u: class %u", at, place, c);
+        }
+    }
+}
+
+/* The piece is not written, not even for a while. */
+static void test_balance_read_only(void)
+{
+    static struct log log;
+    static const size_t lengths[] = { 0, 6, 7, 600, MOST_BYTES,
+                                      MOST_BYTES + 1, MOST_BYTES + 6 };
+    const size_t most = 16 * 4096;
+    struct guarded piece = { NULL, 0, 0, 0 };
+    unsigned i;
+
+    no_records(&log);
+    add_turns(&log, MOST_RECORDS + 1);
+    piece.bytes = mmap(NULL, most, PROT_READ | PROT_WRITE,
+                       MAP_PRIVATE | MAP_ANONYMOUS, -1, 0);
+    need(piece.bytes != MAP_FAILED);
+    memcpy(piece.bytes, log.bytes, log.size);
+    need(mprotect(piece.bytes, most, PROT_READ) == 0);
+    for (i = 0; i < sizeof lengths / sizeof lengths[0]; i++) {
+        int32_t due[CLASSES];
+        unsigned answer;
+
+        piece.size = lengths[i];
+        answer = balances_due(log.bytes, piece.size, due);
+        expect_lent_balance(&piece, NULL, answer, due, "a piece to be read");
+    }
+    munmap(piece.bytes, most);
+}
+
 /* ------------------------------------------------------------------- main */
 
 /* A call gave each of these answers, and no other. */
@@ -5374,7 +6366,16 @@ static const struct test tests[] = {
     TEST(seen_from_elsewhere), TEST(seen_not_compared),
     TEST(seen_older_not_shown), TEST(seen_past),
     TEST(unfit_numbers), TEST(unfit_counts), TEST(unfit_last_pair),
-    TEST(feed_seen), TEST(feed_count_full)
+    TEST(feed_seen), TEST(feed_count_full),
+    TEST(balance_example), TEST(balance_written), TEST(balance_lengths),
+    TEST(balance_longer), TEST(balance_huge), TEST(balance_header),
+    TEST(balance_bytes), TEST(balance_pairs), TEST(balance_as_step),
+    TEST(balance_cores), TEST(balance_kinds), TEST(balance_modes),
+    TEST(balance_classes), TEST(balance_malformed),
+    TEST(balance_malformed_long), TEST(balance_numbers), TEST(balance_most),
+    TEST(balance_order), TEST(balance_not_accepted), TEST(balance_random),
+    TEST(balance_joined), TEST(balance_again), TEST(balance_places),
+    TEST(balance_read_only)
 };
 
 /* Run the test of the name, or all for NULL; how many were run. */
@@ -5411,6 +6412,7 @@ int main(int argc, char **argv)
         check_met("start", start_met, "x-x");
         check_met("feed", feed_met, "xxxxxxxxxxxx");
         check_met("end", end_met, "xxxxxxxxxxxx");
+        check_met("balance", balance_met, "x-------------x");
     }
     printf("selftest: %lu checks, %lu wrong\n", checks, failures);
     return failures == 0 ? 0 : 1;

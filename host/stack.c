@@ -45,16 +45,16 @@
 
 /* A record is fed whole, or its last byte to a feed that has the others; the
  * end finds these. */
-enum { OPEN, STEP, ASK, START, FEED, FEED_LAST, END, CALLS };
+enum { OPEN, STEP, ASK, START, FEED, FEED_LAST, END, BALANCE, CALLS };
 
 static const char *const call_names[CALLS] = {
     "open", "step", "ask", "feed_start", "feed", "feed of a last byte",
-    "feed_end"
+    "feed_end", "balance"
 };
 static const size_t limits[CALLS] = {
     PLUNGEROWL_STACK_OPEN, PLUNGEROWL_STACK_STEP, PLUNGEROWL_STACK_ASK,
     PLUNGEROWL_STACK_FEED_START, PLUNGEROWL_STACK_FEED, PLUNGEROWL_STACK_FEED,
-    PLUNGEROWL_STACK_FEED_END
+    PLUNGEROWL_STACK_FEED_END, PLUNGEROWL_STACK_BALANCE
 };
 static const unsigned sizes[] = { 1, 8, 16, 32, 64 };
 
@@ -77,6 +77,7 @@ static void quit(const char *message)
 struct input {
     unsigned k;
     unsigned class_; /* asked for */
+    unsigned piece;  /* the bytes of the piece that are balanced */
     uint8_t record[PLUNGEROWL_RECORD_SIZE];
     uint8_t feed[PLUNGEROWL_FEED_SIZE];
     uint8_t desk[PLUNGEROWL_DESK_SIZE];
@@ -89,6 +90,8 @@ static struct input lent;
 static uint8_t slip[PLUNGEROWL_SLIP_SIZE(PLUNGEROWL_MAX_CLASSES)];
 static uint64_t word, number;
 static uint32_t count;
+static uint8_t piece[PLUNGEROWL_MAX_PIECE_SIZE + PLUNGEROWL_RECORD_SIZE];
+static int32_t balances[PLUNGEROWL_MAX_CLASSES];
 static unsigned answer;
 
 /* The stack pointer of the caller of the empty functions below. */
@@ -139,12 +142,12 @@ static uint8_t empty_start(uint8_t *feed, size_t feed_len)
 static uint8_t empty_feed(uint8_t *feed, size_t feed_len, uint8_t *desk,
                           size_t desk_len, uint8_t *sheet, size_t sheet_len,
                           uint8_t *seen, size_t seen_len, uint8_t *slip_,
-                          size_t slip_len, const uint8_t *piece,
+                          size_t slip_len, const uint8_t *piece_,
                           size_t piece_len, uint64_t *record)
 {
     (void)feed, (void)feed_len, (void)desk, (void)desk_len, (void)sheet;
     (void)sheet_len, (void)seen, (void)seen_len, (void)slip_, (void)slip_len;
-    (void)piece, (void)piece_len, (void)record;
+    (void)piece_, (void)piece_len, (void)record;
     NOTE_CALLER();
     return 0;
 }
@@ -157,6 +160,14 @@ static uint8_t empty_end(uint8_t *feed, size_t feed_len, uint8_t *desk,
     (void)feed, (void)feed_len, (void)desk, (void)desk_len, (void)sheet;
     (void)sheet_len, (void)seen, (void)seen_len, (void)slip_, (void)slip_len;
     (void)record;
+    NOTE_CALLER();
+    return 0;
+}
+
+static uint8_t empty_balance(const uint8_t *piece_, size_t piece_len,
+                             int32_t *balances_)
+{
+    (void)piece_, (void)piece_len, (void)balances_;
     NOTE_CALLER();
     return 0;
 }
@@ -178,6 +189,7 @@ static uint8_t (*volatile to_feed)(uint8_t *, size_t, uint8_t *, size_t,
 static uint8_t (*volatile to_end)(uint8_t *, size_t, uint8_t *, size_t,
                                   uint8_t *, size_t, uint8_t *, size_t,
                                   uint8_t *, size_t, uint64_t *);
+static uint8_t (*volatile to_balance)(const uint8_t *, size_t, int32_t *);
 
 static void point_to_library(void)
 {
@@ -187,6 +199,7 @@ static void point_to_library(void)
     to_start = plungerowl_feed_start;
     to_feed = plungerowl_feed;
     to_end = plungerowl_feed_end;
+    to_balance = plungerowl_balance;
 }
 
 static void point_to_empty(void)
@@ -197,6 +210,7 @@ static void point_to_empty(void)
     to_start = empty_start;
     to_feed = empty_feed;
     to_end = empty_end;
+    to_balance = empty_balance;
 }
 
 static void run_open(void)
@@ -247,8 +261,14 @@ static void run_end(void)
                     slip, sizeof slip, &number);
 }
 
+static void run_balance(void)
+{
+    answer = to_balance(piece, lent.piece, balances);
+}
+
 static void (*const runs[CALLS])(void) = {
-    run_open, run_step, run_ask, run_start, run_feed, run_feed_last, run_end
+    run_open, run_step, run_ask, run_start, run_feed, run_feed_last, run_end,
+    run_balance
 };
 
 /* The input for a call, with the feed that it needs. */
@@ -263,9 +283,19 @@ static void lend(const struct input *in, int call)
     }
 }
 
-/* The call did what it was meant to do: the end alone finds a short record. */
+static int is_piece(unsigned length)
+{
+    return length <= PLUNGEROWL_MAX_PIECE_SIZE
+           && length % PLUNGEROWL_RECORD_SIZE == 0;
+}
+
+/* The call did what it was meant to do: the end alone finds a short record, and
+ * a piece may be one that is refused. */
 static int is_right(int call)
 {
+    if (call == BALANCE)
+        return answer == (is_piece(lent.piece) ? PLUNGEROWL_OK
+                                               : PLUNGEROWL_BAD_PIECE);
     return call == END ? answer == PLUNGEROWL_BAD_RECORD
                        : answer <= PLUNGEROWL_FAULT;
 }
@@ -485,6 +515,38 @@ static void put_random(struct input *in)
         put_acquire(in);
 }
 
+/* Records of all kinds, every fourth of any bytes: each input balances the
+ * first so many of them. */
+static void make_piece(void)
+{
+    size_t at;
+
+    for (at = 0; at + PLUNGEROWL_RECORD_SIZE <= sizeof piece;
+         at += PLUNGEROWL_RECORD_SIZE) {
+        int any = below(4) == 0;
+
+        piece[at] = (uint8_t)(any ? below(256) : 0x4C);
+        piece[at + 1] = (uint8_t)(any ? below(256) : 0x4B);
+        piece[at + 2] = (uint8_t)below(any ? 256 : PLUNGEROWL_CORES);
+        piece[at + 3] = (uint8_t)below(any ? 256 : 3);
+        piece[at + 4] = (uint8_t)below(any ? 256 : PLUNGEROWL_MAX_CLASSES);
+        piece[at + 5] = (uint8_t)(any ? below(256) : 0);
+    }
+}
+
+/* For each shape: no record, some, the most, and two that are refused; then
+ * any number of bytes. */
+static unsigned piece_of(unsigned shape)
+{
+    static const unsigned lengths[] = {
+        0, PLUNGEROWL_RECORD_SIZE, 100 * PLUNGEROWL_RECORD_SIZE,
+        PLUNGEROWL_MAX_PIECE_SIZE, PLUNGEROWL_MAX_PIECE_SIZE + 6,
+        PLUNGEROWL_RECORD_SIZE + 1 };
+    const unsigned fixed = sizeof lengths / sizeof lengths[0];
+
+    return shape < fixed ? lengths[shape] : below(1000);
+}
+
 enum { RINGS = 13, DIAGONALS = RINGS + 4, DEEPEST = DIAGONALS + 4,
        SHAPES = DEEPEST + 9 };
 
@@ -541,6 +603,7 @@ static void make_input(struct input *in, unsigned k, unsigned shape)
     }
     put_numbers(in);
     in->class_ = below(k);
+    in->piece = piece_of(shape);
 }
 
 /* ------------------------------------------------------------ the measures */
@@ -620,6 +683,7 @@ int main(void)
 
     setrlimit(RLIMIT_CORE, &no_core);
     stack = make_stack();
+    make_piece();
     point_to_library();
     for (i = 0; i < sizeof sizes / sizeof sizes[0]; i++) {
         measure_all(sizes[i], worst);

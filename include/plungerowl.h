@@ -23,16 +23,22 @@
  * needs a feed, and K is then the header's: sheet, seen and slip for
  * PLUNGEROWL_MAX_CLASSES do for every log. Questions may be asked in both.
  *
+ * A third thing needs no buffers of the library: plungerowl_balance counts, over
+ * a piece of a log, each class's acquires less its releases.
+ *
  * Rules for callers, for every call:
  *
  *   - Each pointer is valid for as many bytes as the length after it says:
  *     readable, and writable where it is not const. Lengths longer than the
  *     stated sizes are allowed; bytes past the stated sizes are never touched.
+ *     Where no length follows, the pointer is valid for its number, or, of a
+ *     balance, for its PLUNGEROWL_MAX_CLASSES numbers, and writable.
  *   - No pointer is null, not even with length 0: pass any valid pointer.
  *   - The buffers of one call do not overlap: feed, desk, sheet, seen, slip,
- *     the record of a step, the piece of a feed, and the numbers that are
- *     written: *word and *count, and *record of a feed. Pointers to numbers are
- *     aligned for their types; the others need no alignment.
+ *     the record of a step, the piece of a feed or of a balance, and the
+ *     numbers that are written: *word and *count, *record of a feed, and the
+ *     balances. Pointers to numbers are aligned for their types; the others
+ *     need no alignment.
  *   - One caller at a time: while a call runs, nobody else reads or writes the
  *     buffers it was given. Calls on separate buffers do not affect each other.
  *   - The stack has room for the call: PLUNGEROWL_STACK_OPEN and so on, below.
@@ -97,6 +103,12 @@ extern "C" {
 /* A log is the header 4C 48 01 K and then records. */
 #define PLUNGEROWL_HEADER_SIZE 4
 
+/* A piece whose balances are asked for is so many records at most: 60,000
+ * bytes. It has no header. */
+#define PLUNGEROWL_MAX_PIECE_RECORDS 10000
+#define PLUNGEROWL_MAX_PIECE_SIZE \
+    (PLUNGEROWL_RECORD_SIZE * PLUNGEROWL_MAX_PIECE_RECORDS)
+
 /*
  * Where the parts of a feed begin; docs/FORMATS.md says what they have. Loose
  * bytes are those of a header or record that is not complete yet; a feed keeps
@@ -130,18 +142,20 @@ extern "C" {
 #define PLUNGEROWL_STACK_FEED_START 16
 #define PLUNGEROWL_STACK_FEED 13312
 #define PLUNGEROWL_STACK_FEED_END 4096
+#define PLUNGEROWL_STACK_BALANCE 16
 
 /*
  * Answers. "frame" is the current frame of the core named by the record.
  * 0 and 1 accept the record; a header or record with another answer changes no
  * byte of desk, sheet, seen and slip. plungerowl_feed and plungerowl_feed_end
  * give what opening and the steps inside them answered, so what is said of step
- * holds of them too.
+ * holds of them too. 12 and 13 are not in use.
  */
 enum plungerowl_answer {
     /* open: opened; ask: answered; feed_start: started;
      * step: accepted, no closed strong path; slip unchanged;
-     * feed, feed_end: all that was complete got 0 */
+     * feed, feed_end: all that was complete got 0;
+     * balance: counted */
     PLUNGEROWL_OK = 0,
     /* step: accepted, a closed strong path exists; desk closed, slip written */
     PLUNGEROWL_FAULT = 1,
@@ -171,7 +185,10 @@ enum plungerowl_answer {
     /* step: desk, sheet, seen or slip unfit; ask: desk, sheet or seen unfit;
      * feed and feed_end: so in a step, or, with *record 0, feed unfit
      * (too short, or contents that the fit tests of FORMATS.md rule out) */
-    PLUNGEROWL_UNFIT = 11
+    PLUNGEROWL_UNFIT = 11,
+    /* balance: the piece is over PLUNGEROWL_MAX_PIECE_SIZE bytes, or not a whole
+     * number of records */
+    PLUNGEROWL_BAD_PIECE = 14
 };
 
 /* Record kinds (byte 3 of a record). */
@@ -330,6 +347,24 @@ uint8_t plungerowl_feed_end(uint8_t *feed, size_t feed_len,
                             uint8_t *seen, size_t seen_len,
                             uint8_t *slip, size_t slip_len,
                             uint64_t *record);
+
+/*
+ * Balance: of each class its acquires less its releases, over a piece of a log:
+ * records, without a header, from anywhere.
+ *
+ * Answers 0 or 14. On 0 balances[c] is, for each class c from 0 to 63, the
+ * number of records of kind 0 less the number of records of kind 1, of those
+ * with class c that are not malformed; whether a desk would accept them is not
+ * asked, and there is no K. A record that is malformed (the conditions of
+ * PLUNGEROWL_BAD_RECORD), of another kind, or of class 64 or more counts for
+ * nothing. A balance is -10000 to 10000; below zero the acquire may be before
+ * the piece. On 14 all 64 balances are 0. So all 64 are always written, whatever
+ * they were before. The balances of two pieces that follow each other, neither
+ * of them refused and both together within the limit, add up to those of both
+ * together.
+ */
+uint8_t plungerowl_balance(const uint8_t *piece, size_t piece_len,
+                           int32_t balances[PLUNGEROWL_MAX_CLASSES]);
 
 #ifdef __cplusplus
 }

@@ -2,9 +2,9 @@
 //!
 //! Written from the documents alone (01, "What will be built, and the rules", and
 //! of 02 "A try never waits", "Logs arrive in pieces", "Show the shortest circle",
-//! "Clash of one class by table" and "Where was this arrow first seen?", with the feed's
-//! layout and fit test as they were handed over), to be compared byte for byte with the
-//! proved library. Sentences in quotation marks are the documents'.
+//! "Clash of one class by table", "Where was this arrow first seen?" and "Balance of a
+//! piece", with the feed's layout and fit test as they were handed over), to be compared
+//! byte for byte with the proved library. Sentences in quotation marks are the documents'.
 //!
 //! How closed strong paths are decided: a path is a walk over *arrivals*, an
 //! arrival being a class together with the second letter (N or R) of the arrow
@@ -24,6 +24,7 @@
 //! own, and neither reads the other.
 #![forbid(unsafe_code)]
 
+use std::ffi::OsStr;
 use std::io::{ErrorKind, Read, Write};
 
 // ---------------------------------------------------------------- the bench
@@ -1366,7 +1367,48 @@ pub fn whole_log(
     (0, number)
 }
 
-// -------------------------------------------------------------- the program
+// ------------------------------------------------------- the balance of a piece
+
+pub const PIECE: usize = 10_000 * RECORD; // "a piece of up to 10,000 records", in bytes
+
+/// "report for each class kind 0 less kind 1 over the records that refusal 3 passes,
+/// whether or not a desk would accept them." Answers 0, or 14: "A piece that is longer, or
+/// isn't a whole number of records, is refused with 14 and reports 64 zeros."
+pub fn balance(piece: &[u8]) -> (u8, [i32; 64]) {
+    if piece.len() > PIECE || piece.len() % RECORD != 0 {
+        return (14, [0; 64]);
+    }
+    // Takes and releases are counted apart, for each value that the class byte can have.
+    let (mut takes, mut releases) = ([0; 256], [0; 256]);
+    let passed = piece.chunks_exact(RECORD).filter_map(read_record);
+    for Record { kind, class, .. } in passed {
+        match kind {
+            TAKE => takes[usize::from(class)] += 1,
+            RELEASE => releases[usize::from(class)] += 1,
+            _ => {}
+        }
+    }
+    // "A balance below zero is an answer, not an error". Only 64 are reported: "Records of
+    // class 64 or more count for nothing."
+    let balances = std::array::from_fn(|class| takes[class] - releases[class]);
+    (0, balances)
+}
+
+// ------------------------------------------------------------- the programs
+
+/// The small program of request f if the first argument is the word `balance`, else the
+/// one that judges a log.
+pub fn run(
+    first_argument: Option<&OsStr>,
+    input: &mut dyn Read,
+    out: &mut dyn Write,
+) -> std::io::Result<()> {
+    if first_argument == Some(OsStr::new("balance")) {
+        run_balance(input, out)
+    } else {
+        run_log(input, out)
+    }
+}
 
 /// Reads until the buffer is full or the input ends; how many bytes came.
 fn fill(input: &mut dyn Read, buffer: &mut [u8]) -> std::io::Result<usize> {
@@ -1426,6 +1468,25 @@ pub fn run_log(input: &mut dyn Read, out: &mut dyn Write) -> std::io::Result<()>
             }
         }
     }
+}
+
+/// "A small program prints the classes whose balance isn't 0, lowest first, a line `class
+/// balance` each, or `refused 14`." It reads one byte more than the longest piece has and
+/// no further: if that byte comes, the piece is longer, however much follows.
+pub fn run_balance(input: &mut dyn Read, out: &mut dyn Write) -> std::io::Result<()> {
+    let mut piece = vec![0; PIECE + 1];
+    let got = fill(input, &mut piece)?;
+    match balance(&piece[..got]) {
+        (0, balances) => {
+            for (class, balance) in balances.iter().enumerate() {
+                if *balance != 0 {
+                    writeln!(out, "{class} {balance}")?;
+                }
+            }
+        }
+        (answer, _) => writeln!(out, "refused {answer}")?,
+    }
+    out.flush()
 }
 
 /// "Printed lines stay.": no numbers.

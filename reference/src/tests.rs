@@ -5820,6 +5820,842 @@ fn first_seen_against_the_step() {
     );
 }
 
+// ------------------------------------------------------- the balance of a piece
+
+/// 64 balances, 0 but for these.
+fn balances(these: &[(usize, i32)]) -> [i32; 64] {
+    let mut all = [0; 64];
+    for &(class, balance) in these {
+        all[class] += balance;
+    }
+    all
+}
+
+/// What the small program writes of a piece.
+fn balance_text(piece: &[u8]) -> String {
+    let mut out = Vec::new();
+    run_balance(&mut &piece[..], &mut out).unwrap();
+    String::from_utf8(out).unwrap()
+}
+
+/// Lines for these, in the order in which they are given.
+fn lines(these: &[(usize, i32)]) -> String {
+    these.iter().map(|(c, b)| format!("{c} {b}\n")).collect()
+}
+
+/// Not refused; these balances, the lowest class first and none 0, and no others.
+fn assert_balance(piece: &[u8], these: &[(usize, i32)]) {
+    assert_eq!(balance(piece), (0, balances(these)));
+    assert_eq!(balance_text(piece), lines(these));
+}
+
+fn assert_14(piece: &[u8]) {
+    assert_eq!(balance(piece), (14, [0; 64]), "{} bytes", piece.len());
+    assert_eq!(balance_text(piece), "refused 14\n", "{}", piece.len());
+}
+
+/// The first bytes of a piece that is this list over and over.
+fn over_and_over(list: &[Rec], length: usize) -> Vec<u8> {
+    list.concat().into_iter().cycle().take(length).collect()
+}
+
+#[test]
+fn balances_by_hand() {
+    // Nothing at all, and nothing left over: not a byte is printed.
+    assert_eq!(balance(&[]), (0, [0; 64]));
+    assert_eq!(balance_text(&[]), "");
+    assert_eq!(balance_text(&[take(0, 9, E), release(0, 9)].concat()), "");
+    assert_eq!(balance_text(&release(0, 9)), "9 -1\n");
+    assert_eq!(balance_text(&take(0, 9, E)), "9 1\n");
+    assert_eq!(balance_text(&[0; 5]), "refused 14\n");
+    // Lowest class first by number, whatever the order of the records; 7 comes to 0.
+    let piece = [
+        take(1, 63, E),
+        release(0, 2),
+        take(0, 10, NR),
+        release(2, 9),
+        take(0, 7, R),
+        release(0, 2),
+        take(0, 0, TE),
+        take(5, 10, TR),
+        release(7, 7),
+        release(0, 2),
+        take(7, 10, TRR),
+        release(0, 11),
+    ];
+    assert_eq!(
+        balance_text(&piece.concat()),
+        "0 1\n2 -3\n9 -1\n10 3\n11 -1\n63 1\n"
+    );
+    let these = [(0, 1), (2, -3), (9, -1), (10, 3), (11, -1), (63, 1)];
+    assert_balance(&piece.concat(), &these);
+    let backwards: Vec<Rec> = piece.iter().rev().copied().collect();
+    assert_balance(&backwards.concat(), &these);
+    // All 64 classes, class c taken c + 1 times or, if odd, released so often.
+    let mut all = Vec::new();
+    let mut these = Vec::new();
+    for class in 0..64u8 {
+        let times = class as usize + 1;
+        let (record, sign) = if class % 2 == 0 {
+            (take(class % 8, class, class % 6), 1)
+        } else {
+            (release(class % 8, class), -1)
+        };
+        all.splice(0..0, vec![record; times]);
+        these.push((class as usize, sign * times as i32));
+    }
+    assert_balance(&all.concat(), &these);
+    // P2: 1 and 2 are each taken twice and released once.
+    assert_balance(&p2_records().concat(), &[(1, 1), (2, 1)]);
+}
+
+#[test]
+fn a_balance_is_never_held_at_zero() {
+    // "A balance below zero is an answer, not an error: the take may be before the piece."
+    // Releases first and takes after come to the same as the other way round.
+    for (releases, takes) in [
+        (1, 1),
+        (1, 2),
+        (2, 1),
+        (300, 300),
+        (5_000, 5_000),
+        (4_000, 6_000),
+    ] {
+        let first = [release(0, 3)].repeat(releases).concat();
+        let then = [take(0, 3, E)].repeat(takes).concat();
+        let left = takes as i32 - releases as i32;
+        let these = if left == 0 { vec![] } else { vec![(3, left)] };
+        assert_balance(&[&first[..], &then].concat(), &these);
+        assert_balance(&[&then[..], &first].concat(), &these);
+    }
+}
+
+#[test]
+fn lengths_of_a_piece() {
+    // Every length up to a little over the limit. All of it takes of 5: the balance is the
+    // number of records.
+    let fives = over_and_over(&[take(2, 5, NR)], 60_030);
+    for records in 0..10_004usize {
+        for over in 0..6 {
+            let piece = &fives[..6 * records + over];
+            let wanted = if over == 0 && records <= 10_000 {
+                (0, balances(&[(5, records as i32)]))
+            } else {
+                (14, [0; 64])
+            };
+            assert_eq!(balance(piece), wanted, "{} bytes", piece.len());
+        }
+    }
+    // By hand, with the text.
+    assert_balance(&fives[..0], &[]);
+    assert_balance(&fives[..6], &[(5, 1)]);
+    assert_balance(&fives[..12], &[(5, 2)]);
+    assert_balance(&fives[..59_994], &[(5, 9_999)]);
+    assert_balance(&fives[..60_000], &[(5, 10_000)]);
+    for refused in [
+        1..6,
+        7..12,
+        13..18,
+        59_989..59_994,
+        59_995..60_000,
+        60_001..60_013,
+    ] {
+        for length in refused {
+            assert_14(&fives[..length]);
+        }
+    }
+    // Longer yet: all whole numbers of records but the last three, some a whole number of
+    // records also by their low sixteen bits.
+    let long = over_and_over(&[release(2, 5)], 600_000);
+    for length in [
+        65_532, 65_538, 119_994, 120_000, 120_006, 131_076, 196_608, 196_614, 256_608, 600_000,
+        65_536, 125_536, 131_072,
+    ] {
+        assert_14(&long[..length]);
+    }
+    // The length alone decides: whatever the bytes are.
+    for byte in [0, 0x4C, 0xFF] {
+        let bytes = vec![byte; 60_006];
+        for length in 0..14 {
+            if [0, 6, 12].contains(&length) {
+                assert_balance(&bytes[..length], &[]);
+            } else {
+                assert_14(&bytes[..length]);
+            }
+        }
+        for length in [59_994, 60_000] {
+            assert_balance(&bytes[..length], &[]);
+        }
+        for length in [59_999, 60_001, 60_006] {
+            assert_14(&bytes[..length]);
+        }
+    }
+    // The first and the last of 10,000 records count, and one more of them refuses all.
+    let mut piece = [event(0, HARD_ON); 10_000];
+    piece[0] = take(0, 1, E);
+    piece[9_999] = release(0, 2);
+    assert_balance(&piece.concat(), &[(1, 1), (2, -1)]);
+    assert_14(&[piece.concat(), event(0, HARD_ON).to_vec()].concat());
+}
+
+#[test]
+fn the_highest_and_the_lowest_balance() {
+    for class in [0, 1, 9, 62, 63] {
+        for mode in MODES {
+            let piece = over_and_over(&[take(7, class, mode)], 60_000);
+            assert_balance(&piece, &[(class as usize, 10_000)]);
+        }
+        let piece = over_and_over(&[release(7, class)], 60_000);
+        assert_balance(&piece, &[(class as usize, -10_000)]);
+        // Up or down to 5,000 and on.
+        let half = |record: Rec| over_and_over(&[record], 30_000);
+        let (up, down) = (half(take(0, class, E)), half(release(0, class)));
+        let (other_up, other_down) = (half(take(0, 30, E)), half(release(0, 30)));
+        assert_balance(&[&up[..], &down].concat(), &[]);
+        assert_balance(&[&down[..], &up].concat(), &[]);
+        let (mut a, mut b) = (
+            [(class as usize, 5_000), (30, -5_000)],
+            [(30, 5_000), (class as usize, -5_000)],
+        );
+        a.sort();
+        b.sort();
+        assert_balance(&[&up[..], &other_down].concat(), &a);
+        assert_balance(&[&down[..], &other_up].concat(), &b);
+    }
+    // Counts around powers of two.
+    for times in [
+        127, 128, 129, 255, 256, 257, 4_095, 4_096, 8_191, 8_192, 9_999,
+    ] {
+        let up = over_and_over(&[take(0, 4, R)], 6 * times);
+        assert_balance(&up, &[(4, times as i32)]);
+        let down = over_and_over(&[release(0, 4)], 6 * times);
+        assert_balance(&down, &[(4, -(times as i32))]);
+    }
+}
+
+#[test]
+fn classes_of_64_or_more_count_for_nothing() {
+    // Every class alone and beside takes of class 0, 1 and 63, into which it could be
+    // folded. It isn't refused either.
+    let beside = [take(0, 0, E), take(0, 1, E), take(0, 63, E)].concat();
+    for class in 0..=255u8 {
+        for (record, one) in [
+            (take(0, class, E), 1),
+            (take(0, class, TRR), 1),
+            (release(0, class), -1),
+        ] {
+            let own = (class as usize, one);
+            let alone = if class < 64 { vec![own] } else { vec![] };
+            assert_balance(&record, &alone);
+            let mut wanted = balances(&[(0, 1), (1, 1), (63, 1)]);
+            if class < 64 {
+                wanted[class as usize] += one;
+            }
+            assert_eq!(balance(&[&record[..], &beside].concat()), (0, wanted));
+            assert_eq!(balance(&[&beside[..], &record].concat()), (0, wanted));
+        }
+    }
+    for class in [64, 65, 127, 128, 192, 254, 255] {
+        assert_balance(&over_and_over(&[take(0, class, E)], 60_000), &[]);
+        assert_balance(&over_and_over(&[release(0, class)], 60_000), &[]);
+    }
+    // No K: classes above any that a log named count, up to 63.
+    let every: Vec<Rec> = (0..=255).map(|class| take(0, class, E)).collect();
+    let ones: Vec<(usize, i32)> = (0..64).map(|class| (class, 1)).collect();
+    assert_balance(&every.concat(), &ones);
+}
+
+#[test]
+fn every_value_of_each_byte() {
+    // A well-formed take or release with one byte changed: alone, and with a take of 20
+    // before it and a release of 30 after it, which count in any case.
+    let (before, after) = (take(1, 20, R), release(6, 30));
+    let mut counted = 0;
+    for core in [0, 3, 7] {
+        for class in [0, 9, 63] {
+            let takes = MODES.map(|mode| (take(core, class, mode), 1));
+            let own = usize::from(class);
+            for (record, one) in takes.into_iter().chain([(release(core, class), -1)]) {
+                for at in 0..6 {
+                    for value in 0..=255u8 {
+                        let mut r = record;
+                        r[at] = value;
+                        let is_take = one == 1;
+                        let wanted = match (at, value) {
+                            (0, 0x4C) | (1, 0x4B) | (2, 0..=7) => Some((own, one)),
+                            (3, 0) => Some((own, 1)),
+                            (3, 1) if record[5] == 0 => Some((own, -1)),
+                            (4, 0..=63) => Some((usize::from(value), one)),
+                            (5, 0) => Some((own, one)),
+                            (5, 1..=5) if is_take => Some((own, one)),
+                            _ => None,
+                        };
+                        counted += usize::from(wanted.is_some());
+                        assert_balance(&r, wanted.as_slice());
+                        let mut all = vec![(20, 1), (30, -1)];
+                        all.extend(wanted);
+                        assert_eq!(
+                            balance(&[before, r, after].concat()),
+                            (0, balances(&all)),
+                            "{r:?}"
+                        );
+                    }
+                }
+            }
+        }
+    }
+    // A take keeps its place with 1 + 1 + 8 + 1 + 64 + 6 values, with 2 for the kind of one
+    // in mode 0; a release with 1 + 1 + 8 + 2 + 64 + 1. By nine places.
+    assert_eq!(counted, 9 * (6 * 81 + 1 + 77));
+}
+
+#[test]
+fn every_kind_with_every_mode() {
+    // Bytes that should be 0: the mode of a release, class and mode of the kinds 2 to 9. The
+    // well-formed of those count for nothing, at class 0 neither.
+    for kind in 0..=255u8 {
+        for class in [0, 1, 63, 64, 255u8] {
+            for mode in 0..=255u8 {
+                let r = [0x4C, 0x4B, 4, kind, class, mode];
+                let mut wanted = [0; 64];
+                if kind == 0 && mode <= 5 && class <= 63 {
+                    wanted[usize::from(class)] = 1;
+                }
+                if kind == 1 && mode == 0 && class <= 63 {
+                    wanted[usize::from(class)] = -1;
+                }
+                assert_eq!(balance(&r), (0, wanted), "{r:?}");
+            }
+        }
+    }
+    let events: Vec<Rec> = (2..10)
+        .flat_map(|kind| (0..8).map(move |core| event(core, kind)))
+        .collect();
+    assert_balance(&events.concat(), &[]);
+    assert_balance(&over_and_over(&events, 60_000), &[]);
+}
+
+#[test]
+fn a_malformed_record_is_skipped() {
+    // Six bytes that refusal 3 catches are no 14, and what stands around them counts.
+    let malformed: [Rec; 12] = [
+        [0; 6],
+        [0xFF; 6],
+        [0x4B, 0x4C, 0, 0, 9, 0],
+        [0x4C, 0x48, 1, 8, 0, 0], // a header
+        [0x4C, 0x48, 0, 0, 9, 0],
+        [0x4C, 0x4B, 8, 0, 9, 0],
+        [0x4C, 0x4B, 0, 10, 0, 0],
+        [0x4C, 0x4B, 0, 0, 9, 6],
+        [0x4C, 0x4B, 0, 1, 9, 1],
+        [0x4C, 0x4B, 0, 1, 9, 3],
+        [0x4C, 0x4B, 0, 2, 9, 0],
+        [0x4C, 0x4B, 0, 9, 0, 2],
+    ];
+    let (t, r) = (take(0, 9, E), release(0, 8));
+    for m in malformed {
+        Bench::new(64).refused(&m, 3);
+        assert_balance(&m, &[]);
+        assert_balance(&[m, t, r].concat(), &[(8, -1), (9, 1)]);
+        assert_balance(&[t, m, r].concat(), &[(8, -1), (9, 1)]);
+        assert_balance(&[t, r, m].concat(), &[(8, -1), (9, 1)]);
+        assert_balance(&[m, t, m, m, t, m].concat(), &[(9, 2)]);
+        // They count towards the 10,000 all the same.
+        assert_balance(&over_and_over(&[m, t], 60_000), &[(9, 5_000)]);
+        assert_14(&over_and_over(&[m, t], 60_006));
+        assert_14(&[m, t, m].concat()[..17]);
+    }
+    assert_balance(&malformed.concat(), &[]);
+}
+
+#[test]
+fn records_lie_at_every_sixth_byte() {
+    // Marks elsewhere are not looked for.
+    for shift in 1..6 {
+        let mut piece = vec![0; shift];
+        piece.extend([take(0, 9, E), take(0, 9, E)].concat());
+        assert_14(&piece);
+        piece.resize(18, 0);
+        assert_balance(&piece, &[]);
+        // Nor is a record that lost bytes mended by those after it.
+        let torn = [&take(0, 9, E)[..shift], &release(0, 3), &release(0, 4)].concat();
+        assert_14(&torn);
+        let torn = [&torn[..], &release(0, 5)[shift..]].concat();
+        assert_eq!(torn.len(), 18);
+        assert_balance(&torn, &[]);
+    }
+}
+
+#[test]
+fn a_piece_has_no_header() {
+    // A log's header makes no whole number of records; where it does with what follows, it
+    // is the beginning of a record like any other.
+    for k in [1, 8, 64] {
+        assert_14(&log(k, &[]));
+        assert_14(&log(k, &p2_records()));
+        let mut padded = log(k, &p2_records());
+        padded.extend([0, 0]);
+        assert_balance(&padded, &[]);
+    }
+    // And it gives no K: the class may be any.
+    let headed = [[0x4C, 0x48, 1, 2, 0, 0], take(0, 63, E), release(0, 2)];
+    assert_balance(&headed.concat(), &[(2, -1), (63, 1)]);
+}
+
+#[test]
+fn what_no_desk_accepts_counts() {
+    // "whether or not a desk would accept them". Refused with 5: never taken, or in another
+    // core's frame.
+    let b = Bench::new(64).clean(&[take(0, 9, R)]);
+    b.refused(&release(0, 3), 5);
+    b.refused(&release(1, 9), 5);
+    assert_balance(&[take(0, 9, R), release(0, 3)].concat(), &[(3, -1), (9, 1)]);
+    assert_balance(&[take(0, 9, R), release(1, 9)].concat(), &[]);
+    // With 8: the twenty-first in one frame, and what stands after it.
+    let full = Bench::new(1).clean(&[take(0, 0, R); 20]);
+    full.refused(&take(0, 0, R), 8);
+    assert_balance(&[take(0, 0, R); 21].concat(), &[(0, 21)]);
+    assert_balance(&[take(0, 0, R); 49].concat(), &[(0, 49)]);
+    // With 6, and with 7: an exit that isn't allowed, and takes after it.
+    let piece = [event(0, EXIT_HARD), take(0, 1, E), event(0, ENTER_HARD)];
+    Bench::new(2).refused(&piece[0], 6);
+    assert_balance(&piece.concat(), &[(1, 1)]);
+    let piece = [event(0, ENTER_HARD), take(0, 1, E), event(0, EXIT_HARD)];
+    Bench::new(2).clean(&piece[..2]).refused(&piece[2], 7);
+    let piece = [&piece[..], &[release(0, 1), release(0, 1)]].concat();
+    assert_balance(&piece.concat(), &[(1, -1)]);
+    // With 4 where K is less than 64.
+    Bench::new(8).refused(&take(0, 8, E), 4);
+    Bench::new(63).refused(&take(0, 63, E), 4);
+    assert_balance(
+        &[take(0, 8, E), take(0, 63, E)].concat(),
+        &[(8, 1), (63, 1)],
+    );
+    // With 10: after the fault, and the fault's own record.
+    let mut piece = p2_records().to_vec();
+    assert_balance(&piece[..5].concat(), &[(2, 1)]);
+    piece.extend([take(1, 5, E), release(1, 1), release(1, 1)]);
+    assert_balance(&piece.concat(), &[(1, -1), (2, 1), (5, 1)]);
+    // One class taken and released in different frames, cores and modes is one class.
+    let piece = [
+        take(0, 4, E),
+        event(0, ENTER_SOFT),
+        take(0, 4, TR),
+        event(0, ENTER_HARD),
+        take(0, 4, R),
+        release(3, 4),
+    ];
+    assert_balance(&piece.concat(), &[(4, 2)]);
+}
+
+#[test]
+fn takes_of_all_modes_count() {
+    for (mode, name) in MODES
+        .into_iter()
+        .zip(["E", "r", "R", "try E", "try r", "try R"])
+    {
+        let piece = [take(0, 6, mode), take(7, 6, mode), release(0, 6)].concat();
+        assert_eq!(balance(&piece), (0, balances(&[(6, 1)])), "{name}");
+        assert_balance(&take(0, 6, mode), &[(6, 1)]);
+    }
+    let each = MODES.map(|mode| take(0, mode, mode)).concat();
+    assert_balance(&each, &[(0, 1), (1, 1), (2, 1), (3, 1), (4, 1), (5, 1)]);
+    assert_balance(&take(0, 6, 6), &[]);
+}
+
+/// A record for a piece: any core, classes on both sides of 64, and about one in five
+/// spoilt in a byte or all.
+fn piece_record(dice: &mut Dice) -> Rec {
+    let core = dice.under(8) as u8;
+    let class = match dice.under(8) {
+        0 => dice.under(256) as u8,
+        1 => [0, 63, 64, 255][dice.under(4) as usize],
+        2..=4 => dice.under(5) as u8,
+        _ => dice.under(64) as u8,
+    };
+    let mut r = match dice.under(8) {
+        0..=3 => take(core, class, dice.under(6) as u8),
+        4..=6 => release(core, class),
+        _ => event(core, 2 + dice.under(8) as u8),
+    };
+    match dice.under(15) {
+        0 => r[dice.under(6) as usize] ^= 1 << dice.under(8),
+        1 => r[dice.under(6) as usize] = dice.next() as u8,
+        2 => r = [0; 6].map(|_: u8| dice.next() as u8),
+        _ => {}
+    }
+    r
+}
+
+fn random_piece(dice: &mut Dice, records: u64) -> Vec<u8> {
+    (0..records).flat_map(|_| piece_record(dice)).collect()
+}
+
+/// The balances a second way: the records are sorted, and each take and release that
+/// refusal 3 passes, of all there are, is looked up: how often it stands there.
+fn by_listing(piece: &[u8]) -> [i32; 64] {
+    let mut sorted: Vec<&[u8]> = piece.chunks(6).collect();
+    sorted.sort();
+    let times = |r: Rec| {
+        let before = sorted.partition_point(|s| *s < &r[..]);
+        sorted[before..].partition_point(|s| *s == &r[..]) as i32
+    };
+    let mut all = [0; 64];
+    for class in 0..64u8 {
+        for core in 0..8 {
+            for mode in MODES {
+                all[usize::from(class)] += times(take(core, class, mode));
+            }
+            all[usize::from(class)] -= times(release(core, class));
+        }
+    }
+    all
+}
+
+#[test]
+fn random_pieces_a_second_way() {
+    let mut dice = Dice(0xBA1A_4CE0_FA9E_CE17);
+    let (mut below, mut above) = (0, 0);
+    for round in 0..800u64 {
+        // One in four up to the limit, some at it.
+        let records = match round % 8 {
+            0 => dice.under(10_001),
+            4 => 10_000 - dice.under(2),
+            _ => dice.under(300),
+        };
+        let piece = random_piece(&mut dice, records);
+        let wanted = by_listing(&piece);
+        assert_eq!(balance(&piece), (0, wanted));
+        let these: Vec<(usize, i32)> = (0..64)
+            .map(|class| (class, wanted[class]))
+            .filter(|this| this.1 != 0)
+            .collect();
+        assert_eq!(balance_text(&piece), lines(&these));
+        below += these.iter().filter(|this| this.1 < 0).count();
+        above += these.iter().filter(|this| this.1 > 0).count();
+        // One byte less or more, and a record more than the limit.
+        if !piece.is_empty() {
+            assert_14(&piece[1..]);
+        }
+        assert_14(&[&piece[..], &[0x4C]].concat());
+        if records == 10_000 {
+            assert_14(&[&piece[..], &piece_record(&mut dice)].concat());
+        }
+    }
+    assert!(
+        below > 1_000 && above > 1_000,
+        "{below} below 0, {above} above"
+    );
+    // Bytes in no order at all, of which hardly any are records.
+    for _ in 0..200 {
+        let length = dice.under(60_013) as usize;
+        let piece: Vec<u8> = (0..length).map(|_| dice.next() as u8).collect();
+        if (0..=60_000).step_by(6).any(|whole| whole == length) {
+            assert_eq!(balance(&piece), (0, by_listing(&piece)));
+        } else {
+            assert_14(&piece);
+        }
+    }
+}
+
+#[test]
+fn refusal_3_of_the_step_decides() {
+    // "over the records that refusal 3 passes": those to which the step of an open desk
+    // gives any answer but 3. By a map from class to balance.
+    let mut dice = Dice(0x3BA1_A4CE_5EED_0003);
+    let b = Bench::new(1);
+    let (mut passed, mut caught) = (0, 0);
+    for _ in 0..100 {
+        let records = dice.under(500);
+        let piece = random_piece(&mut dice, records);
+        let mut by_class = std::collections::BTreeMap::new();
+        for r in piece.chunks(6) {
+            if b.clone().step(r) == 3 {
+                caught += 1;
+                continue;
+            }
+            passed += 1;
+            if r[3] <= 1 && r[4] < 64 {
+                *by_class.entry(usize::from(r[4])).or_insert(0) += 1 - 2 * i32::from(r[3]);
+            }
+        }
+        by_class.retain(|_, balance| *balance != 0);
+        let these: Vec<(usize, i32)> = by_class.into_iter().collect();
+        assert_balance(&piece, &these);
+    }
+    assert!(
+        passed > 10_000 && caught > 1_000,
+        "{passed} passed, {caught} caught"
+    );
+}
+
+#[test]
+fn a_clean_piece_leaves_its_balances_held() {
+    // Where a fresh desk accepts every record, the balance of a class is how many holds of
+    // it stand, in all frames.
+    let mut dice = Dice(0x401D_5BA1_A4CE_0001);
+    for k in [1, 3, 8, 64] {
+        let mut b = Bench::new(k as usize);
+        let mut piece = Vec::new();
+        for _ in 0..3_000 {
+            let mut r = random_record(&mut dice, k, &[R, R, TRR]);
+            r[2] = dice.under(8) as u8;
+            // Recursive reads only, so that no closed strong path arises.
+            if (r[3] == TAKE && r[5] % 3 != R) || b.step(&r) != 0 {
+                continue;
+            }
+            piece.extend(r);
+            if piece.len() % 60 == 0 {
+                let mut standing = [0; 64];
+                for (at, holds) in b.desk[HOLDS..ORIGINS].chunks(20).enumerate() {
+                    for hold in &holds[..usize::from(b.desk[DEPTHS + at])] {
+                        standing[usize::from(hold % 64)] += 1;
+                    }
+                }
+                assert_eq!(balance(&piece), (0, standing));
+            }
+        }
+        assert!(piece.len() > 3_000, "{} bytes", piece.len());
+    }
+}
+
+#[test]
+fn joined_pieces_add_their_balances() {
+    // "Two pieces that are not refused, joined within the limit, add their balances."
+    let mut dice = Dice(0xADD5_0BA1_A4CE_5EED);
+    let sum = |a: [i32; 64], b: [i32; 64]| std::array::from_fn(|class| a[class] + b[class]);
+    let mut differ = 0;
+    for round in 0..60u64 {
+        let records = match round % 4 {
+            0 => 10_000,
+            1 => dice.under(10_001),
+            _ => dice.under(50),
+        };
+        let piece = random_piece(&mut dice, records);
+        let (answer, whole) = balance(&piece);
+        assert_eq!(answer, 0);
+        let mut cuts = vec![
+            0,
+            records,
+            records / 2,
+            records.min(1),
+            records.saturating_sub(1),
+        ];
+        cuts.extend((0..20).map(|_| dice.under(records + 1)));
+        for cut in cuts {
+            let (a, b) = piece.split_at(6 * cut as usize);
+            let ((answer_a, a_only), (answer_b, b_only)) = (balance(a), balance(b));
+            assert_eq!((answer_a, answer_b), (0, 0));
+            assert_eq!(sum(a_only, b_only), whole);
+            // In the other order too.
+            assert_eq!(balance(&[b, a].concat()), (0, whole));
+            differ += usize::from(a_only != whole && b_only != whole);
+            // Three pieces alike.
+            let (b, c) = b.split_at(6 * dice.under(b.len() as u64 / 6 + 1) as usize);
+            assert_eq!(sum(a_only, sum(balance(b).1, balance(c).1)), whole);
+        }
+        // Cut within a record, both are refused, though the whole isn't.
+        if records > 0 {
+            let at = 6 * dice.under(records) as usize + 1 + dice.under(5) as usize;
+            assert_14(&piece[..at]);
+            assert_14(&piece[at..]);
+        }
+        // Joined over the limit: refused, though neither part is.
+        if records == 10_000 {
+            assert_14(&[&piece[..], &piece[..6]].concat());
+            assert_14(&[&piece[..], &piece].concat());
+        }
+    }
+    assert!(differ > 500, "{differ} splits with something in both parts");
+}
+
+/// Gives these bytes over and over, `most` at a time, up to `limit` of them; then it ends
+/// or fails. Counts what it gave.
+struct Hose<'a> {
+    bytes: &'a [u8],
+    most: usize,
+    limit: usize,
+    fails: Option<ErrorKind>,
+    given: usize,
+}
+impl Read for Hose<'_> {
+    fn read(&mut self, buffer: &mut [u8]) -> std::io::Result<usize> {
+        let n = buffer.len().min(self.most).min(self.limit - self.given);
+        if n == 0 && !buffer.is_empty() {
+            return self.fails.map_or(Ok(0), |kind| Err(kind.into()));
+        }
+        for byte in &mut buffer[..n] {
+            *byte = self.bytes[self.given % self.bytes.len()];
+            self.given += 1;
+        }
+        Ok(n)
+    }
+}
+
+const AT_A_TIME: [usize; 11] = [
+    1,
+    5,
+    6,
+    7,
+    4_096,
+    8_192,
+    30_000,
+    59_999,
+    60_000,
+    60_001,
+    usize::MAX,
+];
+
+#[test]
+fn a_piece_read_bit_by_bit() {
+    // Per three records, one take of 5 left, a release of 9, and one that is skipped.
+    let bytes = [take(0, 5, E), release(1, 9), [0; 6]].concat();
+    for most in AT_A_TIME {
+        let text = |limit| {
+            let (fails, given) = (None, 0);
+            let mut hose = Hose {
+                bytes: &bytes,
+                most,
+                limit,
+                fails,
+                given,
+            };
+            let mut out = Vec::new();
+            run_balance(&mut hose, &mut out).unwrap();
+            (String::from_utf8(out).unwrap(), hose.given)
+        };
+        for (limit, wanted) in [
+            (0, ""),
+            (6, "5 1\n"),
+            (12, "5 1\n9 -1\n"),
+            (18, "5 1\n9 -1\n"),
+            (24, "5 2\n9 -1\n"),
+            (59_988, "5 3333\n9 -3333\n"),
+            (59_994, "5 3333\n9 -3333\n"),
+            (60_000, "5 3334\n9 -3333\n"),
+        ] {
+            assert_eq!(text(limit), (wanted.to_string(), limit));
+        }
+        for limit in (1..6)
+            .chain(7..12)
+            .chain([13, 59_989, 59_993, 59_995, 59_999])
+        {
+            assert_eq!(text(limit), ("refused 14\n".to_string(), limit));
+        }
+        // No more than the one byte that tells; the last has no end.
+        for limit in [
+            60_001,
+            60_002,
+            60_005,
+            60_006,
+            60_007,
+            120_000,
+            1 << 40,
+            usize::MAX,
+        ] {
+            assert_eq!(text(limit), ("refused 14\n".to_string(), 60_001));
+        }
+    }
+    // With interruptions.
+    let piece: Vec<u8> = bytes.iter().copied().cycle().take(60_000).collect();
+    for (piece, wanted) in [
+        (&piece[..], "5 3334\n9 -3333\n"),
+        (&piece[..12], "5 1\n9 -1\n"),
+        (&piece[..59_999], "refused 14\n"),
+        (&piece[..0], ""),
+    ] {
+        let mut out = Vec::new();
+        run_balance(&mut Drip(piece, false), &mut out).unwrap();
+        assert_eq!(out, wanted.as_bytes());
+    }
+}
+
+#[test]
+fn an_input_error_is_no_answer() {
+    let bytes = [take(0, 5, E), release(1, 9), [0; 6]].concat();
+    for kind in [
+        ErrorKind::Other,
+        ErrorKind::UnexpectedEof,
+        ErrorKind::BrokenPipe,
+        ErrorKind::WouldBlock,
+    ] {
+        for most in AT_A_TIME {
+            let run = |limit| {
+                let (fails, given) = (Some(kind), 0);
+                let mut hose = Hose {
+                    bytes: &bytes,
+                    most,
+                    limit,
+                    fails,
+                    given,
+                };
+                let mut out = Vec::new();
+                let result = run_balance(&mut hose, &mut out);
+                (
+                    result.map_err(|e| e.kind()),
+                    String::from_utf8(out).unwrap(),
+                )
+            };
+            // Where a piece could end, where it couldn't, and where it is full: nothing is
+            // written.
+            for limit in [0, 1, 5, 6, 7, 12, 18, 59_994, 59_999, 60_000] {
+                assert_eq!(run(limit), (Err(kind), String::new()), "{limit}");
+            }
+            // An error after the byte that tells isn't met.
+            for limit in [60_001, 60_006] {
+                assert_eq!(run(limit), (Ok(()), "refused 14\n".to_string()));
+            }
+        }
+    }
+}
+
+#[test]
+fn an_output_error_is_an_error() {
+    // Room for all of the text, or for a byte less.
+    let two = [take(0, 5, E), release(0, 63)].concat();
+    for (piece, wanted) in [(&two[..], "5 1\n63 -1\n"), (&two[..7], "refused 14\n")] {
+        for short in [0, 1, 7] {
+            let mut room = vec![0; wanted.len() - short];
+            let result = run_balance(&mut &piece[..], &mut &mut room[..]);
+            assert_eq!(result.is_ok(), short == 0);
+            assert_eq!(room, wanted.as_bytes()[..room.len()]);
+        }
+        // What is written is also sent on.
+        let mut out = std::io::BufWriter::new(Vec::new());
+        run_balance(&mut &piece[..], &mut out).unwrap();
+        assert_eq!(out.get_ref(), wanted.as_bytes());
+    }
+    run_balance(&mut &[][..], &mut &mut [][..]).unwrap();
+}
+
+#[test]
+fn the_first_argument() {
+    let text = |word: Option<&str>, input: &[u8]| {
+        let mut out = Vec::new();
+        run(word.map(OsStr::new), &mut &input[..], &mut out).unwrap();
+        String::from_utf8(out).unwrap()
+    };
+    let (piece, p2) = (p2_records().concat(), log(3, &p2_records()));
+    assert_eq!(text(Some("balance"), &piece), "1 1\n2 1\n");
+    assert_eq!(text(Some("balance"), &p2), "refused 14\n");
+    assert_eq!(text(Some("balance"), &[]), "");
+    // Without it, and with anything else, a log is judged.
+    for word in [
+        None,
+        Some(""),
+        Some("Balance"),
+        Some("balances"),
+        Some("balanc"),
+        Some("-"),
+    ] {
+        assert_eq!(
+            text(word, &p2),
+            "fault at record 6\n1 EN 2 hold\n2 EN 1 hold\n"
+        );
+        assert_eq!(text(word, &piece), "refused 2 at record 0\n");
+    }
+}
+
 // ----------------------------------------------------------------------- time
 
 #[test]

@@ -21,7 +21,7 @@ def too_long(*_):
 
 
 class Runner:
-    """Runs a program; its files are made once."""
+    """Runs a program, a path or a tuple of it and its words; its files are made once."""
 
     def __init__(self, shim):
         self.shim = shim
@@ -35,7 +35,8 @@ class Runner:
         for file in (self.out, self.err):
             file.seek(0)
             file.truncate()
-        return os.posix_spawn(program, [program], environment, file_actions=actions)
+        words = program if isinstance(program, tuple) else (program,)
+        return os.posix_spawn(words[0], words, environment, file_actions=actions)
 
     def finish(self, process, during=lambda: None):
         """Ends what must be done during the run, and gives (standard output, standard error, status)."""
@@ -65,13 +66,33 @@ class Runner:
             environment["LD_PRELOAD"] = str(self.shim)
         return self.finish(self.start(program, self.input.fileno(), self.out.fileno(), environment))
 
-    def on_pipe(self, program, data, pieces):
-        """Through a pipe, the next piece when the last was read: so no read gives bytes of two pieces. The sizes begin again after the last."""
+    def start_on_pipe(self, program):
+        """The process, and where its pipe is written."""
         reading, writing = os.pipe()
         try:
-            process = self.start(program, reading, self.out.fileno(), {})
+            return self.start(program, reading, self.out.fileno(), {}), writing
         finally:
             os.close(reading)
+
+    def on_open_pipe(self, program, data, again):
+        """Through a pipe that nobody closes before the program has ended; `again`: the data comes again and again."""
+        process, writing = self.start_on_pipe(program)
+
+        def feed():
+            try:
+                while os.write(writing, data) and again:
+                    pass
+            except BrokenPipeError:
+                pass
+
+        try:
+            return self.finish(process, feed)
+        finally:
+            os.close(writing)
+
+    def on_pipe(self, program, data, pieces):
+        """Through a pipe, the next piece when the last was read: so no read gives bytes of two pieces. The sizes begin again after the last."""
+        process, writing = self.start_on_pipe(program)
 
         def feed():
             gone = select.poll()

@@ -23,3 +23,5 @@ pub const COUNT_FULL: u8 = 9;
 pub const CLOSED: u8 = 10;
 
 pub const UNFIT: u8 = 11;
+
+pub const BAD_PIECE: u8 = 14;

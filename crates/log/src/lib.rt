@@ -17,13 +17,13 @@ ghost use Rattle.log.specs.Text.{digits, kindText, sourceText, cycleText
 // Room for the longest text: a line, and a line for each entry of a cycle.
 pub const TEXT_SIZE: usize = 64 + 16 * MAX_CLASSES;
 
-fn wide(byte: u8) -> u64
+pub fn wide(byte: u8) -> u64
     ensures { λ r. ⌜ r ≡ byte ⌝ }
 {
     byte as u64
 }
 
-fn put_word(out: &mut [u8], at: usize, word: &[u8]) -> usize
+pub fn put_word(out: &mut [u8], at: usize, word: &[u8]) -> usize
     requires { ⌜ at + length (now word) ≤ length (now out) ⌝ }
     ensures { λ r. ⌜ Appended (now (out .entry)) at (now (word .entry)) (now (out .exit)) r ⌝ }
 {
@@ -44,7 +44,7 @@ fn numeral(d: u64) -> u8
 }
 
 // The decimal digits of a number.
-fn put_number(out: &mut [u8], at: usize, n: u64) -> usize
+pub fn put_number(out: &mut [u8], at: usize, n: u64) -> usize
     requires { ⌜ at + length (digits n) ≤ length (now out) ⌝ }
     ensures { λ r. ⌜ Appended (now (out .entry)) at (digits n) (now (out .exit)) r ⌝ }
 {

@@ -28,7 +28,8 @@ use Rattle.unit.proofs.Units.{one-counted}
 use Rattle.validity.proofs.Kept.{valid-start}
 use Rattle.plungerowl.specs.Logs.{classesIn, recordsIn, refuseFirst, outcomeFor, LeftBy, WholeLog, short-header, bad-header, by-rules}
 use Rattle.plungerowl.proofs.Runs.{Holds, validated-by, step-holds, OpenedAs, opened-as}
-use Rattle.plungerowl.proofs.Records.{no-records, all-loose, cut-length, first-record, same-loose, validate-on, validate-stops, validate-stopped, validate-more, validate-last}
+use Rattle.rules.proofs.Cutting.{no-records, all-loose, cut-length, first-record, same-loose}
+use Rattle.plungerowl.proofs.Records.{validate-on, validate-stops, validate-stopped, validate-more, validate-last}
 
 -- ---- The buffers over several records.
 

@@ -1,53 +1,13 @@
--- The records of a log, one after another, and what comes of them. Assumes nothing.
-use mathlib.Core.Path.{_≡_, refl, sym, ap, ap₂, subst, _∙_}
-use mathlib.Core.Bool.{Bool, true, false, cond}
+-- What comes of records, one after another. Assumes nothing.
+use mathlib.Core.Path.{_≡_, refl, sym, ap, _∙_}
 use mathlib.Core.List.{List, [], _∷_, _++_}
-use Prim.Native.Nat.{ℕ, zero, suc, _+_, _*_, _/_, _≤_, _<_}
+use Prim.Native.Nat.{ℕ, suc}
 use native.Mathlib.Decide.{ℕ-discrete}
-use native.Mathlib.Omega.{arith}
-use lib.Dec.{eqb}
-use lib.ListN.{length, take, drop, length-append, length-drop}
-use lib.Seq.{take-at, drop-at, drop-drop}
 use borrow.Author.Tests.{eq-eqb, ne-eqb}
-use Rattle.rules.specs.Record.{Bytes, recordSize}
+use Rattle.rules.specs.Record.{Bytes}
 use Rattle.rules.specs.Verdict.{number}
 use Rattle.rules.specs.Run.{State, step}
-use Rattle.rules.specs.Log.{firstRecords, recordsOf, looseOf, Outcome, validate}
-
--- ---- Cutting.
-
-pub no-records : (bytes : List ℕ) → length bytes < recordSize → recordsOf bytes ≡ []
-unfolding recordsOf
-no-records bytes h = let z : length bytes / recordSize ≡ 0 = omega arith in rw z refl
-
-pub all-loose : (bytes : List ℕ) → length bytes < recordSize → looseOf bytes ≡ bytes
-unfolding looseOf
-all-loose bytes h = let z : recordSize * (length bytes / recordSize) ≡ 0 = omega arith in rw z refl
-
-module _ (r rest : List ℕ) (e : length r ≡ recordSize) where
-  one-more-record : length (r ++ rest) / recordSize ≡ suc (length rest / recordSize)
-  one-more-record = let l = length-append r rest in omega arith
-
-  pub first-record : recordsOf (r ++ rest) ≡ r ∷ recordsOf rest
-  unfolding recordsOf
-  first-record = rw (one-more-record, take-at r rest recordSize e, drop-at r rest recordSize e) refl
-
-  pub same-loose : looseOf (r ++ rest) ≡ looseOf rest
-  unfolding looseOf
-  same-loose =
-      let q : recordSize * (length (r ++ rest) / recordSize) ≡ recordSize + recordSize * (length rest / recordSize) = let m = one-more-record in omega arith in
-      rw q (sym (drop-drop (recordSize * (length rest / recordSize)) recordSize (r ++ rest)) ∙ rw (drop-at r rest recordSize e) refl)
-
-first-length : (n : ℕ) (bytes : List ℕ) → length (firstRecords n bytes) ≡ n
-first-length zero bytes = refl
-first-length (suc n) bytes = ap suc (first-length n (drop recordSize bytes))
-
--- Every byte is in a record or loose.
-pub cut-length : (bytes : List ℕ) → recordSize * length (recordsOf bytes) + length (looseOf bytes) ≡ length bytes
-unfolding recordsOf looseOf
-cut-length bytes = rw (first-length (length bytes / recordSize) bytes, length-drop) (omega arith)
-
--- ---- Validating.
+use Rattle.rules.specs.Log.{Outcome, validate}
 
 module _ (K : ℕ) where
   pub validate-on : (s : State) (n : ℕ) (r : Bytes) (rs : List Bytes) → number (step K s r .answer) ≡ 0

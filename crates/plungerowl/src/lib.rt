@@ -1,7 +1,10 @@
 // The library's calls for a host in C: a slice is a pointer and then a length.
+use balance::balance_of;
+use layout::MAX_CLASSES;
 use opening::open;
 use question::ask;
 use validator::step;
+ghost use Rattle.balance.specs.Piece.{PieceBalanced};
 ghost use Rattle.feed.specs.Calls.{Started, FedPiece, FedEnd};
 ghost use Rattle.opening.specs.Open.{Opened};
 ghost use Rattle.question.specs.Question.{Asked};
@@ -94,4 +97,12 @@ pub extern "C" fn plungerowl_feed_end(
     let said = feed::feed_end(feed, desk, sheet, seen, slip);
     *record = said.number;
     said.answer
+}
+
+// The balance of each class over a piece of a log: its acquires less its releases.
+#[no_mangle]
+pub extern "C" fn plungerowl_balance(piece: &[u8], balances: &mut [i32; MAX_CLASSES]) -> u8
+    ensures { λ r. ⌜ PieceBalanced (now (piece .entry)) r (now (balances .exit)) ⌝ }
+{
+    balance_of(piece, balances)
 }

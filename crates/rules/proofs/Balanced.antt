@@ -17,7 +17,7 @@ use Rattle.rules.specs.Run.{State, startingFrom, situation, accept, Resu
 use Rattle.rules.specs.Balance.{acquires, releases, isAccepted, countIf, concerns, tally, standing, Balance}
 use Rattle.rules.proofs.Steps.{StepCases, was-refused, was-clean, was-fault, stepped, accepted-passes}
 
-count-add : (b : Bool) (n : ℕ) → countIf b n ≡ countIf b 0 + n
+pub count-add : (b : Bool) (n : ℕ) → countIf b n ≡ countIf b 0 + n
 count-add true n = omega arith
 count-add false n = omega arith
 

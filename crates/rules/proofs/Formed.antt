@@ -1,6 +1,6 @@
 -- A record that refusal 3 passes, field by field. Assumes nothing.
-use mathlib.Core.Path.{_≡_, refl}
-use mathlib.Core.Bool.{Bool, true, false, not, _||_, true≢false}
+use mathlib.Core.Path.{_≡_}
+use mathlib.Core.Bool.{false, not}
 use mathlib.Core.List.{List}
 use Prim.Native.Nat.{ℕ}
 use lib.Dec.{leb, eqb}
@@ -9,10 +9,7 @@ use borrow.Author.Tests.{leb-false, eqb-true, not-false}
 use Rattle.rules.specs.Limits.{coreCount, kindCount, modeCount}
 use Rattle.rules.specs.Record.{isMalformed, coreOf, kindOf, classOf, modeOf, strayByte}
 use Rattle.rules.specs.WellFormed.{WellFormed}
-
-or-none : (a b : Bool) → (a || b) ≡ false → (a ≡ false) × (b ≡ false)
-or-none true b h = absurd (true≢false h)
-or-none false b h = (refl, h)
+use Rattle.rules.proofs.Booleans.{or-none}
 
 pub well-formed : (bytes : List ℕ) → isMalformed bytes ≡ false → WellFormed bytes
 unfolding isMalformed

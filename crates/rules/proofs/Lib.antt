@@ -7,6 +7,7 @@ pub mod Steps
 pub mod MoreEvidence
 pub mod Balanced
 pub mod Journals
+pub mod Cutting
 pub mod Cycles
 pub mod Pigeons
 pub mod Rounds

@@ -1,0 +1,5 @@
+pub mod Integers
+pub mod Adding
+pub mod Counting
+pub mod Walking
+pub mod Examples
