@@ -1,17 +1,16 @@
 -- The balances of the first records of a piece. Assumes nothing.
-use mathlib.Core.Path.{_≡_, refl, sym, ap, ap₂, _∙_}
+use mathlib.Core.Path.{_≡_, sym, ap, _∙_}
 use mathlib.Core.List.{List, [], _∷_, _++_, append-nil}
-use Prim.Native.Nat.{ℕ, _+_, _*_, _-_, _%_, _<_, _≤_}
+use Prim.Native.Nat.{ℕ, _+_, _-_, _%_, _<_, _≤_}
 use native.Mathlib.Omega.{arith}
 use lib.IntN.{ℤ, pos, _+ℤ_}
-use lib.ListN.{length, getD, take, drop, length-drop}
-use lib.Seq.{ext-getD, take-add, length-take-le, take-all, take-length}
-use lib.Signed.{mag}
+use lib.ListN.{length, take, drop, length-drop}
+use lib.Seq.{ext-getD, take-add, length-take-le, take-all}
 use Rattle.rules.specs.Limits.{maxClasses}
 use Rattle.rules.specs.Record.{Bytes, recordSize}
-use Rattle.rules.specs.Log.{recordsOf, looseOf}
+use Rattle.rules.specs.Log.{recordsOf}
 use Rattle.rules.proofs.Cutting.{no-records, first-record, cut-length, joined-records}
-use Rattle.balance.specs.Piece.{mostRecords, mostBytes, balance, forEachClass, balancesOf, zeros}
+use Rattle.balance.specs.Piece.{mostBytes, balance, forEachClass, balancesOf, zeros}
 use Rattle.balance.specs.Code.{Room, counted}
 use Rattle.balance.proofs.Adding.{length-each, getD-each, balance-append, balance-small}
 

@@ -1,8 +1,6 @@
 -- `balance::is_refused` meets its contract. Assumes nothing.
 use borrow.Author.Tests.{lt-ltb, le-ltb}
-use Prim.Native.Nat.{_%_}
 use lib.ListN.{length}
-use Rattle.rules.specs.Record.{recordSize}
 use Rattle.balance.specs.Piece.{mostBytes, isRefused}
 use Rattle.balance.proofs.is_refused.Statement.{statement}
 use Rattle.balance.proofs.is_refused.Tie as tie
