@@ -1,5 +1,5 @@
 //! Links libplungerowl.a from the folder that PLUNGEROWL_LIB_DIR names, and makes the planted judges: the reference's
-//! source and lists.rs, and below them a module for each, with the items that an edit of plants.rs changes.
+//! source with lent.rs and lists.rs, and below them a module for each, with the items that an edit of plants.rs changes.
 mod plants;
 
 use std::collections::HashSet;
@@ -7,12 +7,14 @@ use std::path::{Path, PathBuf};
 
 const REFERENCE: &str = "../reference/src/lib.rs";
 const LISTS: &str = "lists.rs";
+const LENT: &str = "lent.rs";
 
 fn main() {
     println!("cargo:rerun-if-changed=build.rs");
     println!("cargo:rerun-if-changed=plants.rs");
     println!("cargo:rerun-if-changed={REFERENCE}");
     println!("cargo:rerun-if-changed={LISTS}");
+    println!("cargo:rerun-if-changed={LENT}");
     println!("cargo:rerun-if-env-changed=PLUNGEROWL_LIB_DIR");
     link();
     plant(Path::new(&std::env::var("OUT_DIR").expect("cargo sets OUT_DIR")));
@@ -127,22 +129,38 @@ fn changed(items: &[String], mut changed: Vec<bool>) -> Vec<bool> {
     changed
 }
 
-/// The calls of a judge, as in src/judges.rs.
-const CALLS: [&str; 7] = ["open", "step", "ask", "feed_start", "feed", "feed_end", "whole_log"];
+/// The text without the sections that have one of these functions.
+fn without(source: &str, functions: &[&str]) -> String {
+    let has = |section: &str| functions.iter().any(|name| section.contains(&format!("\npub fn {name}(")));
+    source.split(RULE).filter(|section| !has(section)).collect()
+}
+
+/// The calls of a judge, as in src/judges.rs, and the functions that they are.
+const CALLS: [(&str, &str); 8] = [
+    ("open", "open"),
+    ("step", "step"),
+    ("ask", "ask"),
+    ("feed_start", "feed_start"),
+    ("feed", "feed"),
+    ("feed_end", "feed_end"),
+    ("balance", "balance_into"),
+    ("whole_log", "whole_log"),
+];
 
 fn plant(out: &Path) {
     let reference = std::fs::read_to_string(REFERENCE).expect(REFERENCE);
     let reference = edit(&reference, "judges have no tests", "#[cfg(test)]\nmod tests;\n", "");
     let program = reference.find("\npub fn run_log").and_then(|at| reference[..at].rfind(RULE));
-    let reference = &reference[..program.expect("the program's section is the last")];
-    let feed = reference.rfind(RULE).expect("the feed's section is the last");
-    let whole = items(reference);
+    let lent = std::fs::read_to_string(LENT).expect(LENT);
+    let reference = format!("{}{RULE}\n\n{lent}", &reference[..program.expect("the program's section is the last")]);
+    let whole = items(&reference);
     let (mut modules, mut table, mut well) = (String::new(), String::new(), true);
     for plants::Plant { name, wrong, sights, breaks, of_clash, of_numbers, edits } in plants::PLANTS {
         assert!(!edits.is_empty(), "planted {name}: no edit");
         let source = edits.iter().fold(reference.to_string(), |source, (old, new)| edit(&source, name, old, new));
         well &= !source.is_empty();
-        let of_feed = source.starts_with(&reference[..feed]);
+        let only_of = |functions: &[&str]| without(&source, functions) == without(&reference, functions);
+        let (of_feed, of_balance) = (only_of(&["feed"]), only_of(&["balance", "balance_into"]));
         let edited = items(&source);
         let changed = changed(&edited, edited.iter().map(|item| !whole.contains(item)).collect());
         let mut text = String::from("pub use super::*;\n");
@@ -151,9 +169,9 @@ fn plant(out: &Path) {
         std::fs::write(&path, text).expect("OUT_DIR can be written");
         let module = format!("plant_{}", name.replace('-', "_"));
         modules += &format!("#[path = {path:?}]\npub mod {module};\n");
-        let calls = CALLS.map(|call| format!("{call}: judge::{module}::{call}")).join(", ");
+        let calls = CALLS.map(|(call, function)| format!("{call}: judge::{module}::{function}")).join(", ");
         table += &format!(
-            "    Plant {{ name: {name:?}, wrong: {wrong:?}, sights: &{sights:?}, breaks: {breaks:?}, of_feed: {of_feed}, of_clash: {of_clash}, of_numbers: {of_numbers}, judge: Judge {{ {calls} }} }},\n"
+            "    Plant {{ name: {name:?}, wrong: {wrong:?}, sights: &{sights:?}, breaks: {breaks:?}, of_feed: {of_feed}, of_balance: {of_balance}, of_clash: {of_clash}, of_numbers: {of_numbers}, judge: Judge {{ {calls} }} }},\n"
         );
     }
     assert!(well, "a planted judge has no place to be planted at");

@@ -7,8 +7,9 @@ pub struct Plant {
     /// Sights (see src/sights.rs): the call that shows it to be wrong must be one of them, where any are named.
     pub sights: &'static [&'static str],
     /// The part of demand 3's claim (see src/claim.rs) or of the feed's promise (see src/feeds.rs), the least cycle, the
-    /// first-seen numbers, or what the records alone draw (see src/run.rs), that it breaks while it stands in the place of every judge, so that no two of
-    /// them differ; None if it is only tried in the library's place.
+    /// first-seen numbers, what the records alone draw (see src/run.rs), or what is said of balances (see src/balances.rs), that
+    /// it breaks while it stands in the place of every judge, so that no two of them differ; None if it is only tried in the
+    /// library's place.
     pub breaks: Option<&'static str>,
     /// Whether it is wrong about clashes (see src/clashes.rs), and the cases with clashes alone are to show it.
     pub of_clash: bool,
@@ -392,6 +393,68 @@ const SET_WORDS_SHORT: (&str, &str) = (
         *byte = new;
     }",
 );
+
+/// Where a piece is refused, where its records are taken, where they count, where balances are made, and where they are
+/// written.
+const LENGTHS: &str = "    if piece.len() > PIECE || piece.len() % RECORD != 0 {";
+const REFUSAL: &str = "        return (14, [0; 64]);";
+const PASSED: &str = "    let passed = piece.chunks_exact(RECORD).filter_map(read_record);";
+const TAKEN: &str = "            TAKE => takes[usize::from(class)] += 1,";
+const RELEASED: &str = "            RELEASE => releases[usize::from(class)] += 1,";
+const BALANCED: &str = "takes[class] - releases[class]";
+const COUNTED_ALL: &str = "    (0, balances)";
+const WRITTEN: &str = "    *balances = numbers;";
+
+/// What is said of balances.
+const ADD: &str = "balances add over a split";
+const AS_HELD: &str = "balances are the locks held";
+const AS_COUNTED: &str = "balances as counted";
+
+const OVER_10000: [&str; 3] =
+    ["piece of 10,001 records", "piece of more than 10,001 records", "long piece whose length is whole in 16 bits"];
+const TRIES_COUNT: [&str; 3] =
+    ["acquire of mode 3 that counts", "acquire of mode 4 that counts", "acquire of mode 5 that counts"];
+const OVER_MODE: [&str; 2] = ["malformed by mode 6 alone", "malformed by a mode over 6 alone"];
+const RELEASE_MODE: [&str; 2] =
+    ["malformed by a release's mode up to 5 alone", "malformed by a release's mode over 5 alone"];
+const OVER_CORE: [&str; 2] = ["malformed by core 8 alone", "malformed by a core over 8 alone"];
+const OVER_63: [&str; 4] =
+    ["class 64 in a piece", "class 65 to 127 in a piece", "class 128 to 254 in a piece", "class 255 in a piece"];
+
+/// The lengths that are refused.
+macro_rules! refusing {
+    ($lengths:literal) => {
+        &[(LENGTHS, concat!("    if ", $lengths, " {"))]
+    };
+}
+
+/// What passes of six bytes.
+macro_rules! passing {
+    ($six:literal) => {
+        &[(PASSED, concat!("    let passed = piece.chunks_exact(RECORD).filter_map(|six| ", $six, ");"))]
+    };
+}
+
+/// The records that count of those that there are.
+macro_rules! taking {
+    ($records:literal) => {
+        &[(PASSED, concat!("    let passed = ", $records, ".filter_map(read_record);"))]
+    };
+}
+
+/// What comes out of the takes and releases of a class.
+macro_rules! balanced {
+    ($balance:literal) => {
+        &[(BALANCED, $balance)]
+    };
+}
+
+/// What is written of the numbers.
+macro_rules! written {
+    ($how:literal) => {
+        &[(WRITTEN, $how)]
+    };
+}
 
 pub const PLANTS: &[Plant] = &[
     // What a record draws.
@@ -2606,4 +2669,592 @@ static REFUSED: std::sync::atomic::AtomicU32 = std::sync::atomic::AtomicU32::new
         &["start over a used feed"],
         plant("start-number", "a start leaves the number", &[("\n    feed[..FEED].fill(0);\n    0\n", "\n    feed[..NUMBER].fill(0);\n    0\n")]),
     ),
+    // The balances of a piece: its length.
+    shown(
+        &["piece of 10,000 records"],
+        plant("piece-9999", "a piece of 10,000 records is refused", &[("= 10_000 * RECORD;", "= 9_999 * RECORD;")]),
+    ),
+    shown(
+        &["piece of 10,001 records"],
+        plant("piece-10001", "a piece of 10,001 records is not refused", &[("= 10_000 * RECORD;", "= 10_001 * RECORD;")]),
+    ),
+    shown(
+        &["piece of 10,000 records"],
+        plant("piece-at-limit", "a piece of 60,000 bytes is refused", refusing!("piece.len() >= PIECE || piece.len() % RECORD != 0")),
+    ),
+    shown(
+        &["piece 1 to 5 bytes over 10,000 records"],
+        plant(
+            "piece-limit-in-records",
+            "up to 60,005 bytes are taken for 10,000 records",
+            refusing!("piece.len() / RECORD > 10_000 || piece.len() < PIECE && piece.len() % RECORD != 0"),
+        ),
+    ),
+    plant(
+        "piece-10000-bytes",
+        "a piece of more than 10,000 bytes is refused",
+        refusing!("piece.len() > 10_000 || piece.len() % RECORD != 0"),
+    ),
+    shown(
+        &OVER_10000,
+        plant("piece-65535", "up to 65,535 bytes pass", refusing!("piece.len() > 65_535 || piece.len() % RECORD != 0")),
+    ),
+    shown(&OVER_10000, plant("piece-no-limit", "a piece of any length passes", refusing!("piece.len() % RECORD != 0"))),
+    shown(
+        &["long piece whose length is whole in 16 bits"],
+        plant(
+            "piece-length-16-bits",
+            "the length of a piece is taken in 16 bits",
+            refusing!("piece.len() % 65_536 > PIECE || piece.len() % 65_536 % RECORD != 0"),
+        ),
+    ),
+    plant(
+        "piece-cut-off",
+        "of a longer piece the first 10,000 records are counted",
+        &[(LENGTHS, "    let piece = &piece[..piece.len().min(PIECE)];\n    if piece.len() % RECORD != 0 {")],
+    ),
+    breaks(
+        AS_COUNTED,
+        plant("piece-rest-passed", "bytes behind the last whole record are passed over", refusing!("piece.len() > PIECE")),
+    ),
+    shown(
+        &["piece 1 byte over a record"],
+        plant("piece-one-over", "one byte behind the last record is passed over", refusing!("piece.len() > PIECE || piece.len() % RECORD > 1")),
+    ),
+    shown(
+        &["piece 5 bytes over a record"],
+        plant(
+            "piece-one-short",
+            "a last record that is one byte short is passed over",
+            refusing!("piece.len() > PIECE || (piece.len() + 1) % RECORD > 1"),
+        ),
+    ),
+    shown(
+        &["piece 3 bytes over a record"],
+        plant("piece-threes", "a length that is a multiple of three passes", refusing!("piece.len() > PIECE || piece.len() % 3 != 0")),
+    ),
+    shown(
+        &["piece 2 bytes over a record", "piece 4 bytes over a record"],
+        plant("piece-twos", "an even length passes", refusing!("piece.len() > PIECE || piece.len() % 2 != 0")),
+    ),
+    shown(
+        &["piece 4 bytes over a record"],
+        plant(
+            "piece-four-skipped",
+            "four bytes before whole records are taken for a header, whatever they are",
+            &[(LENGTHS, "    let piece = &piece[if piece.len() % RECORD == HEADER { HEADER } else { 0 }..];
+    if piece.len() > PIECE || piece.len() % RECORD != 0 {")],
+        ),
+    ),
+    shown(
+        &["piece that begins with a header"],
+        plant(
+            "piece-header-skipped",
+            "a header at the beginning is skipped",
+            &[(LENGTHS, "    let piece = if piece.starts_with(&[0x4C, 0x48, 1]) { piece.get(HEADER..).unwrap_or(&[]) } else { piece };
+    if piece.len() > PIECE || piece.len() % RECORD != 0 {")],
+        ),
+    ),
+    shown(
+        &["empty piece"],
+        plant("piece-empty-14", "an empty piece is refused", refusing!("piece.is_empty() || piece.len() > PIECE || piece.len() % RECORD != 0")),
+    ),
+    plant("piece-2", "a refused piece is answered with 2", &[(REFUSAL, "        return (2, [0; 64]);")]),
+    plant(
+        "piece-rest-3",
+        "a piece that isn't a whole number of records is answered with 3",
+        &[(REFUSAL, "        return (if piece.len() > PIECE { 14 } else { 3 }, [0; 64]);")],
+    ),
+    shown(
+        &OVER_10000,
+        plant(
+            "piece-long-8",
+            "a piece of too many records is answered with 8",
+            &[(REFUSAL, "        return (if piece.len() % RECORD == 0 { 8 } else { 14 }, [0; 64]);")],
+        ),
+    ),
+    // What a refused piece reports, and what is written.
+    shown(
+        &["piece refused for its last bytes, with balances"],
+        plant(
+            "refused-whole",
+            "a piece refused for its last bytes reports the balances of its whole records",
+            &[(REFUSAL, "        let whole = piece.len() / RECORD * RECORD;
+        return (14, if piece.len() > PIECE { [0; 64] } else { balance(&piece[..whole]).1 });")],
+        ),
+    ),
+    shown(
+        &["piece refused for being long, with balances"],
+        plant(
+            "refused-first",
+            "a piece refused for its length reports the balances of the first 10,000 records",
+            &[(REFUSAL, "        let long = piece.len() > PIECE && piece.len() % RECORD == 0;
+        return (14, if long { balance(&piece[..PIECE]).1 } else { [0; 64] });")],
+        ),
+    ),
+    plant("refused-left", "a refused piece leaves the numbers", written!("    if answer == 0 {\n        *balances = numbers;\n    }")),
+    plant(
+        "refused-long-left",
+        "a piece over the limit leaves the numbers",
+        written!("    if piece.len() <= PIECE {\n        *balances = numbers;\n    }"),
+    ),
+    plant(
+        "refused-once",
+        "a refused piece writes a 0 for the first class alone",
+        written!("    if answer == 0 {\n        *balances = numbers;\n    }\n    balances[0] = numbers[0];"),
+    ),
+    plant(
+        "not-cleared",
+        "balances are added to what the numbers held",
+        written!("    for (balance, number) in balances.iter_mut().zip(numbers) {\n        *balance = balance.wrapping_add(number);\n    }"),
+    ),
+    plant(
+        "zeros-left",
+        "a balance of 0 is not written",
+        written!("    for (balance, number) in balances.iter_mut().zip(numbers) {
+        if answer != 0 || number != 0 {
+            *balance = number;
+        }
+    }"),
+    ),
+    plant("last-left", "the number of class 63 is not written", written!("    balances[..63].copy_from_slice(&numbers[..63]);")),
+    plant("first-left", "the number of class 0 is not written", written!("    balances[1..].copy_from_slice(&numbers[1..]);")),
+    plant("half-written", "the numbers of classes 32 to 63 are not written", written!("    balances[..32].copy_from_slice(&numbers[..32]);")),
+    shown(
+        &["empty piece"],
+        plant("empty-left", "an empty piece leaves the numbers", written!("    if !piece.is_empty() {\n        *balances = numbers;\n    }")),
+    ),
+    plant(
+        "remembers",
+        "the balances of the piece before are added",
+        written!("    static BEFORE: std::sync::Mutex<[i32; 64]> = std::sync::Mutex::new([0; 64]);
+    let mut before = BEFORE.lock().unwrap();
+    *balances = std::array::from_fn(|class| if answer == 0 { numbers[class].wrapping_add(before[class]) } else { 0 });
+    *before = numbers;"),
+    ),
+    // Which records count.
+    breaks(
+        AS_HELD,
+        shown(&TRIES_COUNT, plant("tries-missing", "a try does not count", passing!("read_record(six).filter(|r| r.mode < TRY)"))),
+    ),
+    shown(
+        &["acquire of mode 5 that counts"],
+        plant("mode-5-missing", "an acquire of mode 5 does not count", passing!("read_record(six).filter(|r| r.mode < LAST_MODE)")),
+    ),
+    shown(
+        &["acquire of mode 1 that counts", "acquire of mode 2 that counts", "acquire of mode 4 that counts", "acquire of mode 5 that counts"],
+        plant("reads-missing", "a read does not count", passing!("read_record(six).filter(|r| r.mode % TRY == EXCLUSIVE)")),
+    ),
+    shown(
+        &["malformed by mode 6 alone"],
+        plant(
+            "balance-mode-6",
+            "an acquire of mode 6 counts",
+            passing!("read_record(&[six[0], six[1], six[2], six[3], six[4], if six[5] == 6 { 5 } else { six[5] }]).filter(|r| r.kind != RELEASE || six[5] == 0)"),
+        ),
+    ),
+    breaks(
+        AS_COUNTED,
+        shown(
+            &OVER_MODE,
+            plant(
+                "balance-any-mode",
+                "an acquire's mode is not looked at",
+                passing!("read_record(&[six[0], six[1], six[2], six[3], six[4], if six[3] == TAKE { 0 } else { six[5] }])"),
+            ),
+        ),
+    ),
+    shown(
+        &RELEASE_MODE,
+        plant(
+            "balance-release-mode",
+            "a release's mode is not looked at",
+            passing!("read_record(&[six[0], six[1], six[2], six[3], six[4], if six[3] == RELEASE { 0 } else { six[5] }])"),
+        ),
+    ),
+    shown(
+        &["malformed by a release's mode up to 5 alone"],
+        plant(
+            "balance-release-mode-5",
+            "a release may have the modes of an acquire",
+            passing!("read_record(&[six[0], six[1], six[2], six[3], six[4], if six[3] == RELEASE && six[5] < 6 { 0 } else { six[5] }])"),
+        ),
+    ),
+    shown(
+        &["malformed by core 8 alone"],
+        plant(
+            "balance-core-8",
+            "a record of core 8 counts",
+            passing!("read_record(&[six[0], six[1], if six[2] == 8 { 7 } else { six[2] }, six[3], six[4], six[5]])"),
+        ),
+    ),
+    shown(
+        &OVER_CORE,
+        plant("balance-any-core", "the core is not looked at", passing!("read_record(&[six[0], six[1], 0, six[3], six[4], six[5]])")),
+    ),
+    shown(
+        &["record of core 7 that counts"],
+        plant("balance-core-7", "a record of core 7 does not count", passing!("read_record(six).filter(|r| r.core < 7)")),
+    ),
+    plant("balance-core-0", "records of core 0 alone count", passing!("read_record(six).filter(|r| r.core == 0)")),
+    shown(
+        &["record of core 0 that counts"],
+        plant("balance-not-core-0", "a record of core 0 does not count", passing!("read_record(six).filter(|r| r.core > 0)")),
+    ),
+    shown(
+        &["malformed by the signature's first byte alone"],
+        plant("balance-signature-4c", "the first byte is not looked at", passing!("read_record(&[0x4C, six[1], six[2], six[3], six[4], six[5]])")),
+    ),
+    shown(
+        &["malformed by the signature's second byte alone"],
+        plant("balance-signature-4b", "the second byte is not looked at", passing!("read_record(&[six[0], 0x4B, six[2], six[3], six[4], six[5]])")),
+    ),
+    shown(
+        &["kind 2 in a piece", "kind 3 in a piece", "kind 9 in a piece"],
+        plant(
+            "balance-kind-bit",
+            "of the kind its lowest bit alone counts",
+            &[("for Record { kind, class, .. } in passed {\n        match kind {", "for Record { kind, class, .. } in passed {\n        match kind % 2 {")],
+        ),
+    ),
+    shown(
+        &["kind 2 in a piece"],
+        plant("balance-kind-2", "kind 2 counts as an acquire", &[(TAKEN, "            TAKE | 2 => takes[usize::from(class)] += 1,")]),
+    ),
+    shown(
+        &["malformed by a kind over 10 alone"],
+        plant(
+            "balance-kind-4-bits",
+            "the kind is taken in four bits",
+            passing!("read_record(&[six[0], six[1], six[2], six[3] % 16, six[4], six[5]])"),
+        ),
+    ),
+    plant("releases-missing", "a release does not count", &[(RELEASED, "            RELEASE => releases[usize::from(class)] += 0,")]),
+    plant("acquires-missing", "an acquire does not count", &[(TAKEN, "            TAKE => takes[usize::from(class)] += 0,")]),
+    // Malformed records.
+    plant(
+        "malformed-14",
+        "a piece with a malformed record is refused with 14",
+        &[(
+            LENGTHS,
+            "    let well = piece.chunks_exact(RECORD).all(|six| read_record(six).is_some());
+    if !well || piece.len() > PIECE || piece.len() % RECORD != 0 {",
+        )],
+    ),
+    plant(
+        "malformed-3",
+        "a piece with a malformed record is refused with 3",
+        &[(
+            COUNTED_ALL,
+            "    if piece.chunks_exact(RECORD).any(|six| read_record(six).is_none()) {
+        return (3, [0; 64]);
+    }
+    (0, balances)",
+        )],
+    ),
+    breaks(
+        ADD,
+        shown(
+            &["record that counts behind a malformed one"],
+            plant(
+                "malformed-ends",
+                "the first malformed record ends the counting",
+                &[(PASSED, "    let passed = piece.chunks_exact(RECORD).map_while(read_record);")],
+            ),
+        ),
+    ),
+    shown(
+        &["record that counts right behind a malformed one"],
+        plant(
+            "malformed-swallows",
+            "the record behind a malformed one does not count",
+            &[(
+                PASSED,
+                "    let mut swallows = false;
+    let passed = piece.chunks_exact(RECORD).filter_map(|six| {
+        let record = read_record(six).filter(|_| !swallows);
+        swallows = read_record(six).is_none();
+        record
+    });",
+            )],
+        ),
+    ),
+    shown(
+        &["record that counts before a malformed one"],
+        plant(
+            "malformed-restarts",
+            "what stands before a malformed record does not count",
+            taking!("piece.chunks_exact(RECORD).skip(piece.chunks_exact(RECORD).rposition(|six| read_record(six).is_none()).map_or(0, |at| at + 1))"),
+        ),
+    ),
+    plant(
+        "malformed-byte-by-byte",
+        "behind a malformed record the next byte is tried",
+        &[(
+            PASSED,
+            "    let mut at = 0;
+    let passed = std::iter::from_fn(|| {
+        while at + RECORD <= piece.len() {
+            match read_record(&piece[at..at + RECORD]) {
+                None => at += 1,
+                record => {
+                    at += RECORD;
+                    return record;
+                }
+            }
+        }
+        None
+    });",
+        )],
+    ),
+    plant(
+        "form-unread",
+        "only kind and class are looked at",
+        passing!("read_record(&[0x4C, 0x4B, 0, six[3], six[4], 0])"),
+    ),
+    // Classes.
+    breaks(
+        AS_COUNTED,
+        shown(
+            &OVER_63,
+            plant(
+                "class-mask",
+                "of the class six bits count",
+                passing!("read_record(six).map(|r| Record { class: r.class % 64, ..r })"),
+            ),
+        ),
+    ),
+    shown(
+        &["class 128 to 254 in a piece"],
+        plant(
+            "class-mask-7",
+            "of the class seven bits count",
+            passing!("read_record(six).map(|r| Record { class: r.class % 128, ..r })"),
+        ),
+    ),
+    shown(
+        &OVER_63,
+        plant(
+            "class-over-at-63",
+            "a class of 64 or more counts as 63",
+            passing!("read_record(six).map(|r| Record { class: r.class.min(63), ..r })"),
+        ),
+    ),
+    shown(
+        &["class 64 in a piece"],
+        plant(
+            "class-64-at-0",
+            "class 64 counts as class 0",
+            passing!("read_record(six).map(|r| Record { class: if r.class == 64 { 0 } else { r.class }, ..r })"),
+        ),
+    ),
+    shown(
+        &["class 255 in a piece"],
+        plant(
+            "class-255-at-63",
+            "class 255 counts as class 63",
+            passing!("read_record(six).map(|r| Record { class: if r.class == 255 { 63 } else { r.class }, ..r })"),
+        ),
+    ),
+    shown(
+        &OVER_63,
+        plant(
+            "class-over-14",
+            "a piece with a class of 64 or more is refused with 14",
+            &[(
+                COUNTED_ALL,
+                "    if takes[64..].iter().chain(&releases[64..]).any(|&n| n > 0) {
+        return (14, [0; 64]);
+    }
+    (0, balances)",
+            )],
+        ),
+    ),
+    shown(
+        &OVER_63,
+        plant(
+            "class-over-ends",
+            "a class of 64 or more ends the counting",
+            &[(PASSED, "    let passed = piece.chunks_exact(RECORD).filter_map(read_record).take_while(|r| usize::from(r.class) < MAX_K);")],
+        ),
+    ),
+    shown(
+        &["class 63 in a piece"],
+        plant("class-63-missing", "class 63 counts for nothing", passing!("read_record(six).filter(|r| r.class != 63)")),
+    ),
+    shown(
+        &["class 0 in a piece"],
+        plant("class-0-missing", "class 0 counts for nothing", passing!("read_record(six).filter(|r| r.class != 0)")),
+    ),
+    plant("class-8", "a class of 8 or more counts for nothing", passing!("read_record(six).filter(|r| r.class < 8)")),
+    plant("class-32", "a class of 32 or more counts for nothing", passing!("read_record(six).filter(|r| r.class < 32)")),
+    plant("classes-backwards", "the highest class comes first", balanced!("takes[63 - class] - releases[63 - class]")),
+    plant("classes-from-1", "each number is that of the class before", balanced!("takes[(class + 63) % 64] - releases[(class + 63) % 64]")),
+    // The numbers.
+    plant("balance-sign", "acquires are taken from releases", balanced!("releases[class] - takes[class]")),
+    shown(
+        &["balance of -1", "balance that comes back from below 0", "balances below and above 0", "balance below -128"],
+        plant("balance-clamped", "a balance below 0 is 0", balanced!("i32::max(takes[class] - releases[class], 0)")),
+    ),
+    breaks(
+        ADD,
+        shown(
+            &["balance of -1", "balance that comes back from below 0", "balances below and above 0", "balance below -128"],
+            plant(
+                "balance-never-below",
+                "a release does not count where the balance is 0",
+                &[(
+                    RELEASED,
+                    "            RELEASE if takes[usize::from(class)] > releases[usize::from(class)] => releases[usize::from(class)] += 1,",
+                )],
+            ),
+        ),
+    ),
+    plant("balance-absolute", "a balance has no sign", balanced!("i32::abs(takes[class] - releases[class])")),
+    plant(
+        "balance-below-14",
+        "a piece with a balance below 0 is refused with 14",
+        &[(COUNTED_ALL, "    if balances.iter().any(|&balance: &i32| balance < 0) {\n        return (14, [0; 64]);\n    }\n    (0, balances)")],
+    ),
+    plant("balance-signum", "a balance is 1, 0 or -1", balanced!("i32::signum(takes[class] - releases[class])")),
+    plant("balance-unsigned", "a balance is a number of 16 bits without a sign", balanced!("i32::from((takes[class] - releases[class]) as u16)")),
+    shown(
+        &["balance over 127", "balance below -128"],
+        plant("balance-8-bits", "a balance is a number of 8 bits", balanced!("i32::from((takes[class] - releases[class]) as i8)")),
+    ),
+    shown(
+        &["balance over 4,095", "balance below -4,096"],
+        plant("balance-13-bits", "a balance is a number of 13 bits", balanced!("(takes[class] - releases[class]) << 19 >> 19")),
+    ),
+    plant("balance-12-bits", "a balance is a number of 12 bits", balanced!("(takes[class] - releases[class]) << 20 >> 20")),
+    shown(
+        &["balance over 8,191", "balance below -8,192"],
+        plant("balance-14-bits", "a balance is a number of 14 bits", balanced!("(takes[class] - releases[class]) << 18 >> 18")),
+    ),
+    shown(
+        &["balance over 255"],
+        plant("takes-8-bits", "acquires are counted in 8 bits", &[(TAKEN, "            TAKE => takes[usize::from(class)] = (takes[usize::from(class)] + 1) % 256,")]),
+    ),
+    shown(
+        &["balance over 127"],
+        plant("balance-127", "a balance stays at 127", balanced!("i32::min(takes[class] - releases[class], 127)")),
+    ),
+    shown(
+        &["balance below -128"],
+        plant("balance-minus-128", "a balance stays at -128", balanced!("i32::max(takes[class] - releases[class], -128)")),
+    ),
+    shown(
+        &["balance over 4,095"],
+        plant("balance-4095", "a balance stays at 4,095", balanced!("i32::min(takes[class] - releases[class], 4095)")),
+    ),
+    shown(
+        &["balance over 8,191"],
+        plant("balance-8191", "a balance stays at 8,191", balanced!("i32::min(takes[class] - releases[class], 8191)")),
+    ),
+    shown(
+        &["balance of 10,000"],
+        plant("balance-9999", "a balance stays at 9,999", balanced!("i32::min(takes[class] - releases[class], 9999)")),
+    ),
+    shown(
+        &["balance of -10,000"],
+        plant("balance-minus-9999", "a balance stays at -9,999", balanced!("i32::max(takes[class] - releases[class], -9999)")),
+    ),
+    plant("balance-20", "of a class 20 acquires count at most", &[(TAKEN, "            TAKE => takes[usize::from(class)] = i32::min(takes[usize::from(class)] + 1, DEEPEST as i32),")]),
+    // What a desk would say.
+    plant(
+        "accepted-only",
+        "what a desk of 64 classes refuses does not count",
+        &[(
+            PASSED,
+            "    let (mut desk, mut sheet, mut seen, mut slip) = ([0; DESK], [0; 4096], [0; 16_384], [0; 449]);
+    open(64, &mut desk, &mut sheet, &mut seen);
+    let passed = piece.chunks_exact(RECORD).filter_map(|six| {
+        let answer = step(&mut desk, &mut sheet, &mut seen, &mut slip, six);
+        read_record(six).filter(|_| answer < 2)
+    });",
+        )],
+    ),
+    plant(
+        "not-behind-fault",
+        "what comes behind a fault does not count",
+        &[(
+            PASSED,
+            "    let (mut desk, mut sheet, mut seen, mut slip) = ([0; DESK], [0; 4096], [0; 16_384], [0; 449]);
+    open(64, &mut desk, &mut sheet, &mut seen);
+    let passed = piece.chunks_exact(RECORD).filter_map(|six| {
+        let answer = step(&mut desk, &mut sheet, &mut seen, &mut slip, six);
+        read_record(six).filter(|_| answer != 10)
+    });",
+        )],
+    ),
+    plant(
+        "not-full",
+        "an acquire over a full frame does not count",
+        &[(
+            PASSED,
+            "    let (mut desk, mut sheet, mut seen, mut slip) = ([0; DESK], [0; 4096], [0; 16_384], [0; 449]);
+    open(64, &mut desk, &mut sheet, &mut seen);
+    let passed = piece.chunks_exact(RECORD).filter_map(|six| {
+        let answer = step(&mut desk, &mut sheet, &mut seen, &mut slip, six);
+        read_record(six).filter(|_| answer != 8)
+    });",
+        )],
+    ),
+    shown(
+        &["class acquired and released by different cores"],
+        plant(
+            "released-by-other",
+            "a release counts for nothing on a core that has not acquired the class, where another has",
+            &[(
+                PASSED,
+                "    let mut cores = [0u8; 256];
+    let passed = piece.chunks_exact(RECORD).filter_map(read_record).filter(|r| {
+        let own = 1u8 << r.core;
+        if r.kind == TAKE {
+            cores[usize::from(r.class)] |= own;
+        }
+        r.kind != RELEASE || cores[usize::from(r.class)] == 0 || cores[usize::from(r.class)] & own != 0
+    });",
+            )],
+        ),
+    ),
+    plant(
+        "not-in-handlers",
+        "what a core does in a handler does not count",
+        &[(
+            PASSED,
+            "    let mut inside = [0u8; CORES];
+    let passed = piece.chunks_exact(RECORD).filter_map(read_record).filter(|r| {
+        let inside = &mut inside[usize::from(r.core)];
+        match r.kind {
+            6 | 8 => *inside = inside.saturating_add(1),
+            EXIT_SOFT | EXIT_HARD => *inside = inside.saturating_sub(1),
+            _ => {}
+        }
+        *inside == 0
+    });",
+        )],
+    ),
+    // Records left out, or taken twice.
+    breaks(
+        ADD,
+        plant("first-missing", "the first record does not count", taking!("piece.chunks_exact(RECORD).skip(1)")),
+    ),
+    breaks(
+        ADD,
+        plant("last-missing", "the last record does not count", taking!("piece.chunks_exact(RECORD).rev().skip(1)")),
+    ),
+    shown(
+        &["piece of 10,000 records"],
+        plant("last-of-10000", "the ten-thousandth record does not count", taking!("piece.chunks_exact(RECORD).take(9_999)")),
+    ),
+    plant("first-256", "no more than 256 records count", taking!("piece.chunks_exact(RECORD).take(256)")),
+    plant("first-4096", "no more than 4,096 records count", taking!("piece.chunks_exact(RECORD).take(4096)")),
+    plant("first-buffer", "no more than 4,096 bytes are looked at", taking!("piece[..piece.len().min(4096)].chunks_exact(RECORD)")),
+    plant("buffers-of-4096", "records across 4,096 bytes are lost", taking!("piece.chunks(4096).flat_map(|buffer| buffer.chunks_exact(RECORD))")),
+    plant("every-other-buffer", "of each 8,184 bytes the first 4,092 count", taking!("piece.chunks(4092).step_by(2).flat_map(|buffer| buffer.chunks_exact(RECORD))")),
+    plant("every-other", "every other record counts", taking!("piece.chunks_exact(RECORD).step_by(2)")),
+    plant("first-twice", "the first record counts twice", taking!("piece.chunks_exact(RECORD).take(1).chain(piece.chunks_exact(RECORD))")),
+    plant("same-once", "a record that comes again at once does not count", taking!("piece.chunks_exact(RECORD).enumerate().filter(|&(at, six)| at == 0 || piece[RECORD * (at - 1)..RECORD * at] != *six).map(|(_, six)| six)")),
+    plant("bytes-low-first", "a record is read from its last byte on", passing!("read_record(&[six[5], six[4], six[3], six[2], six[1], six[0]])")),
 ];

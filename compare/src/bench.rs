@@ -3,9 +3,10 @@
 //! only if the two disagree on what they computed, or if a drawing is clean that should
 //! not be, or the other way round.
 
+use crate::balances;
 use crate::feeds;
 use crate::gen::{clean_style, try_style, Buffers, Style};
-use crate::judges::{library, Feed};
+use crate::judges::{library, Balance, Feed};
 use crate::numbers;
 use crate::rng::Rng;
 use crate::run::Rec;
@@ -238,6 +239,30 @@ fn feed_rows(k: usize, log: &[Rec], what: &str) -> bool {
     well
 }
 
+/// The balances of 10,000 records, so many times; whether the two gave the same, and what is counted.
+fn balance_rows() -> bool {
+    const TIMES: usize = 20;
+    let mut well = true;
+    for (name, piece) in balances::to_time() {
+        let mut left = [(0, [0; 64]); 2];
+        let time = |balance: Balance, left: &mut (u8, balances::Numbers)| {
+            let started = Instant::now();
+            for _ in 0..TIMES {
+                left.0 = balance(black_box(&piece), black_box(&mut left.1));
+            }
+            started.elapsed().as_secs_f64()
+        };
+        let [a, b] = &mut left;
+        let times = best(|| time(library::balance, a), || time(fast::balance, b), 60);
+        if left != [balances::counted(&piece); 2] {
+            println!("the two differ, or are wrong");
+            well = false;
+        }
+        row(&format!("balance of 10000 records, {name}"), times, TIMES);
+    }
+    well
+}
+
 fn row(name: &str, (lib, quick): (f64, f64), calls: usize) {
     let (a, b) = (lib / calls as f64, quick / calls as f64);
     println!(
@@ -282,6 +307,7 @@ pub fn run() -> bool {
             row("    the same beside plain loops", plain, n);
         }
     }
+    well &= balance_rows();
     well &= fault_rows();
     well &= clash_rows();
     for k in [8usize, 64] {

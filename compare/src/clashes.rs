@@ -344,7 +344,7 @@ const CLEAN: Option<Vec<u8>> = Some(Vec::new());
 /// class alone is a cycle this slip, if it is known.
 fn meant(s: &Sketch, slip: Option<Vec<u8>>, desk: Vec<u8>, records: &[Rec], before: &[u8]) -> Case {
     let slip = of_one(s).or(slip);
-    let meant = slip.map(|slip| Meant { answers: [before, &[u8::from(!slip.is_empty())]].concat(), slip, numbers: None });
+    let meant = slip.map(|slip| Meant { answers: [before, &[u8::from(!slip.is_empty())]].concat(), slip, ..Meant::default() });
     let calls = records.iter().map(|record| Call::Step(*record)).collect();
     let mut buffers = Buffers { desk, ..s.buffers() };
     buffers.slip.fill(7);

@@ -478,6 +478,7 @@ fn counts() -> impl Iterator<Item = Case> {
                 answers: vec![after(cut as u32 / 6), after(4), after(4)],
                 slip: if after(4) == 1 { [vec![2], entries.concat()].concat() } else { vec![0; 15] },
                 numbers: Some((count + accepted, vec![0, at(2), at(4), 0])),
+                ..Meant::default()
             };
             let mut buffers = Buffers::opened(2);
             numbers::set_count(&mut buffers.desk, count);

@@ -1,5 +1,6 @@
 //! The inputs: fixed ones (made by hand, or all of a small space) and random ones.
 
+use crate::balances;
 use crate::clashes;
 use crate::drawing::{FRAME, NEXT, X};
 use crate::fast;
@@ -900,10 +901,12 @@ const KINDS: [Kind; 11] = [
     Kind { name: "log that closes several", weight: 60, make: ties::closing_log },
 ];
 
-/// A part of the random cases: those with feeds, the others, and of the others those with clashes and those about numbers.
+/// A part of the random cases: those with feeds, those with balances, the others, and of the others those with clashes and
+/// those about numbers.
 #[derive(Clone, Copy, PartialEq, Eq)]
 pub enum Part {
     Feeds,
+    Balances,
     Others,
     Clashes,
     Numbers,
@@ -916,12 +919,13 @@ pub fn random(rng: &mut Rng, only: Option<Part>) -> Option<Case> {
         (&numbers::KINDS, Part::Numbers),
         (&clashes::KINDS, Part::Clashes),
         (&feeds::KINDS, Part::Feeds),
+        (&balances::KINDS, Part::Balances),
     ];
     let kinds = || parts.iter().flat_map(|(kinds, part)| kinds.iter().map(move |kind| (kind, *part)));
     let kind = rng.weighted(&kinds().map(|(kind, _)| kind.weight).collect::<Vec<_>>());
     let (Kind { name, make, .. }, part) = kinds().nth(kind).unwrap();
     let wanted = match only {
-        Some(Part::Others) => part != Part::Feeds,
+        Some(Part::Others) => part != Part::Feeds && part != Part::Balances,
         _ => only.is_none_or(|only| only == part),
     };
     wanted.then(|| Case { name, ..make(rng) })
@@ -1067,7 +1071,7 @@ pub fn hand_logs() -> Vec<HandLog> {
 }
 
 /// The kinds of fixed cases, and how many there are of each.
-pub const FIXED: [(&str, u64); 31] = [
+pub const FIXED: [(&str, u64); 41] = [
     (HAND_LOGS, 84),
     (HAND_DRAWINGS, 48),
     (EACH_RING, 64 * ties::RINGS_OF_EACH),
@@ -1099,6 +1103,16 @@ pub const FIXED: [(&str, u64); 31] = [
     (feeds::HAND_LOGS, 3636),
     (feeds::EACH_CUT, 39_956),
     (feeds::LONG_PIECES, 7),
+    (balances::BY_HAND, 22),
+    (balances::EACH_CLASS, 2304),
+    (balances::EACH_PLACE, 252),
+    (balances::EACH_BYTE, 16_896),
+    (balances::HEADERS, 96),
+    (balances::EACH_CUT, 1770),
+    (balances::HAND_LOGS, 84),
+    (balances::EACH_LENGTH, 612),
+    (balances::MANY, 144),
+    (balances::ALONE, 64),
 ];
 const HAND_LOGS: &str = "hand logs";
 const HAND_DRAWINGS: &str = "hand drawings";
@@ -1114,23 +1128,16 @@ const ALL_OF_2: &str = "all sheets of K = 2";
 const ALL_MARKS_OF_2: &str = "all marks of K = 2";
 
 /// The cases made by hand and those that go through all of a small space, until one is answered with false. Those with
-/// feeds come last.
+/// feeds and with balances come last.
 pub fn fixed(each: &mut dyn FnMut(Case) -> bool) {
     let mut going = true;
-    fixed_calls(&mut |case| {
-        going = each(case);
-        going
-    });
-    for fixed in [numbers::fixed, clashes::fixed] {
+    for fixed in [fixed_calls, numbers::fixed, clashes::fixed, feeds::fixed, balances::fixed] {
         if going {
             fixed(&mut |case| {
                 going = each(case);
                 going
             });
         }
-    }
-    if going {
-        feeds::fixed(each);
     }
 }
 

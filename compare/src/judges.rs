@@ -14,6 +14,8 @@ pub type FeedStart = fn(&mut [u8]) -> u8;
 /// Feed, desk, both sheets and slip, the piece, and the record number.
 pub type Feed = fn(&mut [u8], &mut [u8], &mut [u8], &mut [u8], &mut [u8], &[u8], &mut u64) -> u8;
 pub type FeedEnd = fn(&mut [u8], &mut [u8], &mut [u8], &mut [u8], &mut [u8], &mut u64) -> u8;
+/// A piece, and where the balances go.
+pub type Balance = fn(&[u8], &mut [i32; 64]) -> u8;
 /// A log in one piece, and whether it has ended; no call of the library.
 pub type WholeLog = fn(&[u8], &mut [u8], &mut [u8], &mut [u8], &mut [u8], bool) -> (u8, u64);
 
@@ -26,7 +28,13 @@ pub struct Judge {
     pub feed_start: FeedStart,
     pub feed: Feed,
     pub feed_end: FeedEnd,
+    pub balance: Balance,
     pub whole_log: WholeLog,
+}
+
+mod lent {
+    use reference::balance;
+    include!("../lent.rs");
 }
 
 pub const REFERENCE: Judge = Judge {
@@ -36,6 +44,7 @@ pub const REFERENCE: Judge = Judge {
     feed_start: reference::feed_start,
     feed: reference::feed,
     feed_end: reference::feed_end,
+    balance: lent::balance_into,
     whole_log: reference::whole_log,
 };
 pub const FAST: Judge = Judge {
@@ -45,6 +54,7 @@ pub const FAST: Judge = Judge {
     feed_start: fast::feed_start,
     feed: fast::feed,
     feed_end: fast::feed_end,
+    balance: fast::balance,
     whole_log: reference::whole_log,
 };
 
@@ -87,6 +97,7 @@ extern "C" {
         feed: *mut u8, feed_len: usize, desk: *mut u8, desk_len: usize, sheet: *mut u8, sheet_len: usize,
         seen: *mut u8, seen_len: usize, slip: *mut u8, slip_len: usize, record: *mut u64,
     ) -> u8;
+    fn plungerowl_balance(piece: *const u8, piece_len: usize, balances: *mut i32) -> u8;
 
     // From the C library that std links anyway.
     fn mmap(at: *mut u8, len: usize, prot: i32, flags: i32, fd: i32, offset: i64) -> *mut u8;
@@ -144,6 +155,10 @@ pub mod library {
             )
         }
     }
+    #[inline(never)]
+    pub fn balance(piece: &[u8], balances: &mut [i32; 64]) -> u8 {
+        unsafe { super::plungerowl_balance(piece.as_ptr(), piece.len(), balances.as_mut_ptr()) }
+    }
 }
 
 /// For the longest piece too.
@@ -171,6 +186,12 @@ impl Edge {
         let slice = unsafe { std::slice::from_raw_parts_mut(self.end.sub(bytes.len()), bytes.len()) };
         slice.copy_from_slice(bytes);
         slice
+    }
+    fn copy_numbers(&mut self, numbers: &[i32; 64]) -> &mut [i32; 64] {
+        // Likewise; the end is that of a page, so they are aligned.
+        let array = unsafe { &mut *self.end.cast::<[i32; 64]>().sub(1) };
+        *array = *numbers;
+        array
     }
 }
 
@@ -317,6 +338,23 @@ impl Subject {
                 sheet.copy_from_slice(s);
                 seen.copy_from_slice(n);
                 slip.copy_from_slice(l);
+                answer
+            }
+        }
+    }
+
+    pub fn balance(&mut self, piece: &[u8], balances: &mut [i32; 64]) -> u8 {
+        match self {
+            Subject::Planted(judge) => (judge.balance)(piece, balances),
+            Subject::Library(e) => {
+                if !e.turn() {
+                    return library::balance(piece, balances);
+                }
+                let [a, b, ..] = &mut e.edges;
+                let (p, n) = (a.copy(piece), b.copy_numbers(balances));
+                let answer = library::balance(p, n);
+                *balances = *n;
+                assert!(p == piece, "the piece was changed");
                 answer
             }
         }

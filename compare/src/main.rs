@@ -1,7 +1,8 @@
 //! compare: runs the proved library and the independent reference over many inputs and
 //! compares after every call: the answer, every byte of desk, both sheets, slip and feed
-//! with the guards around them, word and count, the record number. See HELP.
+//! with the guards around them, word and count, the record number, the balances. See HELP.
 
+mod balances;
 mod bench;
 mod claim;
 mod clashes;
@@ -47,8 +48,9 @@ compare: the library beside the reference, call by call and byte by byte
                            the promise of a log in pieces, all cycles where K is 4 or
                            less, the answers that the documents give for the hand logs,
                            the slips written down for the hand drawings, what is to come
-                           of the rings and of the cases with clashes and numbers, and
-                           the numbers that a list of records alone gives
+                           of the rings and of the cases with clashes and numbers, the
+                           numbers that a list of records alone gives, and balances that
+                           are counted here, added, and held to the locks on a desk
   --without NAME           leave out what is counted under this name
 
 Exit status: 0 no difference and every minimum met; 1 a difference, a wrong answer or a
@@ -64,6 +66,8 @@ struct Limits {
     without: Option<Need>,
     /// Of the random cases this part only.
     only: Option<Part>,
+    /// Whether of the fixed cases those with balances come first, too.
+    balances_first: bool,
 }
 
 impl Limits {
@@ -75,7 +79,16 @@ impl Limits {
 
     /// Goes through the fixed cases until one is answered with false.
     fn fixed(&self, each: &mut dyn FnMut(Case) -> bool) {
-        gen::fixed(&mut |case| self.pass(case).is_none_or(&mut *each));
+        let mut going = true;
+        let first: fn(&mut dyn FnMut(Case) -> bool) = if self.balances_first { balances::fixed } else { |_| {} };
+        for fixed in [first, gen::fixed] {
+            if going {
+                fixed(&mut |case| {
+                    going = self.pass(case).is_none_or(&mut *each);
+                    going
+                });
+            }
+        }
     }
 
     /// A random case. Each has its own seed, so that a case is made again by its number.
@@ -146,7 +159,7 @@ fn report(met: &Met, limits: &Limits) -> bool {
     println!("{} cases, {} calls compared; of the random cases:", fixed.cases + random.cases, fixed.calls + random.calls);
     for (name, answers) in [
         ("opening", &random.open), ("step", &random.step), ("question", &random.ask), ("feed start", &random.feed_start),
-        ("piece", &random.feed), ("feed end", &random.feed_end),
+        ("piece", &random.feed), ("feed end", &random.feed_end), ("balance", &random.balance),
     ] {
         let row: Vec<String> = (0..16).filter(|&i| answers[i] > 0).map(|i| format!("{i}: {}", answers[i])).collect();
         println!("{name:10} {}", row.join(", "));
@@ -161,6 +174,7 @@ fn report(met: &Met, limits: &Limits) -> bool {
     }
     let promised = feeds::PROMISE.iter().zip(random.promised).map(|(part, n)| format!("{part} {n}"));
     println!("feeds held to the promise: {}", promised.collect::<Vec<_>>().join(", "));
+    println!("pieces whose balances were added over a split {}, held to the locks on a desk {}", random.added, random.held);
     let [none, second, both] = random.pair_faults;
     println!(
         "pairs of lists ({} records in the second lists): no fault {none}, fault in the second only {second}, in both {both}; other numbers {}",
@@ -257,7 +271,8 @@ fn long_records(subject: &mut Subject) -> bool {
 fn list() {
     println!("planted judges (* also with --both):");
     for p in PLANTS {
-        println!("{} {:24} {}", if p.breaks.is_some() || p.of_clash { "*" } else { " " }, p.name, p.wrong);
+        let in_every_place = p.breaks.is_some() || p.of_clash || p.of_balance;
+        println!("{} {:24} {}", if in_every_place { "*" } else { " " }, p.name, p.wrong);
     }
     println!("counted, with the least number (in 100,000 random cases, but for the first {}):", 1 + gen::FIXED.len());
     for (need, least) in needs::all() {
@@ -312,6 +327,7 @@ fn obey(mut args: impl Iterator<Item = String>) -> Result<bool, String> {
         seed,
         without,
         only: None,
+        balances_first: plant.is_some_and(|plant| plant.of_balance),
     };
     let name = plant.map_or("the library".into(), |p| format!("planted {} ({})", p.name, p.wrong));
     println!("subject: {name}; seed {seed}");

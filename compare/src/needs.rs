@@ -1,6 +1,7 @@
 //! What a run must have met to count: so much of each, or it fails though nothing differed. And the other way round: a
 //! case without what is counted under a name, to see that the run then fails.
 
+use crate::balances;
 use crate::feeds::{self, PROMISE};
 use crate::gen::{self, Buffers};
 use crate::judges::FAST;
@@ -20,6 +21,7 @@ pub enum Asked {
     Start,
     Piece,
     End,
+    Balance,
 }
 
 /// Something that is counted.
@@ -43,9 +45,12 @@ pub enum Need {
     Shown(usize, usize),
     AskedClosed,
     AskedItself,
+    /// Balances added over a split, and held to the locks on a desk.
+    Added,
+    Held,
     Sight(usize),
 }
-use Asked::{End, Opening, Piece, Question, Start, Step};
+use Asked::{Balance, End, Opening, Piece, Question, Start, Step};
 
 const KINDS: [&str; 4] = ["ER", "EN", "SR", "SN"];
 const SOURCES: [&str; 3] = ["hold", "hard", "soft"];
@@ -53,7 +58,7 @@ const SOURCES: [&str; 3] = ["hold", "hard", "soft"];
 const SHOWN: [[u64; 3]; 4] = [[2100, 180, 84], [3300, 140, 74], [550, 32, 13], [3700, 120, 68]];
 
 /// The kinds of random cases; named here too, so that one is missed that is no longer made.
-const RANDOM: [(&str, u64); 22] = [
+const RANDOM: [(&str, u64); 32] = [
     ("log from opening", 740),
     ("deep log", 250),
     ("long log", 20),
@@ -76,6 +81,16 @@ const RANDOM: [(&str, u64); 22] = [
     ("near the last count", 350),
     ("later kind of a pair", 560),
     ("number that does not fit", 390),
+    ("well-formed piece", 100),
+    ("mostly well-formed piece", 210),
+    ("piece of one class", 100),
+    ("piece of few classes", 75),
+    ("piece of random bytes", 74),
+    ("piece with a byte changed", 72),
+    ("long piece", 280),
+    ("piece of a log", 72),
+    ("log cut at any byte", 70),
+    (balances::BESIDE_DESK, 180),
 ];
 
 /// Every need with its least number: of a fixed kind all of its cases; of the rest so many in 100,000 random cases, about
@@ -109,6 +124,7 @@ pub fn all() -> Vec<(Need, u64)> {
                 (11, 1400),
             ],
         ),
+        (Balance, &[(0, 1800), (14, 440)]),
     ] {
         all.extend(answers.iter().map(|&(answer, least)| (Need::Answer(call, answer), least)));
     }
@@ -129,6 +145,7 @@ pub fn all() -> Vec<(Need, u64)> {
         all.extend(by_source.iter().enumerate().map(|(source, &least)| (Need::Shown(kind, source), least)));
     }
     all.extend([(Need::AskedClosed, 1600), (Need::AskedItself, 1300)]);
+    all.extend([(Need::Added, 1500), (Need::Held, 270)]);
     all.extend(SIGHTS.iter().enumerate().map(|(i, sight)| (Need::Sight(i), sight.least)));
     all
 }
@@ -146,6 +163,7 @@ impl Need {
             Start => "feed start",
             Piece => "piece",
             End => "feed end",
+            Balance => "balance",
         };
         match self {
             Need::RandomCases => "random cases".into(),
@@ -162,6 +180,8 @@ impl Need {
             Need::Shown(kind, source) => format!("{} {} in a cycle", KINDS[kind], SOURCES[source]),
             Need::AskedClosed => "question on a closed desk".into(),
             Need::AskedItself => "question whose class reaches itself".into(),
+            Need::Added => balances::PARTS[0].into(),
+            Need::Held => balances::PARTS[1].into(),
             Need::Sight(i) => SIGHTS[i].name.into(),
         }
     }
@@ -178,6 +198,7 @@ impl Need {
             Need::Answer(Start, answer) => random.feed_start[usize::from(answer)],
             Need::Answer(Piece, answer) => random.feed[usize::from(answer)],
             Need::Answer(End, answer) => random.feed_end[usize::from(answer)],
+            Need::Answer(Balance, answer) => random.balance[usize::from(answer)],
             Need::FeedClause(Piece, clause) => random.clause_feed[clause],
             Need::FeedClause(_, clause) => random.clause_feed_end[clause],
             Need::Promise(part) => random.promised[part],
@@ -191,6 +212,8 @@ impl Need {
             Need::Shown(kind, source) => random.shown[kind][source],
             Need::AskedClosed => random.asked_closed,
             Need::AskedItself => random.asked_itself,
+            Need::Added => random.added,
+            Need::Held => random.held,
             Need::Sight(i) => random.sights.0[i],
         }
     }
@@ -231,6 +254,7 @@ impl Need {
             Call::FeedStart => Start,
             Call::Feed(_) => Piece,
             Call::FeedEnd => End,
+            Call::Balance(_) => Balance,
         };
         let (before, after) = (&seen.before, &seen.after);
         match self {
@@ -254,6 +278,8 @@ impl Need {
             Need::AskedItself => {
                 matches!(seen.call, Call::Ask(class) if seen.answer == 0 && seen.word >> class & 1 == 1) && before.desk[1] == 0
             }
+            Need::Added => matches!(seen.call, Call::Balance(piece) if seen.answer == 0 && piece.len() >= 12),
+            Need::Held => matches!(seen.call, Call::Balance(piece) if !piece.is_empty()) && seen.history.steps.is_some(),
             Need::Sight(i) => SIGHTS[i].met(&Look {
                 call: seen.call,
                 before: &before.desk,
@@ -271,6 +297,7 @@ impl Need {
                 shown: OnceCell::new(),
                 clashes: OnceCell::new(),
                 numbers: OnceCell::new(),
+                tally: OnceCell::new(),
             }),
             _ => false,
         }
@@ -325,6 +352,7 @@ fn play(case: &Case, keeps: impl Fn(&Seen) -> bool, chosen: Option<&[bool]>) -> 
             Call::FeedStart => (FAST.feed_start)(&mut feed),
             Call::Feed(piece) => (FAST.feed)(&mut feed, desk, sheet, seen, slip, piece, &mut record),
             Call::FeedEnd => (FAST.feed_end)(&mut feed, desk, sheet, seen, slip, &mut record),
+            Call::Balance(piece) => (FAST.balance)(piece, &mut [0; 64]),
         };
         let seen = Seen { call, before, after: now, feed: feed_before, feed_after: feed, history, answer, word };
         kept.push(keeps(&seen));
@@ -374,7 +402,7 @@ pub fn under(fixed: &Counts, random: &Counts, cases: u64) -> Vec<Under> {
 /// Answers that were given though the call has none such, and how often.
 pub fn undue(counts: &Counts) -> Vec<(Need, u64)> {
     let due = all();
-    [Opening, Step, Question, Start, Piece, End]
+    [Opening, Step, Question, Start, Piece, End, Balance]
         .into_iter()
         .flat_map(|call| (0..16).map(move |answer| Need::Answer(call, answer)))
         .filter(|need| !due.iter().any(|(d, _)| d == need))

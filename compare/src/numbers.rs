@@ -362,6 +362,7 @@ fn by_hand(each: &mut dyn FnMut(Case) -> bool) -> bool {
             answers: [&[0], &digits[..]].concat(),
             slip: if slip.is_empty() { Vec::new() } else { ties::slip(k, slip) },
             numbers: Some((accepted, pairs)),
+            ..Meant::default()
         };
         each(Case { name: BY_HAND, meant: Some(meant), ..case(Buffers::opened(k), calls) })
     })
@@ -452,7 +453,7 @@ fn each_count(each: &mut dyn FnMut(Case) -> bool) -> bool {
             pairs[pair] = before + 1;
         }
         let slip = if first == 1 { [&[1][..], &entry(0, EN, 0, before + 1)].concat() } else { vec![7; 22] };
-        let meant = Some(Meant { answers: vec![first, second], slip, numbers: Some((count, pairs)) });
+        let meant = Some(Meant { answers: vec![first, second], slip, numbers: Some((count, pairs)), ..Meant::default() });
         each(Case { name: EACH_COUNT, meant, ..case(buffers, vec![Call::Step(record), Call::Step(tick)]) })
     })
 }
@@ -533,7 +534,7 @@ fn kinds_in_turn(each: &mut dyn FnMut(Case) -> bool) -> bool {
         let mut pairs = vec![0; k * k];
         (pairs[from * k + to], pairs[to * k + from]) = (4, 12);
         let answers = [vec![0; 12], vec![1]].concat();
-        let meant = Some(Meant { answers, slip, numbers: Some((12, pairs)) });
+        let meant = Some(Meant { answers, slip, numbers: Some((12, pairs)), ..Meant::default() });
         let mut calls = vec![Call::Open(k as u64)];
         calls.extend(log.into_iter().map(Call::Step));
         each(Case { name: KINDS_IN_TURN, meant, ..case(Buffers::opened(k), calls) })

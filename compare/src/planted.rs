@@ -7,11 +7,12 @@ pub struct Plant {
     pub wrong: &'static str,
     /// The call that shows it to be wrong must be one of these sights, where any are named.
     pub sights: &'static [&'static str],
-    /// The part of demand 3's claim or of the feed's promise, the least cycle, the first-seen numbers, or what the records
-    /// alone draw, that it breaks while it stands in the place of every judge.
+    /// The part of demand 3's claim or of the feed's promise, the least cycle, the first-seen numbers, what the records
+    /// alone draw, or what is said of balances, that it breaks while it stands in the place of every judge.
     pub breaks: Option<&'static str>,
-    /// Whether nothing but its feed is wrong.
+    /// Whether nothing but its feed, or nothing but its balance, is wrong.
     pub of_feed: bool,
+    pub of_balance: bool,
     /// Whether it is wrong about clashes, and the cases with clashes are to show it.
     pub of_clash: bool,
     /// Whether it is wrong about the count or first-seen numbers, and the cases about these come first.

@@ -2,6 +2,7 @@
 //! file runs a case on subject, reference and fast judge, and compares after every
 //! call.
 
+use crate::balances;
 use crate::claim;
 use crate::drawing::{self, Drawing};
 use crate::feeds::{self, Fed, PROMISE};
@@ -53,6 +54,7 @@ pub enum Call {
     FeedStart,
     Feed(Vec<u8>),
     FeedEnd,
+    Balance(Vec<u8>),
 }
 
 impl Call {
@@ -77,17 +79,19 @@ pub struct Case {
     pub meant: Option<Meant>,
 }
 
-/// The answers, and how the slip begins then; where they are known, the count and the number of each pair.
+/// The answers, and how the slip begins then; where they are known, the count and the number of each pair, and the last
+/// balances.
 #[derive(Clone, Default)]
 pub struct Meant {
     pub answers: Vec<u8>,
     pub slip: Vec<u8>,
     pub numbers: Option<(u32, Vec<u32>)>,
+    pub balances: Option<balances::Numbers>,
 }
 
 pub struct Diff {
-    /// The judge that is wrong, the part of demand 3's claim or of the feed's promise that is broken, LEAST, NUMBERS, or
-    /// BY_RECORDS.
+    /// The judge that is wrong, the part of demand 3's claim, of the feed's promise or of what is said of balances that is
+    /// broken, LEAST, NUMBERS, or BY_RECORDS.
     pub judge: &'static str,
     pub call: usize,
     pub text: String,
@@ -116,6 +120,10 @@ pub struct Counts {
     pub feed_end: [u64; 16],
     pub clause_feed: [u64; FEED_CLAUSES.len()],
     pub clause_feed_end: [u64; FEED_CLAUSES.len()],
+    pub balance: [u64; 16],
+    /// Pieces of two records and more whose balances were added over a split, and those held to the locks on a desk.
+    pub added: u64,
+    pub held: u64,
     /// Feeds held to each part of the promise.
     pub promised: [u64; PROMISE.len()],
     /// Calls of each sight, and the sights of the last call.
@@ -329,6 +337,7 @@ impl Counts {
             shown: OnceCell::new(),
             clashes: OnceCell::new(),
             numbers: OnceCell::new(),
+            tally: OnceCell::new(),
         };
         self.last_sights = sights::of(&look);
         for (count, met) in self.sights.0.iter_mut().zip(self.last_sights.0) {
@@ -344,6 +353,8 @@ pub struct History {
     pub after_end: bool,
     /// From opening by steps: how many of them there were.
     pub steps: Option<u64>,
+    /// The answers of steps since the last opening, a bit each.
+    pub answers: u16,
 }
 
 impl History {
@@ -355,7 +366,12 @@ impl History {
             Call::Feed(_) | Call::FeedEnd => None,
             _ => self.steps,
         };
-        History { after_end: matches!(call, Call::FeedEnd) && answer == 0, steps }
+        let answers = match call {
+            Call::Open(_) => 0,
+            Call::Step(_) => self.answers | 1 << answer,
+            _ => self.answers,
+        };
+        History { after_end: matches!(call, Call::FeedEnd) && answer == 0, steps, answers }
     }
 }
 
@@ -364,12 +380,14 @@ fn full_frames(bench: &Bench) -> usize {
     bench.desk.see()[DEPTHS..MARKS].iter().filter(|&&depth| usize::from(depth) == DEEPEST).count()
 }
 
-/// What calls left: the subject's answers, subject's and reference's benches, and the last record number of a feed.
+/// What calls left: the subject's answers, subject's and reference's benches, the last record number of a feed and the last
+/// balances.
 struct Ran {
     answers: Vec<u8>,
     subject: Bench,
     reference: Bench,
     record: u64,
+    balances: balances::Numbers,
 }
 
 /// Runs the calls on the three benches.
@@ -379,6 +397,9 @@ fn run_calls(case: &Case, calls: &[&Call], judges: &mut Judges, counts: &mut Cou
     let (mut record, mut history) = (0, History::default());
     // From opening by steps, what the records alone draw.
     let mut by_records: Option<Drawing> = None;
+    // From opening by steps that were all accepted, their records.
+    let mut accepted: Option<Vec<u8>> = None;
+    let mut numbers = [0; 64];
     let fresh = Bench::of(case);
     let mut refe = fresh.clone();
     let mut quick = fresh.clone();
@@ -543,6 +564,31 @@ fn run_calls(case: &Case, calls: &[&Call], judges: &mut Judges, counts: &mut Cou
                 }
                 record = n0;
             }
+            Call::Balance(piece) => {
+                const JUNK: i32 = 0x0BAD_F00D;
+                let (mut own, mut n2) = ([JUNK; 80], balances::filling(counts.calls));
+                numbers = n2;
+                want = (other.balance)(piece, &mut numbers);
+                // Guards around the numbers and around the piece.
+                own[8..72].copy_from_slice(&n2);
+                let lent = Guarded::of(piece);
+                got = subject.balance(lent.see(), (&mut own[8..72]).try_into().expect("64 numbers"));
+                fast_got = (fast.balance)(piece, &mut n2);
+                counts.balance[usize::from(want)] += 1;
+                counts.sight(call, &before, &refe, want, clause, history);
+                if let Some(text) = balances::differ(&own[8..72], &numbers).filter(|_| got == want) {
+                    return fail("subject", text);
+                }
+                if [&own[..8], &own[72..]].concat() != [JUNK; 16] {
+                    return fail("subject", "wrote beside the balances".into());
+                }
+                if lent.all != Guarded::of(piece).all {
+                    return fail("subject", "changed the piece".into());
+                }
+                if let Some(text) = balances::differ(&n2, &numbers) {
+                    return fail("fast", text);
+                }
+            }
         }
         history = history.after(call, want);
         answers.push(got);
@@ -553,6 +599,31 @@ fn run_calls(case: &Case, calls: &[&Call], judges: &mut Judges, counts: &mut Cou
             if let Some(text) = bench.differs(&refe) {
                 return fail(name, text);
             }
+        }
+        match call {
+            Call::Open(_) if want == 0 => accepted = Some(Vec::new()),
+            Call::Step(record) if want < 2 => accepted.iter_mut().for_each(|all| all.extend_from_slice(record.slice())),
+            Call::Step(_) | Call::Feed(_) | Call::FeedEnd => accepted = None,
+            Call::Balance(piece) => {
+                if want == 0 {
+                    counts.added += u64::from(piece.len() >= 12);
+                    if let Some(text) = balances::not_added(piece, &numbers, counts.calls, subject) {
+                        return fail(balances::PARTS[0], text);
+                    }
+                }
+                if want == 0 && accepted.as_ref() == Some(piece) {
+                    counts.held += u64::from(!piece.is_empty());
+                    if let Some(text) = balances::differ(&numbers, &balances::held(refe.desk.see())) {
+                        return fail(balances::PARTS[1], text);
+                    }
+                }
+                let (answer, counted) = balances::counted(piece);
+                let text = (answer != want).then(|| format!("answer {want} instead of {answer}"));
+                if let Some(text) = text.or_else(|| balances::differ(&numbers, &counted)) {
+                    return fail(balances::PARTS[2], text);
+                }
+            }
+            _ => {}
         }
         // A feed that stood at an answer leaves the slip.
         let may_show = match call {
@@ -601,7 +672,7 @@ fn run_calls(case: &Case, calls: &[&Call], judges: &mut Judges, counts: &mut Cou
             Call::Open(_) => want == 0,
             Call::Step(_) => want < 2,
             Call::Feed(piece) => clause.is_none() && feeds::completes(before.feed.see(), piece),
-            Call::Ask(_) | Call::FeedStart | Call::FeedEnd => false,
+            Call::Ask(_) | Call::FeedStart | Call::FeedEnd | Call::Balance(_) => false,
         };
         let feed_may_change = call.of_feed() && clause.is_none() && before.feed.see().first() == Some(&0);
         if before.feed.all != refe.feed.all && !feed_may_change && !matches!(call, Call::FeedStart) {
@@ -625,7 +696,7 @@ fn run_calls(case: &Case, calls: &[&Call], judges: &mut Judges, counts: &mut Cou
             }
         }
     }
-    Ok(Ran { answers, subject: subj, reference: refe, record })
+    Ok(Ran { answers, subject: subj, reference: refe, record, balances: numbers })
 }
 
 pub fn run(case: &Case, judges: &mut Judges, counts: &mut Counts) -> Result<(), Diff> {
@@ -648,6 +719,9 @@ pub fn run(case: &Case, judges: &mut Judges, counts: &mut Counts) -> Result<(), 
                         let numbers: Vec<u32> = pairs().collect();
                         return fail(format!("count {}, numbers {numbers:?}, not {count} and {wanted:?}", numbers::count(desk)));
                     }
+                }
+                if let Some(text) = meant.balances.and_then(|wanted| balances::differ(&ran.balances, &wanted)) {
+                    return fail(text);
                 }
             }
             if let Some(fed) = Fed::of(case) {
@@ -808,7 +882,8 @@ pub fn tally(name: &'static str, counts: &mut Counts, calls_before: u64) {
     }
 }
 
-/// A smaller case that still differs: calls are left out, then bytes set to zero.
+/// A smaller case that still differs: calls are left out, then records of pieces whose balances are asked for, then bytes set
+/// to zero.
 pub fn shrink(case: &Case, judge: &'static str, judges: &mut Judges) -> Case {
     let started = std::time::Instant::now();
     let mut best = case.clone();
@@ -841,6 +916,28 @@ pub fn shrink(case: &Case, judge: &'static str, judges: &mut Judges) -> Case {
             break;
         }
         size /= 2;
+    }
+    for call in 0..best.calls.len() {
+        let length = |case: &Case| if let Call::Balance(piece) = &case.calls[call] { piece.len() } else { 0 };
+        let mut size = length(&best).next_multiple_of(6).max(6);
+        loop {
+            let mut at = 0;
+            while at < length(&best) {
+                let mut c = best.clone();
+                if let Call::Balance(piece) = &mut c.calls[call] {
+                    piece.drain(at..(at + size).min(piece.len()));
+                }
+                if fails(&c) {
+                    best = c;
+                } else {
+                    at += size;
+                }
+            }
+            if size == 6 {
+                break;
+            }
+            size = (size / 2).next_multiple_of(6);
+        }
     }
     fn buffers(case: &mut Case) -> [&mut Vec<u8>; 5] {
         let Buffers { desk, sheet, seen, slip } = &mut case.buffers;
@@ -881,6 +978,12 @@ fn hex(bytes: &[u8]) -> String {
     bytes.iter().map(|b| format!(" {b:02X}")).collect()
 }
 
+/// Six bytes a line, the same ones once with how often they come.
+fn in_runs(piece: &[u8]) -> String {
+    let same = piece.chunks(6).collect::<Vec<_>>();
+    same.chunk_by(|a, b| a == b).map(|run| format!("\n    {} x{}", run.len(), hex(run[0]))).collect()
+}
+
 pub fn describe(case: &Case) -> String {
     let mut out = format!("case \"{}\"\n", case.name);
     let Buffers { desk, sheet, seen, slip } = &case.buffers;
@@ -901,6 +1004,7 @@ pub fn describe(case: &Case) -> String {
             Call::FeedStart => "feed start".into(),
             Call::Feed(piece) => format!("feed{}", hex(piece)),
             Call::FeedEnd => "feed end".into(),
+            Call::Balance(piece) => format!("balance of {} bytes:{}", piece.len(), in_runs(piece)),
         };
         out.push_str(&format!("  {}{text}\n", if foreign { "+ " } else { "" }));
     }

@@ -1,5 +1,6 @@
 //! That the comparer can fail: by each planted judge, and by each minimum.
 
+use crate::balances;
 use crate::claim;
 use crate::clashes;
 use crate::feeds::{self, PROMISE};
@@ -17,7 +18,7 @@ use std::time::{Duration, Instant};
 
 /// Random cases of a quick run, and for a planted judge; of a run without something: the first, and of those that had it
 /// the first.
-const CASES: u64 = 2000;
+const CASES: u64 = 2400;
 const CASES_FOR_PLANT: u64 = 4000;
 const ANY_CASES: u64 = 5;
 const CASES_WITH: usize = 20;
@@ -28,10 +29,10 @@ const PAIRS: u64 = 1000;
 const SHOWN: u64 = 3;
 
 /// A seed with which so few cases meet every minimum.
-const SEED: u64 = 10;
+const SEED: u64 = 5;
 
 fn quick(without: Option<Need>) -> Limits {
-    Limits { seconds: 0, cases: CASES, seed: SEED, without, only: None }
+    Limits { seconds: 0, cases: CASES, seed: SEED, without, only: None, balances_first: false }
 }
 
 fn soon() -> Instant {
@@ -39,8 +40,8 @@ fn soon() -> Instant {
 }
 
 /// In the library's place it is caught by the fixed cases alone and by the random ones alone, at a call that is one of
-/// the sights named for it. Where only the feed is wrong, cases without one are passed over, else those with one; where it
-/// is wrong about clashes, all but those with clashes; where it is wrong about numbers, the fixed ones about these come first.
+/// the sights named for it. Where only the feed is wrong, cases without one are passed over, else those with one; likewise
+/// the balance; where it is wrong about clashes, all but those with clashes; where it is wrong about numbers, the fixed ones about these come first.
 fn caught(plant: &Plant) -> bool {
     let mut calls = Vec::new();
     for which in ["fixed", "random"] {
@@ -49,11 +50,13 @@ fn caught(plant: &Plant) -> bool {
         let mut each = |case: Case| {
             try_case(case, &mut judges, &mut counts, &mut failed);
             // A call is to show it, unless it breaks the promise where no call differs.
-            failed.take_if(|(_, diff)| PROMISE.contains(&diff.judge) && plant.breaks != Some(diff.judge));
+            let broken = |judge| PROMISE.contains(&judge) && plant.breaks != Some(judge) || judge == balances::PARTS[0];
+            failed.take_if(|(_, diff)| broken(diff.judge));
             failed.is_none()
         };
         match which {
             "fixed" if plant.of_feed => feeds::fixed(&mut each),
+            "fixed" if plant.of_balance => balances::fixed(&mut each),
             "fixed" if plant.of_clash => clashes::fixed(&mut each),
             "fixed" if plant.of_numbers => {
                 let mut going = true;
@@ -67,7 +70,12 @@ fn caught(plant: &Plant) -> bool {
             }
             "fixed" => quick(None).fixed(&mut each),
             _ => {
-                let part = if plant.of_feed { Part::Feeds } else if plant.of_clash { Part::Clashes } else { Part::Others };
+                let part = match plant {
+                    Plant { of_feed: true, .. } => Part::Feeds,
+                    Plant { of_balance: true, .. } => Part::Balances,
+                    Plant { of_clash: true, .. } => Part::Clashes,
+                    _ => Part::Others,
+                };
                 Limits { cases: CASES_FOR_PLANT, only: Some(part), ..quick(None) }.random(soon(), &mut each);
             }
         }
@@ -95,24 +103,26 @@ fn caught(plant: &Plant) -> bool {
 }
 
 /// In the place of every judge no two differ, and that part of demand 3's claim of two lists catches it, that part of the
-/// promise of a feed, the least cycle, the first-seen numbers, or what the records alone draw. The last may catch it too where
-/// another is to: what is drawn wrong has wrong numbers.
+/// promise of a feed or of what is said of balances, the least cycle, the first-seen numbers, or what the records alone draw.
+/// The last may catch it too where another is to: what is drawn wrong has wrong numbers.
 fn breaks(plant: &Plant, part: &str) -> bool {
     let mut judges = Judges::all(plant.judge);
     let (mut counts, mut failed) = (Counts::default(), None);
-    let of_feed = PROMISE.contains(&part);
-    let only = of_feed.then_some(Part::Others);
+    let (of_feed, of_balance) = (PROMISE.contains(&part), balances::PARTS.contains(&part));
+    let only = (of_feed || of_balance).then_some(Part::Others);
     let no_pairs = Limits { cases: OTHERS, only, ..quick(Some(Need::Kind(gen::PAIRS))) };
     no_pairs.random(soon(), &mut |case| {
         try_case(case, &mut judges, &mut counts, &mut failed);
         failed.take_if(|(_, diff)| diff.judge == part || diff.judge == BY_RECORDS);
         failed.is_none()
     });
+    let others = [&claim::PARTS[..], &PROMISE, &balances::PARTS].concat();
     let (mut seen, mut number) = (0, 0);
     while seen < SHOWN && number < PAIRS {
         let rng = &mut Rng::new(number);
         let case = match part {
             _ if of_feed => feeds::cut_log(rng),
+            _ if of_balance => balances::any(rng),
             LEAST => ties::on_desk(rng),
             NUMBERS if number % 2 == 0 => numbers::later_kind(rng),
             NUMBERS | BY_RECORDS => gen::log(rng),
@@ -121,9 +131,7 @@ fn breaks(plant: &Plant, part: &str) -> bool {
         number += 1;
         match run::run(&case, &mut judges, &mut counts) {
             Err(diff) if diff.judge == part => seen += 1,
-            Err(diff) if !claim::PARTS.contains(&diff.judge) && !PROMISE.contains(&diff.judge) && diff.judge != BY_RECORDS => {
-                failed = Some((case, diff));
-            }
+            Err(diff) if !others.contains(&diff.judge) && diff.judge != BY_RECORDS => failed = Some((case, diff)),
             _ => {}
         }
     }
@@ -131,6 +139,7 @@ fn breaks(plant: &Plant, part: &str) -> bool {
     let verdict = if well { "broken in" } else { "NOT CAUGHT, or not only by it:" };
     let cases = match part {
         _ if of_feed => "logs in pieces",
+        _ if of_balance => "pieces",
         LEAST => "ties",
         NUMBERS => "desks and logs",
         BY_RECORDS => "logs",
@@ -143,12 +152,17 @@ fn breaks(plant: &Plant, part: &str) -> bool {
     well
 }
 
-/// In the place of every judge, wrong about clashes: caught by what is to come of the cases with clashes.
+/// In the place of every judge, wrong about clashes or balances: caught by what is to come of the cases with these, or by
+/// what is said of balances.
 fn not_meant(plant: &Plant) -> bool {
     let mut judges = Judges::all(plant.judge);
     let (mut counts, mut failed) = (Counts { blind: true, ..Counts::default() }, None);
-    clashes::fixed(&mut |case| try_case(case, &mut judges, &mut counts, &mut failed));
-    let well = failed.as_ref().is_some_and(|(_, diff)| [LEAST, "reference"].contains(&diff.judge));
+    let fixed = if plant.of_balance { balances::fixed } else { clashes::fixed };
+    fixed(&mut |case| try_case(case, &mut judges, &mut counts, &mut failed));
+    // One that remembers an earlier piece differs from itself.
+    let of_balance = |judge| balances::PARTS.contains(&judge) || plant.of_balance && judge == "subject";
+    let caught_by = |judge| [LEAST, "reference"].contains(&judge) || of_balance(judge);
+    let well = failed.as_ref().is_some_and(|(_, diff)| caught_by(diff.judge));
     println!("{} in every place: {} in call {}", plant.name, if well { "caught" } else { "NOT CAUGHT" }, counts.calls);
     well
 }
@@ -230,10 +244,11 @@ pub fn run() -> bool {
         well &= caught(plant);
         well &= match plant.breaks {
             Some(part) => breaks(plant, part),
-            None => !plant.of_clash || not_meant(plant),
+            None => !(plant.of_clash || plant.of_balance) || not_meant(plant),
         };
     }
-    for part in claim::PARTS.into_iter().chain(PROMISE).chain([LEAST, NUMBERS, BY_RECORDS]) {
+    let parts = claim::PARTS.into_iter().chain(PROMISE).chain(balances::PARTS);
+    for part in parts.chain([LEAST, NUMBERS, BY_RECORDS]) {
         if !PLANTS.iter().any(|p| p.breaks == Some(part)) {
             println!("no planted judge breaks \"{part}\"");
             well = false;

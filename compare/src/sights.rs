@@ -1,5 +1,6 @@
 //! Sights: calls of such a sort that a wrong version of some rule would show there. A run must have met each of them.
 
+use crate::balances::{Tally, LONGEST};
 use crate::clashes;
 use crate::cycles::{Choice, Drawing, Shown};
 use crate::drawing::FRAME;
@@ -36,6 +37,8 @@ pub struct Look<'a> {
     pub clashes: OnceCell<[u64; 2]>,
     /// What is asked of all numbers before the call.
     pub numbers: OnceCell<[bool; 3]>,
+    /// What a piece has whose balances are asked for, its whole records up to the limit.
+    pub tally: OnceCell<Tally>,
 }
 
 fn is_try(desk: &[u8], frame: usize, place: usize) -> bool {
@@ -251,6 +254,31 @@ impl Look<'_> {
     }
 }
 
+/// The balances of a piece.
+impl Look<'_> {
+    fn length(&self) -> usize {
+        if let Call::Balance(piece) = self.call { piece.len() } else { 0 }
+    }
+    fn tally(&self) -> &Tally {
+        let whole = |piece: &[u8]| Tally::of(&piece[..piece.len().min(LONGEST)]);
+        self.tally.get_or_init(|| if let Call::Balance(piece) = self.call { whole(piece) } else { Tally::default() })
+    }
+    fn weighs(&self, such: impl Fn(&Tally) -> bool) -> bool {
+        self.answer == 0 && such(self.tally())
+    }
+    fn some_balance(&self, such: impl Fn(i32) -> bool) -> bool {
+        self.weighs(|t| t.any(&such))
+    }
+    /// A record malformed in this way alone.
+    fn only_by(&self, way: usize) -> bool {
+        self.weighs(|t| t.only_by[way] > 0)
+    }
+    /// After a step since opening that was answered so, and records.
+    fn desk_said(&self, answer: u8) -> bool {
+        self.history.answers >> answer & 1 == 1 && self.weighs(|t| t.counted() > 0)
+    }
+}
+
 /// A fault: the cycle that the slip shows.
 impl Look<'_> {
     fn shown(&self) -> Option<&Shown> {
@@ -345,7 +373,7 @@ impl Look<'_> {
     }
     /// A step or a question on a fit desk: K x K.
     fn fit_pairs(&self) -> Option<usize> {
-        let fit = matches!(self.call, Call::Step(_) | Call::Ask(_)) && self.answer < 10;
+        let fit = matches!(self.call, Call::Step(_) | Call::Ask(_)) && self.answer < 11;
         fit.then(|| usize::from(self.classes()) * usize::from(self.classes()))
     }
     /// The same: whether a number is the count, whether one has a greater low byte, and whether one is under 2 to the 31
@@ -464,22 +492,38 @@ pub struct Sight {
     pub name: &'static str,
     /// The least number in 100,000 random cases.
     pub least: u64,
-    /// Whether calls of the feed are such, or others.
-    of_feed: bool,
+    /// Whether calls of the feed are such, those of the balance, or others.
+    of: Of,
     met: fn(&Look) -> bool,
 }
 
+#[derive(Clone, Copy, PartialEq, Eq)]
+enum Of {
+    Feed,
+    Balance,
+    Others,
+}
+
 const fn sight(name: &'static str, least: u64, met: fn(&Look) -> bool) -> Sight {
-    Sight { name, least, of_feed: false, met }
+    Sight { name, least, of: Of::Others, met }
 }
 
 const fn at_feed(name: &'static str, least: u64, met: fn(&Look) -> bool) -> Sight {
-    Sight { name, least, of_feed: true, met }
+    Sight { name, least, of: Of::Feed, met }
+}
+
+const fn at_balance(name: &'static str, least: u64, met: fn(&Look) -> bool) -> Sight {
+    Sight { name, least, of: Of::Balance, met }
 }
 
 impl Sight {
     pub fn met(&self, look: &Look) -> bool {
-        self.of_feed == look.call.of_feed() && (self.met)(look)
+        let of = match look.call {
+            Call::Balance(_) => Of::Balance,
+            call if call.of_feed() => Of::Feed,
+            _ => Of::Others,
+        };
+        self.of == of && (self.met)(look)
     }
 }
 
@@ -922,6 +966,99 @@ pub const SIGHTS: &[Sight] = &[
     at_feed("start of a feed a byte short", 33, |l| l.start(|f| f.len() == FEED - 1)),
     at_feed("start of a longer feed", 510, |l| l.start(|f| f.len() > FEED)),
     at_feed("start over a used feed", 1100, |l| l.start(|f| f.len() >= FEED && f[..FEED].iter().any(|&b| b != 0))),
+    // Pieces and their lengths.
+    at_balance("empty piece", 130, |l| l.length() == 0),
+    at_balance("piece of one record", 190, |l| l.length() == 6),
+    at_balance("piece of 9,999 records", 49, |l| l.length() == LONGEST - 6),
+    at_balance("piece of 10,000 records", 61, |l| l.length() == LONGEST),
+    at_balance("piece of 10,001 records", 27, |l| l.length() == LONGEST + 6),
+    at_balance("piece of more than 10,001 records", 27, |l| l.length() > LONGEST + 6 && l.length() % 6 == 0),
+    at_balance("piece 1 to 5 bytes over 10,000 records", 16, |l| (1..6).contains(&l.length().wrapping_sub(LONGEST))),
+    at_balance("piece 1 to 5 bytes short of 10,000 records", 17, |l| (1..6).contains(&LONGEST.wrapping_sub(l.length()))),
+    at_balance("long piece whose length is whole in 16 bits", 33, |l| l.length() > 65_535 && l.length() % 65_536 % 6 == 0),
+    at_balance("piece 1 byte over a record", 64, |l| l.length() < LONGEST && l.length() % 6 == 1),
+    at_balance("piece 2 bytes over a record", 67, |l| l.length() < LONGEST && l.length() % 6 == 2),
+    at_balance("piece 3 bytes over a record", 63, |l| l.length() < LONGEST && l.length() % 6 == 3),
+    at_balance("piece 4 bytes over a record", 67, |l| l.length() < LONGEST && l.length() % 6 == 4),
+    at_balance("piece 5 bytes over a record", 70, |l| l.length() < LONGEST && l.length() % 6 == 5),
+    at_balance("piece refused for its last bytes, with balances", 140, |l| {
+        l.answer == 14 && l.length() < LONGEST && !l.tally().all_zero()
+    }),
+    at_balance("piece refused for being long, with balances", 54, |l| {
+        l.length() > LONGEST && l.length() % 6 == 0 && !l.tally().all_zero()
+    }),
+    at_balance("piece that begins with a header", 71, |l| {
+        matches!(l.call, Call::Balance(piece) if piece.starts_with(&[0x4C, 0x48, 1]))
+    }),
+    // What counts in them.
+    at_balance("acquire of mode 0 that counts", 760, |l| l.weighs(|t| t.acquires[0] > 0)),
+    at_balance("acquire of mode 1 that counts", 650, |l| l.weighs(|t| t.acquires[1] > 0)),
+    at_balance("acquire of mode 2 that counts", 790, |l| l.weighs(|t| t.acquires[2] > 0)),
+    at_balance("acquire of mode 3 that counts", 610, |l| l.weighs(|t| t.acquires[3] > 0)),
+    at_balance("acquire of mode 4 that counts", 590, |l| l.weighs(|t| t.acquires[4] > 0)),
+    at_balance("acquire of mode 5 that counts", 670, |l| l.weighs(|t| t.acquires[5] > 0)),
+    at_balance("release that counts", 1000, |l| l.weighs(|t| t.releases > 0)),
+    at_balance("record of core 0 that counts", 850, |l| l.weighs(|t| t.cores[0] > 0)),
+    at_balance("record of core 7 that counts", 750, |l| l.weighs(|t| t.cores[7] > 0)),
+    at_balance("class acquired and released by different cores", 220, |l| l.weighs(|t| t.other_core)),
+    at_balance("class 0 in a piece", 540, |l| l.weighs(|t| t.balances[0] != 0)),
+    at_balance("class 1 in a piece", 380, |l| l.weighs(|t| t.balances[1] != 0)),
+    at_balance("class 62 in a piece", 120, |l| l.weighs(|t| t.balances[62] != 0)),
+    at_balance("class 63 in a piece", 280, |l| l.weighs(|t| t.balances[63] != 0)),
+    at_balance("class 64 in a piece", 180, |l| l.weighs(|t| t.balances[64] != 0)),
+    at_balance("class 65 to 127 in a piece", 220, |l| l.weighs(|t| t.balances[65..128].iter().any(|&b| b != 0))),
+    at_balance("class 128 to 254 in a piece", 220, |l| l.weighs(|t| t.balances[128..255].iter().any(|&b| b != 0))),
+    at_balance("class 255 in a piece", 170, |l| l.weighs(|t| t.balances[255] != 0)),
+    at_balance("kind 2 in a piece", 470, |l| l.weighs(|t| t.events[2] > 0)),
+    at_balance("kind 3 in a piece", 470, |l| l.weighs(|t| t.events[3] > 0)),
+    at_balance("kind 9 in a piece", 400, |l| l.weighs(|t| t.events[9] > 0)),
+    at_balance("first record of a piece that counts", 850, |l| l.weighs(|t| t.first && t.records > 1)),
+    at_balance("last record of a piece that counts", 920, |l| l.weighs(|t| t.last && t.records > 1)),
+    // What is malformed, and counts for nothing.
+    at_balance("malformed by the signature's first byte alone", 150, |l| l.only_by(0)),
+    at_balance("malformed by the signature's second byte alone", 140, |l| l.only_by(1)),
+    at_balance("malformed by core 8 alone", 130, |l| l.only_by(2)),
+    at_balance("malformed by a core over 8 alone", 150, |l| l.only_by(3)),
+    at_balance("malformed by mode 6 alone", 150, |l| l.only_by(4)),
+    at_balance("malformed by a mode over 6 alone", 140, |l| l.only_by(5)),
+    at_balance("malformed by a release's mode up to 5 alone", 150, |l| l.only_by(6)),
+    at_balance("malformed by a release's mode over 5 alone", 140, |l| l.only_by(7)),
+    at_balance("malformed by kind 10 alone", 150, |l| l.only_by(8)),
+    at_balance("malformed by a kind over 10 alone", 190, |l| l.only_by(9)),
+    at_balance("malformed by an event's class alone", 170, |l| l.only_by(10)),
+    at_balance("malformed by an event's mode alone", 150, |l| l.only_by(11)),
+    at_balance("record that counts right behind a malformed one", 270, |l| l.weighs(|t| t.right_behind)),
+    at_balance("record that counts behind a malformed one", 310, |l| l.weighs(|t| t.behind)),
+    at_balance("record that counts before a malformed one", 320, |l| l.weighs(|t| t.before)),
+    at_balance("piece of malformed records alone", 170, |l| l.weighs(|t| t.records > 0 && t.malformed == t.records)),
+    // What comes out.
+    at_balance("balance of -1", 310, |l| l.some_balance(|b| b == -1)),
+    at_balance("balances below and above 0", 220, |l| l.some_balance(|b| b < 0) && l.some_balance(|b| b > 0)),
+    at_balance("balances all 0 over records that count", 36, |l| l.weighs(|t| t.counted() > 0 && t.all_zero())),
+    at_balance("balances of all 64 classes", 13, |l| l.weighs(|t| !t.any(|b| b == 0))),
+    at_balance("balance that comes back from below 0", 260, |l| {
+        l.weighs(|t| (0..64).any(|class| t.lowest[class] < 0 && t.balances[class] > t.lowest[class]))
+    }),
+    at_balance("balance over 127", 96, |l| l.some_balance(|b| b > 127)),
+    at_balance("balance below -128", 90, |l| l.some_balance(|b| b < -128)),
+    at_balance("balance over 255", 73, |l| l.some_balance(|b| b > 255)),
+    at_balance("balance over 4,095", 55, |l| l.some_balance(|b| b > 4095)),
+    at_balance("balance below -4,096", 53, |l| l.some_balance(|b| b < -4096)),
+    at_balance("balance over 8,191", 50, |l| l.some_balance(|b| b > 8191)),
+    at_balance("balance below -8,192", 47, |l| l.some_balance(|b| b < -8192)),
+    at_balance("balance of 9,999", 18, |l| l.some_balance(|b| b == 9999)),
+    at_balance("balance of -9,999", 16, |l| l.some_balance(|b| b == -9999)),
+    at_balance("balance of 10,000", 22, |l| l.some_balance(|b| b == 10_000)),
+    at_balance("balance of -10,000", 21, |l| l.some_balance(|b| b == -10_000)),
+    // What a desk said of the records.
+    at_balance("balances of records refused with 3", 51, |l| l.desk_said(3)),
+    at_balance("balances of records refused with 4", 75, |l| l.desk_said(4)),
+    at_balance("balances of records refused with 5", 32, |l| l.desk_said(5)),
+    at_balance("balances of records refused with 6", 100, |l| l.desk_said(6)),
+    at_balance("balances of records refused with 7", 24, |l| l.desk_said(7)),
+    at_balance("balances of records refused with 8", 34, |l| l.desk_said(8)),
+    at_balance("balances of records with a fault", 49, |l| l.desk_said(1)),
+    at_balance("balances of records behind a fault", 17, |l| l.desk_said(10)),
 ];
 
 /// Sights by their places.

@@ -555,7 +555,7 @@ pub fn each_ring(rng: &mut Rng, n: usize, turn: u64) -> Case {
     };
     let mut buffers = any_buffers(rng, s.k);
     s.fill(&mut buffers);
-    let meant = Some(Meant { answers: vec![1], slip: vec![n as u8], numbers: None });
+    let meant = Some(Meant { answers: vec![1], slip: vec![n as u8], ..Meant::default() });
     Case { meant, ..case(buffers, vec![Call::Step(Rec::new(rng.under(8) as u8, 3, 0, 0))]) }
 }
 
