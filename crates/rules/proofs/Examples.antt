@@ -1,5 +1,5 @@
 -- The tables of examples hold of the rules, by computation. Assumes nothing.
-use mathlib.Core.Path.{_≡_, refl, sym, ap₂, _∙_}
+use mathlib.Core.Path.{_≡_, refl, sym, ap, ap₂, fun-ext, _∙_}
 use mathlib.Core.Bool.{Bool, true, false, _&&_, false≢true}
 use mathlib.Core.List.{List, [], _∷_, map}
 use mathlib.Core.Option.{some}
@@ -16,7 +16,7 @@ use Rattle.rules.specs.KindNames.{EN}
 use Rattle.rules.specs.CycleDecision.{isCycle, leastCycle}
 use Rattle.rules.specs.Run.{State, start, answers, run, graphAt}
 use Rattle.rules.proofs.Booleans.{and-cases}
-use Rattle.rules.proofs.Quick.{quickly, quickly-same}
+use Rattle.rules.proofs.Quick.{quickly, quickly-same, quickState, quick-state}
 use Rattle.rules.proofs.FewClasses.{classesNamed, allNamed, few-answers}
 use Rattle.rules.specs.Examples.{exclusive, read, recursive, tryExclusive, lockOf, NumberCase, numberCase, numberCases, LimitCase, limitCase, limitCases, DrawnCase, drawnCase, drawnCases, MarkCase, markCase, markCases, Example, cycleCases, CycleCase, cycleCase, table, tries, example, p2, p6, allClean, endsWith, faultAt, takes, frees, does, says}
 
@@ -69,14 +69,24 @@ quick-tries = tt
 pub tries-hold : map (λ (e : Example). answers 4 start (e .log)) tries ≡ map (λ (e : Example). e .given) tries
 tries-hold = computed 4 tries quick-tries
 
+-- What holds of each row holds of the table.
+of-each : {A B : Type 0} {f g : A → B} (rows : List A) → ((e : A) → f e ≡ g e) → map f rows ≡ map g rows
+of-each {A} {B} rows h = ap (λ (f : A → B). map f rows) (fun-ext h)
+
 -- Each log of the table of cycles ends in a fault, and that is the cycle shown.
-pub cycles-close : map (λ (e : CycleCase). answers (e .classes) start (e .log)) cycleCases ≡ map (λ (e : CycleCase). faultAt (length (e .log))) cycleCases
+quick-close : map (λ (e : CycleCase). quickly (e .classes) start (e .log)) cycleCases ≡ map (λ (e : CycleCase). faultAt (length (e .log))) cycleCases
 unfolding cycleCases cycleCase p2 endsWith faultAt takes frees does says isMalformed refusal dependency cyclic
-cycles-close = refl
+quick-close = refl
+
+pub cycles-close : map (λ (e : CycleCase). answers (e .classes) start (e .log)) cycleCases ≡ map (λ (e : CycleCase). faultAt (length (e .log))) cycleCases
+cycles-close = of-each cycleCases (λ e. sym (quickly-same (e .classes) start (e .log))) ∙ quick-close
+
+quick-shown : map (λ (e : CycleCase). leastCycle (e .classes) (quickState (e .classes) start (e .log) .graph)) cycleCases ≡ map (λ (e : CycleCase). some (e .shown)) cycleCases
+unfolding cycleCases cycleCase p2 takes frees does says isMalformed refusal dependency cyclic leastCycle isCycle
+quick-shown = refl
 
 pub cycles-shown : map (λ (e : CycleCase). leastCycle (e .classes) (run (e .classes) start (e .log) .graph)) cycleCases ≡ map (λ (e : CycleCase). some (e .shown)) cycleCases
-unfolding cycleCases cycleCase p2 takes frees does says isMalformed refusal dependency cyclic leastCycle isCycle
-cycles-shown = refl
+cycles-shown = of-each cycleCases (λ e. ap (λ (s : State). leastCycle (e .classes) (s .graph)) (sym (quick-state (e .classes) start (e .log)))) ∙ quick-shown
 
 -- Rules that show in no answer, or in few: no dependency crosses frames, a try is marked unsafe and not safe, a release takes the newest.
 pub draws : map (λ (e : DrawnCase). run 5 start (e .log) .graph .locks (e .from) (e .to) EN) drawnCases ≡ map (λ (e : DrawnCase). e .drawn) drawnCases

@@ -18,7 +18,7 @@ use Rattle.rules.specs.KindNames.{ER, EN, SR, SN, someKind}
 use Rattle.rules.specs.StrongPath.{Dependency, StrongPath, one, more, ClosedStrongPath}
 use Rattle.rules.specs.Decision.{tabulate, cyclic}
 use Rattle.rules.specs.Verdict.{Refusal, number, refusal}
-use Rattle.rules.specs.Run.{State, situation, accept, Result, decided, settled, step, answers}
+use Rattle.rules.specs.Run.{State, situation, accept, Result, decided, settled, step, answers, run}
 use Rattle.rules.proofs.Booleans.{and-cases, and-both, or-left, or-right}
 use Rattle.rules.proofs.Decided.{cyclic-sound}
 use Rattle.rules.proofs.Closure.{getD-tabulate}
@@ -159,3 +159,13 @@ quickly-same K s [] = refl
 quickly-same K s (r ∷ rs) =
     ap (λ (o : Result). number (o .answer) ∷ quickly K (o .state) rs) (quick-settled K s r (refusal (situation K s r)))
     ∙ ap (λ (ns : List ℕ). number (step K s r .answer) ∷ ns) (quickly-same K (step K s r .state) rs)
+
+-- The state in which they leave, the same way.
+abbrev pub quickState : ℕ → State → List Bytes → State
+quickState K s [] = s
+quickState K s (r ∷ rs) = quickState K (quickSettled K s r (refusal (situation K s r)) .state) rs
+
+pub quick-state : (K : ℕ) (s : State) (rs : List Bytes) → quickState K s rs ≡ run K s rs
+quick-state K s [] = refl
+quick-state K s (r ∷ rs) =
+    ap (λ (o : Result). quickState K (o .state) rs) (quick-settled K s r (refusal (situation K s r))) ∙ quick-state K (step K s r .state) rs
