@@ -142,7 +142,7 @@ extern "C" {
 #define PLUNGEROWL_STACK_FEED_START 16
 #define PLUNGEROWL_STACK_FEED 13312
 #define PLUNGEROWL_STACK_FEED_END 4096
-#define PLUNGEROWL_STACK_BALANCE 16
+#define PLUNGEROWL_STACK_BALANCE 32
 
 /*
  * Answers. "frame" is the current frame of the core named by the record.

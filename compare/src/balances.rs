@@ -513,22 +513,25 @@ pub fn any(rng: &mut Rng) -> Case {
 }
 
 /// Pieces of 10,000 records to take the time of.
-pub fn to_time() -> [(&'static str, Vec<u8>); 4] {
+pub fn to_time() -> [(&'static str, Vec<Vec<u8>>); 4] {
+    const PIECES: usize = 24;
     let rng = &mut Rng::new(9);
     let style = try_style(64);
     let (mut shadow, mut log) = (Buffers::opened(64), Vec::new());
-    while log.len() < LONGEST {
+    while log.len() < PIECES * LONGEST {
         let (record, answer) = shadow.next(rng, &style);
         if answer == 0 {
             log.extend_from_slice(record.slice());
         }
     }
     let mix = Mix { classes: (0..=255).collect(), acquires: 500, events: 0, malformed: 0 };
+    let malformed = Mix { malformed: 500, ..mix.clone() };
+    let pieces = |rng: &mut Rng, mix: &Mix| (0..PIECES).map(|_| piece_of(rng, mix, 10_000)).collect();
     [
-        ("of a clean log, K = 64", log),
-        ("any class, 0 to 255", piece_of(rng, &mix, 10_000)),
-        ("one class", Rec::new(0, 0, 63, 0).slice().repeat(10_000)),
-        ("half of them malformed", piece_of(rng, &Mix { malformed: 500, ..mix }, 10_000)),
+        ("of a clean log, K = 64", log.chunks(LONGEST).map(<[u8]>::to_vec).collect()),
+        ("any class, 0 to 255", pieces(rng, &mix)),
+        ("one class", vec![Rec::new(0, 0, 63, 0).slice().repeat(10_000)]),
+        ("half of them malformed", pieces(rng, &malformed)),
     ]
 }
 

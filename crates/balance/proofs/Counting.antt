@@ -1,11 +1,11 @@
 -- What one record does to the balances. Assumes nothing.
-use mathlib.Core.Path.{_≡_, refl, sym, ap, _∙_}
+use mathlib.Core.Path.{_≡_, refl, sym, ap, ap₂, _∙_}
 use mathlib.Core.Bool.{Bool, true, false, not, _&&_}
 use mathlib.Core.List.{List, [], _∷_}
-use Prim.Native.Nat.{ℕ, zero, suc, _<_, _≤_}
+use Prim.Native.Nat.{ℕ, zero, suc, _+_, _<_, _≤_}
 use native.Mathlib.Decide.{ℕ-discrete}
 use native.Mathlib.Omega.{arith}
-use lib.IntN.{ℤ, pos, negsuc, sucℤ, predℤ, _+ℤ_, _-ℤ_, +ℤ-idr, +ℤ-one, -ℤ-one}
+use lib.IntN.{ℤ, pos, _+ℤ_, _-ℤ_, +ℤ-idr}
 use lib.ListN.{length, getD, set, length-set}
 use lib.Seq.{ext-getD, getD-set-same, getD-set-other}
 use lib.Signed.{mag}
@@ -17,8 +17,8 @@ use Rattle.rules.specs.Limits.{maxClasses}
 use Rattle.rules.specs.Record.{Bytes, eventBy, kindOf, classOf, modeOf, isMalformed}
 use Rattle.rules.specs.Balance.{acquires, releases, countIf}
 use Rattle.balance.specs.Piece.{mostRecords, balance}
-use Rattle.balance.specs.Code.{counted}
-use Rattle.balance.proofs.Integers.{suc-small, pred-small}
+use Rattle.balance.specs.Code.{partOf, counted}
+use Rattle.balance.proofs.Integers.{sum-small}
 use Rattle.balance.proofs.Adding.{length-each, getD-each}
 
 module _ (r : Bytes) where
@@ -40,25 +40,16 @@ module _ (r : Bytes) where
       by false (suc zero) = rw (ne-eqb c (classOf r) h) refl
       by false (suc (suc k)) = refl
 
-  pub acquire-part : isMalformed r ≡ false → kindOf r ≡ 0 → balance (classOf r) (r ∷ []) ≡ pos 1
+  pub kind-part : isMalformed r ≡ false → balance (classOf r) (r ∷ []) ≡ partOf (kindOf r)
   unfolding balance
-  acquire-part h k = rw (h, k, eq-eqb (classOf r) (classOf r) refl) refl
-
-  pub release-part : isMalformed r ≡ false → kindOf r ≡ 1 → balance (classOf r) (r ∷ []) ≡ negsuc 0
-  unfolding balance
-  release-part h k = rw (h, k, eq-eqb (classOf r) (classOf r) refl) refl
-
-  pub event-part : (c : ℕ) → (kindOf r ≡ 0 → ⊥) → (kindOf r ≡ 1 → ⊥) → balance c (r ∷ []) ≡ pos 0
-  unfolding balance
-  event-part c a b = by (isMalformed r) (kindOf r) a b
+  kind-part h = rw h (by (kindOf r))
     where
-      by : (m : Bool) (k : ℕ) → (k ≡ 0 → ⊥) → (k ≡ 1 → ⊥)
-          → pos (countIf (not m && acquires c (eventBy k (classOf r) (modeOf r))) 0) -ℤ pos (countIf (not m && releases c (eventBy k (classOf r) (modeOf r))) 0)
-          ≡ pos 0
-      by true k a b = refl
-      by false zero a b = absurd (a refl)
-      by false (suc zero) a b = absurd (b refl)
-      by false (suc (suc k)) a b = refl
+      by : (k : ℕ)
+          → pos (countIf (acquires (classOf r) (eventBy k (classOf r) (modeOf r))) 0) -ℤ pos (countIf (releases (classOf r) (eventBy k (classOf r) (modeOf r))) 0)
+          ≡ partOf k
+      by zero = rw (eq-eqb (classOf r) (classOf r) refl) refl
+      by (suc zero) = rw (eq-eqb (classOf r) (classOf r) refl) refl
+      by (suc (suc k)) = refl
 
   -- ---- What it leaves.
 
@@ -89,19 +80,24 @@ module _ (r : Bytes) where
           | no q ↦ getD-set-other before (classOf r) c z (pos 0) q ∙ untouched c l (other-part c q)
         ])
 
--- The machine reads a small number back from its bits.
-pub reads-back : (z : ℤ) → mag z ≤ suc mostRecords → toZ w32 (ofZ w32 z) ≡ z
+pub part-small : (k : ℕ) {p : ℤ} → p ≡ partOf k → mag p ≤ 1
+part-small zero e = rw e (omega arith)
+part-small (suc zero) e = rw e (omega arith)
+part-small (suc (suc k)) e = rw e (omega arith)
+
+-- ---- What the machine reads back from the bits: a small number itself.
+
+abbrev pub bits : ℤ → ℤ
+bits z = toZ w32 (ofZ w32 z)
+
+pub reads-back : (z : ℤ) → mag z ≤ mostRecords + 2 → bits z ≡ z
 reads-back z h = toZ-ofZ w32 z (record { sfits = omega arith })
 
-pub still-small : (z : ℤ) → mag z ≤ mostRecords → mag (toZ w32 (ofZ w32 z)) ≤ mostRecords
-still-small z h = rw (reads-back z (omega arith)) h
+pub still-small : (z : ℤ) {n : ℕ} → mag z ≤ n → n ≤ mostRecords → mag (bits z) ≤ n
+still-small z h k = rw (reads-back z (omega arith)) h
 
-pub more : (z a : ℤ) {b : ℤ} → mag z ≤ mostRecords → a ≡ sucℤ (toZ w32 (ofZ w32 z)) → b ≡ pos 1 → toZ w32 (ofZ w32 a) ≡ z +ℤ b
-more z a h e f =
-    let q : a ≡ sucℤ z = e ∙ ap sucℤ (reads-back z (omega arith)) in
-    rw (q, f) (reads-back (sucℤ z) (suc-small z mostRecords h) ∙ sym (+ℤ-one z))
-
-pub less : (z a : ℤ) {b : ℤ} → mag z ≤ mostRecords → a ≡ predℤ (toZ w32 (ofZ w32 z)) → b ≡ negsuc 0 → toZ w32 (ofZ w32 a) ≡ z +ℤ b
-less z a h e f =
-    let q : a ≡ predℤ z = e ∙ ap predℤ (reads-back z (omega arith)) in
-    rw (q, f) (reads-back (predℤ z) (pred-small z mostRecords h) ∙ sym (-ℤ-one z))
+pub added : (z p a : ℤ) (k : ℕ) {q : ℤ} → mag z ≤ mostRecords → p ≡ partOf k → a ≡ bits z +ℤ bits p → q ≡ partOf k → bits a ≡ z +ℤ q
+added z p a k h e f g =
+    let small = part-small k e in
+    let s : a ≡ z +ℤ p = f ∙ ap₂ (λ (x y : ℤ). x +ℤ y) (reads-back z (omega arith)) (reads-back p (omega arith)) in
+    rw s (reads-back (z +ℤ p) (omega (arith, sum-small z p)) ∙ ap (λ (x : ℤ). z +ℤ x) (e ∙ sym g))

@@ -13,9 +13,10 @@ use Rattle.rules.specs.Log.{recordsOf}
 use Rattle.rules.specs.Examples.{says, takes, frees, does}
 use Rattle.rules.proofs.Cutting.{no-records, first-record}
 use Rattle.balance.specs.Piece.{mostRecords, mostBytes, badPiece, isRefused, balance, forEachClass, balancesOf, zeros}
+use Rattle.balance.specs.Code.{partOf}
 use Rattle.balance.specs.Examples.{inOne, Given, PieceCase, pieceCase, records, refused, pieceCases}
 use Rattle.balance.proofs.Adding.{balance-append, passed}
-use Rattle.balance.proofs.Counting.{acquire-part, release-part}
+use Rattle.balance.proofs.Counting.{kind-part}
 
 -- What the contract says that the call gives.
 abbrev givenFor : List ℕ → Given
@@ -54,7 +55,7 @@ module _ (r : Bytes) (l : length r ≡ recordSize) where
     repeated-acquires k zero = refl
     repeated-acquires k (suc n) =
         balance-append (classOf r) (r ∷ []) (replicate n r)
-        ∙ ap₂ (λ (x y : ℤ). x +ℤ y) (acquire-part r f k) (repeated-acquires k n)
+        ∙ ap₂ (λ (x y : ℤ). x +ℤ y) (kind-part r f ∙ ap partOf k) (repeated-acquires k n)
         ∙ ap pos (omega arith)
 
     pub repeated-releases : kindOf r ≡ 1 → (n : ℕ) → balance (classOf r) (replicate n r) ≡ negℤ (pos n)
@@ -62,7 +63,7 @@ module _ (r : Bytes) (l : length r ≡ recordSize) where
     repeated-releases k zero = refl
     repeated-releases k (suc n) =
         balance-append (classOf r) (r ∷ []) (replicate n r)
-        ∙ ap₂ (λ (x y : ℤ). x +ℤ y) (release-part r f k) (repeated-releases k n)
+        ∙ ap₂ (λ (x y : ℤ). x +ℤ y) (kind-part r f ∙ ap partOf k) (repeated-releases k n)
         ∙ one-down n
       where
         one-down : (n : ℕ) → negsuc 0 +ℤ negℤ (pos n) ≡ negℤ (pos (suc n))

@@ -4,7 +4,7 @@ use mathlib.Core.Bool.{Bool, true, false, cond}
 use Prim.Native.Nat.{ℕ, zero, suc, _+_, _-_, _≤_}
 use native.Mathlib.Omega.{arith}
 use lib.Dec.{ltb}
-use lib.IntN.{ℤ, pos, negsuc, negℤ, sucℤ, predℤ, _+ℤ_, _-ℤ_, +ℤ-assoc, +ℤ-comm, negℤ-+ℤ, pos-+ℤ-pos}
+use lib.IntN.{ℤ, pos, negsuc, negℤ, _+ℤ_, _-ℤ_, +ℤ-assoc, +ℤ-comm, negℤ-+ℤ, pos-+ℤ-pos}
 use lib.Signed.{mag}
 
 -- Two sums, added across.
@@ -28,12 +28,8 @@ difference-small a (suc b) n h k = by (ltb a (suc b))
     by true = omega arith
     by false = omega arith
 
-pub suc-small : (z : ℤ) (n : ℕ) → mag z ≤ n → mag (sucℤ z) ≤ suc n
-suc-small (pos a) n h = omega arith
-suc-small (negsuc zero) n h = omega arith
-suc-small (negsuc (suc a)) n h = omega arith
-
-pub pred-small : (z : ℤ) (n : ℕ) → mag z ≤ n → mag (predℤ z) ≤ suc n
-pred-small (pos zero) n h = omega arith
-pred-small (pos (suc a)) n h = omega arith
-pred-small (negsuc a) n h = omega arith
+pub sum-small : (a b : ℤ) → mag (a +ℤ b) ≤ suc (mag a + mag b)
+sum-small (pos a) (pos b) = omega arith
+sum-small (pos a) (negsuc b) = omega (arith, difference-small a (suc b) (suc (a + b)) (omega arith) (omega arith))
+sum-small (negsuc a) (pos b) = omega (arith, difference-small b (suc a) (suc (a + b)) (omega arith) (omega arith))
+sum-small (negsuc a) (negsuc b) = omega arith

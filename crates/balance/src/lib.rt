@@ -9,9 +9,9 @@ use record::RELEASE;
 use record::SIZE;
 ghost use mathlib.Core.Path.{_≡_};
 ghost use Prim.Native.Nat.{_≤_};
-ghost use lib.IntN.{sucℤ, predℤ};
+ghost use lib.IntN.{_+ℤ_};
 ghost use lib.Signed.{mag};
-ghost use Rattle.balance.specs.Code.{Room, counted};
+ghost use Rattle.balance.specs.Code.{Room, partOf, counted};
 ghost use Rattle.balance.specs.Piece.{mostRecords, isRefused, zeros, PieceBalanced};
 
 // The most records that a piece may have, and their bytes.
@@ -29,18 +29,24 @@ fn is_refused(piece: &[u8]) -> bool
     piece.len() % SIZE != 0
 }
 
-fn one_more(balance: i32) -> i32
-    requires { ⌜ mag balance ≤ mostRecords ⌝ }
-    ensures { λ r. ⌜ r ≡ sucℤ balance ⌝ }
+// What a record of a kind is in the balance of its class.
+fn part_of(kind: u8) -> i32
+    ensures { λ r. ⌜ r ≡ partOf kind ⌝ }
 {
-    balance + 1
+    if kind == ACQUIRE {
+        return 1;
+    }
+    if kind == RELEASE {
+        return -1;
+    }
+    0
 }
 
-fn one_less(balance: i32) -> i32
-    requires { ⌜ mag balance ≤ mostRecords ⌝ }
-    ensures { λ r. ⌜ r ≡ predℤ balance ⌝ }
+fn sum(balance: i32, part: i32) -> i32
+    requires { ⌜ (mag balance ≤ mostRecords) × (mag part ≤ 1) ⌝ }
+    ensures { λ r. ⌜ r ≡ balance +ℤ part ⌝ }
 {
-    balance - 1
+    balance + part
 }
 
 // Counts a record in the balance of its class.
@@ -55,15 +61,10 @@ fn count_record(balances: &mut [i32; MAX_CLASSES], bytes: &[u8])
     if MAX_CLASSES <= class {
         return;
     }
-    let kind = bytes[KIND_AT];
+    let part = part_of(bytes[KIND_AT]);
     let balance = balances[class];
-    if kind == ACQUIRE {
-        let more = one_more(balance);
-        balances[class] = more;
-    } else if kind == RELEASE {
-        let less = one_less(balance);
-        balances[class] = less;
-    }
+    let after = sum(balance, part);
+    balances[class] = after;
 }
 
 // The balances of a piece, or 14 and zeros.

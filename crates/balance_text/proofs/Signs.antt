@@ -9,15 +9,12 @@ use lib.IntN.{ℤ, pos, negsuc, natAbs, _-ℤ_}
 use lib.Signed.{ltZ, nonNeg}
 use borrow.Author.Tests.{le-ltb, ltb-true}
 use mir.Syntax.{w32}
-use mir.Val.{SFits, toZ, ofZ}
+use mir.Val.{SFits}
 use mir.ValLaws.{toZ-ofZ}
+use Rattle.balance.proofs.Counting.{bits}
 use Rattle.log.specs.Text.{digits, Appended}
 use Rattle.log.proofs.Writing.{appended-both, as-text}
 use Rattle.balance_text.specs.Text.{sign, signedText}
-
--- What the machine reads back from the bits.
-abbrev pub bits : ℤ → ℤ
-bits z = toZ w32 (ofZ w32 z)
 
 plain : (z : ℤ) (t : Bool) → SFits w32 z → ltZ (bits z) (pos 0) ≡ t → ltZ z (pos 0) ≡ t
 plain z t f h = ap (λ (x : ℤ). ltZ x (pos 0)) (sym (toZ-ofZ w32 z f)) ∙ h

@@ -40,19 +40,3 @@ module _ (r : List ℕ) where
   unfolding isMalformed
   by-stray l m0 m1 c k m =
       simp (eq-eqb (length r) 6 l, eq-eqb (getD r 0 0) 0x4C m0, eq-eqb (getD r 1 0) 0x4B m1, lt-leb coreCount (coreOf r) c, lt-leb kindCount (kindOf r) k, lt-leb modeCount (modeOf r) m)
-
-pub stray-acquire : (k c m : ℕ) → k ≡ 0 → false ≡ strayByte k c m
-stray-acquire k c m e = rw e refl
-
-pub stray-mode : (k c m : ℕ) → (k ≡ 0 → ⊥) → (m ≡ 0 → ⊥) → true ≡ strayByte k c m
-stray-mode zero c m a b = absurd (a refl)
-stray-mode (suc zero) c m a b = simp (ne-eqb m 0 b)
-stray-mode (suc (suc k)) c m a b = simp (ne-eqb m 0 b, and-false)
-
-pub stray-release : (k c m : ℕ) → k ≡ 1 → m ≡ 0 → false ≡ strayByte k c m
-stray-release k c m a b = rw (a, b) refl
-
-pub stray-interrupt : (k c m : ℕ) → (k ≡ 0 → ⊥) → (k ≡ 1 → ⊥) → m ≡ 0 → not (eqb c 0) ≡ strayByte k c m
-stray-interrupt zero c m a b e = absurd (a refl)
-stray-interrupt (suc zero) c m a b e = absurd (b refl)
-stray-interrupt (suc (suc k)) c m a b e = simp (eq-eqb m 0 e, and-true)

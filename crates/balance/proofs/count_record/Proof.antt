@@ -4,9 +4,9 @@ use native.Mathlib.Omega.{arith}
 use borrow.Author.Needs.{needs}
 use lib.IntN.{pos}
 use lib.ListN.{getD}
-use Rattle.rules.specs.Record.{classOf}
+use Rattle.rules.specs.Record.{kindOf, classOf}
 use Rattle.rules.proofs.Formed.{well-formed}
-use Rattle.balance.proofs.Counting.{malformed-part, other-part, acquire-part, release-part, event-part, none-counted, one-counted, still-small, more, less}
+use Rattle.balance.proofs.Counting.{malformed-part, other-part, kind-part, none-counted, one-counted, part-small, still-small, added}
 use Rattle.balance.proofs.count_record.Statement.{statement}
 use Rattle.balance.proofs.count_record.Tie as tie
 
@@ -31,8 +31,11 @@ returns-2 c =
     let r = s .args .bytes .now in
     none-counted r (s .args .balances .now) (s .pre .long) (λ k l. other-part r k (λ e. absurd (omega (arith, e, l, c .if2 .taken))))
 
-shared-slice-read-kind : tie.Need-shared-slice-read-kind
-shared-slice-read-kind c = omega (arith, well-formed (c .before .before .before .before .before .before .args .bytes .now) (sym (c .before .before .before .before .is-malformed .ensures) ∙ c .before .before .before .if1 .left) .long)
+shared-slice-read-part-of : tie.Need-shared-slice-read-part-of
+shared-slice-read-part-of c = omega (arith, well-formed (c .before .before .before .before .before .before .args .bytes .now) (sym (c .before .before .before .before .is-malformed .ensures) ∙ c .before .before .before .if1 .left) .long)
+
+part-of-requires : tie.Need-part-of-requires
+part-of-requires c κs = search needs
 
 mul-balance : tie.Need-mul-balance
 mul-balance c = search needs
@@ -40,53 +43,30 @@ mul-balance c = search needs
 element-copy-out-balance : tie.Need-element-copy-out-balance
 element-copy-out-balance c = search needs
 
-one-more-requires : tie.Need-one-more-requires
-one-more-requires c κs =
+sum-requires : tie.Need-sum-requires
+sum-requires c κs =
     let s = c .before .before .before .before .before .before .before .before in
-    let x = classOf (s .args .bytes .now) in
-    still-small (getD (s .args .balances .now) x (pos 0)) (s .pre .room x (c .before .before .before .if2 .left))
+    let r = s .args .bytes .now in
+    let p = c .before .part-of in (
+      still-small (getD (s .args .balances .now) (classOf r) (pos 0)) (s .pre .room (classOf r) (c .before .before .before .if2 .left)) (omega arith),
+      still-small (p .result) (part-small (kindOf r) (p .ensures)) (omega arith),
+    )
 
-mul-more : tie.Need-mul-more
-mul-more c = search needs
+mul-after : tie.Need-mul-after
+mul-after c = search needs
 
-element-set-from-more : tie.Need-element-set-from-more
-element-set-from-more c = search needs
-
-one-less-requires : tie.Need-one-less-requires
-one-less-requires c κs =
-    let s = c .before .before .before .before .before .before .before .before .before in
-    let x = classOf (s .args .bytes .now) in
-    still-small (getD (s .args .balances .now) x (pos 0)) (s .pre .room x (c .before .before .before .before .if2 .left))
-
-mul-less : tie.Need-mul-less
-mul-less c = search needs
-
-element-set-from-less : tie.Need-element-set-from-less
-element-set-from-less c = search needs
+element-set-from-after : tie.Need-element-set-from-after
+element-set-from-after c = search needs
 
 returns-3 : tie.Need-returns-3
 returns-3 c =
     let s = c .before .before .before .before .before .before .before .before .before in
     let r = s .args .bytes .now in
-    let b = s .args .balances .now in
+    let b = getD (s .args .balances .now) (classOf r) (pos 0) in
     let l = c .before .before .before .before .if2 .left in
     let f = sym (c .before .before .before .before .before .before .before .is-malformed .ensures) ∙ c .before .before .before .before .before .before .if1 .left in
-    one-counted r b (s .pre .long) _ l (more (getD b (classOf r) (pos 0)) _ (s .pre .room (classOf r) l) (c .one-more .ensures) (acquire-part r f (c .before .if3 .taken)))
-
-returns-4 : tie.Need-returns-4
-returns-4 c =
-    let s = c .before .before .before .before .before .before .before .before .before .before in
-    let r = s .args .bytes .now in
-    let b = s .args .balances .now in
-    let l = c .before .before .before .before .before .if2 .left in
-    let f = sym (c .before .before .before .before .before .before .before .before .is-malformed .ensures) ∙ c .before .before .before .before .before .before .before .if1 .left in
-    one-counted r b (s .pre .long) _ l (less (getD b (classOf r) (pos 0)) _ (s .pre .room (classOf r) l) (c .one-less .ensures) (release-part r f (c .before .if4 .taken)))
-
-returns-5 : tie.Need-returns-5
-returns-5 c =
-    let s = c .before .before .before .before .before .before .before .before .before in
-    let r = s .args .bytes .now in
-    none-counted r (s .args .balances .now) (s .pre .long) (λ k l. event-part r k (c .before .if3 .left) (c .if4 .left))
+    let p = c .before .before .part-of in
+    one-counted r (s .args .balances .now) (s .pre .long) _ l (added b (p .result) _ (kindOf r) (s .pre .room (classOf r) l) (p .ensures) (c .sum .ensures) (kind-part r f))
 
 pub count-record-spec : {M : Type 1} → statement M
 count-record-spec =
@@ -97,15 +77,11 @@ count-record-spec =
     shared-slice-read-class
     cast-class
     returns-2
-    shared-slice-read-kind
+    shared-slice-read-part-of
+    part-of-requires
     mul-balance
     element-copy-out-balance
-    one-more-requires
-    mul-more
-    element-set-from-more
-    one-less-requires
-    mul-less
-    element-set-from-less
-    returns-3
-    returns-4
-    returns-5)
+    sum-requires
+    mul-after
+    element-set-from-after
+    returns-3)

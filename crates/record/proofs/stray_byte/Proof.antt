@@ -1,20 +1,24 @@
-use Rattle.record.proofs.Conditions.{stray-acquire, stray-mode, stray-release, stray-interrupt}
+use mathlib.Core.Path.{_≡_, refl}
+use mathlib.Core.Bool.{Bool, true, false, not, _&&_, _||_}
+use Prim.Native.Nat.{ℕ, zero, suc}
+use native.Mathlib.Omega.{arith}
+use lib.Dec.{leb, eqb}
+use borrow.Author.Tests.{ne-eqb, le-leb}
+use Rattle.rules.specs.Record.{strayByte}
 use Rattle.record.proofs.stray_byte.Statement.{statement}
 use Rattle.record.proofs.stray_byte.Tie as tie
-use Rattle.record.proofs.stray_byte.Reads as reads
-use Rattle.record.proofs.stray_byte.Lts as lts
+
+by-kind : (k c m : ℕ) → ((leb 2 k && not (eqb c 0)) || (not (eqb k 0) && not (eqb m 0))) ≡ strayByte k c m
+by-kind zero c m = refl
+by-kind (suc zero) c m = refl
+by-kind (suc (suc k)) c m = rw (ne-eqb (suc (suc k)) 0 (λ e. omega (arith, e)), le-leb 2 (suc (suc k)) (omega arith)) (by (eqb c 0) (eqb m 0))
+  where
+    by : (a b : Bool) → (not a || not b) ≡ not (a && b)
+    by true b = refl
+    by false b = refl
 
 returns : tie.Need-returns
-returns c = stray-acquire _ _ _ (c .if1 .taken)
-
-returns-2 : tie.Need-returns-2
-returns-2 c = stray-mode _ _ _ (c .before .if1 .left) (c .if2 .taken)
-
-returns-3 : tie.Need-returns-3
-returns-3 c = stray-release _ _ _ (c .if3 .taken) (c .before .if2 .left)
-
-returns-4 : tie.Need-returns-4
-returns-4 c = stray-interrupt _ _ _ (c .before .before .if1 .left) (c .if3 .left) (c .before .if2 .left)
+returns c = by-kind (c .args .kind) (c .args .class) (c .args .mode)
 
 pub stray-byte-spec : {M : Type 1} → statement M
-stray-byte-spec = tie.close (tie.spec returns returns-2 returns-3 returns-4)
+stray-byte-spec = tie.close (tie.spec returns)
