@@ -1,9 +1,8 @@
 -- Refusal 3, condition by condition. Assumes nothing.
-use mathlib.Core.Path.{_≡_, refl}
-use mathlib.Core.Bool.{true, false, not, or-true, and-false, and-true}
+use mathlib.Core.Path.{_≡_}
+use mathlib.Core.Bool.{true, or-true, and-false}
 use mathlib.Core.List.{List}
-use Prim.Native.Nat.{ℕ, zero, suc, _≤_, _<_}
-use lib.Dec.{eqb}
+use Prim.Native.Nat.{ℕ, _≤_, _<_}
 use lib.ListN.{length, getD}
 use borrow.Author.Tests.{eq-eqb, ne-eqb, le-leb, lt-leb}
 use Rattle.rules.specs.Limits.{coreCount, kindCount, modeCount}
