@@ -1,5 +1,6 @@
 """What host/test_host and host/test_balance share: the ways to give the host its input. The arguments are theirs: PATH/host [--first]."""
-import os, socket, subprocess, sys, threading, time
+import fcntl, os, signal, socket, struct, subprocess, sys, termios, threading, time
+from pathlib import Path
 
 host = os.path.abspath(sys.argv[1])
 runs = wrong = 0
@@ -55,6 +56,36 @@ def failing_after(bytes_, *args):
     start.sendall(bytes_)
     start.close()
     return run(*args, stdin=end)
+
+
+def interrupted(bytes_, *args):
+    """The bytes, a read that is interrupted, and the end: a socket with a time limit, whose reader is stopped and goes on."""
+    end, start = socket.socketpair()
+    end.setsockopt(socket.SOL_SOCKET, socket.SO_RCVTIMEO, struct.pack("ll", 60, 0))
+    start.sendall(bytes_)
+    reader = subprocess.Popen([host, *args], stdin=end, stdout=subprocess.PIPE, stderr=subprocess.PIPE)
+
+    def wait(state):
+        until = time.time() + 5
+        while time.time() < until and reader.poll() is None:
+            unread = struct.unpack("i", fcntl.ioctl(end, termios.FIONREAD, bytes(4)))[0]
+            if unread == 0 and Path(f"/proc/{reader.pid}/stat").read_text().rpartition(")")[2].split()[0] == state:
+                return
+            time.sleep(0.005)
+
+    wait("S")
+    reader.send_signal(signal.SIGSTOP)
+    wait("T")
+    reader.send_signal(signal.SIGCONT)
+    wait("S")
+    start.close()
+    try:
+        out, err = reader.communicate(timeout=5)
+    except subprocess.TimeoutExpired:
+        reader.kill()
+        reader.communicate()
+        return subprocess.CompletedProcess([], "too late", b"", b"")
+    return subprocess.CompletedProcess([], reader.returncode, out, err)
 
 
 def staying_open(bytes_, *args):

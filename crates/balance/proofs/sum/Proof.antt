@@ -3,14 +3,15 @@ use mathlib.Core.Path.{_≡_, sym, ap₂, subst, _∙_}
 use native.Mathlib.Omega.{arith}
 use lib.IntN.{ℤ, _+ℤ_}
 use mir.Syntax.{w32}
-use mir.Val.{SFits, toZ, ofZ}
+use mir.Val.{SFits}
 use mir.ValLaws.{toZ-ofZ}
 use Rattle.balance.proofs.Integers.{sum-small}
+use Rattle.balance.proofs.Counting.{bits}
 use Rattle.balance.proofs.sum.Statement.{statement}
 use Rattle.balance.proofs.sum.Tie as tie
 
 -- The machine computes with what it reads back from the bits.
-computed : (a b : ℤ) → SFits w32 a → SFits w32 b → toZ w32 (ofZ w32 a) +ℤ toZ w32 (ofZ w32 b) ≡ a +ℤ b
+computed : (a b : ℤ) → SFits w32 a → SFits w32 b → bits a +ℤ bits b ≡ a +ℤ b
 computed a b f g = ap₂ (λ (x y : ℤ). x +ℤ y) (toZ-ofZ w32 a f) (toZ-ofZ w32 b g)
 
 add-result : tie.Need-add-result
