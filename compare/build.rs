@@ -155,7 +155,7 @@ fn plant(out: &Path) {
     let reference = format!("{}{RULE}\n\n{lent}", &reference[..program.expect("the program's section is the last")]);
     let whole = items(&reference);
     let (mut modules, mut table, mut well) = (String::new(), String::new(), true);
-    for plants::Plant { name, wrong, sights, breaks, of_clash, of_numbers, edits } in plants::PLANTS {
+    for plants::Plant { name, wrong, sights, breaks, of_clash, of_numbers, of_depth, edits } in plants::PLANTS {
         assert!(!edits.is_empty(), "planted {name}: no edit");
         let source = edits.iter().fold(reference.to_string(), |source, (old, new)| edit(&source, name, old, new));
         well &= !source.is_empty();
@@ -171,7 +171,7 @@ fn plant(out: &Path) {
         modules += &format!("#[path = {path:?}]\npub mod {module};\n");
         let calls = CALLS.map(|(call, function)| format!("{call}: judge::{module}::{function}")).join(", ");
         table += &format!(
-            "    Plant {{ name: {name:?}, wrong: {wrong:?}, sights: &{sights:?}, breaks: {breaks:?}, of_feed: {of_feed}, of_balance: {of_balance}, of_clash: {of_clash}, of_numbers: {of_numbers}, judge: Judge {{ {calls} }} }},\n"
+            "    Plant {{ name: {name:?}, wrong: {wrong:?}, sights: &{sights:?}, breaks: {breaks:?}, of_feed: {of_feed}, of_balance: {of_balance}, of_clash: {of_clash}, of_numbers: {of_numbers}, of_depth: {of_depth}, judge: Judge {{ {calls} }} }},\n"
         );
     }
     assert!(well, "a planted judge has no place to be planted at");

@@ -15,12 +15,15 @@ pub struct Plant {
     pub of_clash: bool,
     /// Whether it is wrong about the count or first-seen numbers, and the cases about these come first.
     pub of_numbers: bool,
+    /// Whether it is wrong about deep frames or old desks (see src/depths.rs and src/older.rs), and the cases about these come
+    /// first.
+    pub of_depth: bool,
     /// Text of reference/src/lib.rs, and what stands there instead.
     pub edits: &'static [(&'static str, &'static str)],
 }
 
 const fn plant(name: &'static str, wrong: &'static str, edits: &'static [(&'static str, &'static str)]) -> Plant {
-    Plant { name, wrong, sights: &[], breaks: None, of_clash: false, of_numbers: false, edits }
+    Plant { name, wrong, sights: &[], breaks: None, of_clash: false, of_numbers: false, of_depth: false, edits }
 }
 
 const fn shown(sights: &'static [&'static str], plant: Plant) -> Plant {
@@ -37,6 +40,10 @@ const fn of_clash(sights: &'static [&'static str], plant: Plant) -> Plant {
 
 const fn of_numbers(sights: &'static [&'static str], plant: Plant) -> Plant {
     Plant { sights, of_numbers: true, ..plant }
+}
+
+const fn of_depth(sights: &'static [&'static str], plant: Plant) -> Plant {
+    Plant { sights, of_depth: true, ..plant }
 }
 
 const ONLY_WITH_PATH: &str = "a fault only with a closed strong path";
@@ -369,20 +376,11 @@ fn keys(circle: &[Triple], end: usize, desk: &[u8]) -> Vec<(Triple, u32)> {
     };
 }
 
-/// Origins past the desk's end are read as 0 and not written.
-const READS_SHORT: (&str, &str) = (
-    "desk[ORIGINS + place / 8] >> (place % 8) & 1 == 1",
-    "desk.get(ORIGINS + place / 8).is_some_and(|byte| byte >> (place % 8) & 1 == 1)",
-);
-const WRITES_SHORT: (&str, &str) = (
-    "    let bit = 1 << (place % 8);",
-    "    let bit = 1 << (place % 8);
-    if ORIGINS + place / 8 >= desk.len() {
-        return;
-    }",
-);
+/// Where an origin bit is read, and where it is written.
+const ORIGIN_READ: &str = "desk[ORIGINS + place / 8] >> (place % 8) & 1 == 1";
+const ORIGIN_BIT: &str = "    let bit = 1 << (place % 8);";
 
-/// The same of the count and of numbers.
+/// Numbers past the end of a buffer are read as 0 and not written.
 const WORDS_SHORT: (&str, &str) = (
     "u32::from_le_bytes([bytes[at], bytes[at + 1], bytes[at + 2], bytes[at + 3]])",
     "u32::from_le_bytes([0, 1, 2, 3].map(|i| bytes.get(at + i).copied().unwrap_or(0)))",
@@ -455,6 +453,218 @@ macro_rules! written {
         &[(WRITTEN, $how)]
     };
 }
+
+/// The depth that a frame may have: where an acquire is refused with 8, and where a desk is unfit.
+const EIGHT: &str = "    if kind == TAKE && depth == DEEPEST {";
+const OVER_LIMIT: &str = "depths.iter().any(|&d| usize::from(d) > DEEPEST)";
+/// Where the step has the frame's first place, and where marks are set.
+const FIRST_PLACE: &str = "    let first = HOLDS + DEEPEST * here;
+    let newest = ";
+const FIRST_MARKED: &str = "    let first = HOLDS + DEEPEST * here;
+    for at in first..first + usize::from(desk[DEPTHS + here]) {";
+/// What the fit test asks of the places: which have locks and which have none.
+const HELD_FIT: &str = "holds[..usize::from(depth)].iter().any(|&h| test(h, k))";
+const UNUSED_FIT: &str = "holds[usize::from(depth)..] != empty[usize::from(depth)..]";
+const STRAY: &str = "is_try(desk, HOLDS + place) && !stands(place)";
+const OLDER: &str = "let (older, older_mode) = (usize::from(desk[at] % 64), desk[at] / 64);";
+/// A depth over the limit does not stop the fit test.
+const HELD_OVER: (&str, &str) = (HELD_FIT, "holds[..usize::from(depth).min(DEEPEST)].iter().any(|&h| test(h, k))");
+const UNUSED_OVER: (&str, &str) = (UNUSED_FIT, "holds.iter().skip(usize::from(depth)).any(|&h| h != 0)");
+
+/// Where a desk is too short, and the fit test as a whole.
+const TOO_SHORT: &str = "    if desk.len() < DESK {
+        return Some(CLAUSES[0]);
+    }";
+const UNFIT: &str =
+    "pub fn unfit(desk: &[u8], sheet: &[u8], seen: &[u8], slip: Option<&[u8]>) -> Option<&'static str> {";
+
+/// A desk is fit unless this holds of its length, and read as if zeros came behind it.
+macro_rules! desk_unless {
+    ($short:literal) => {
+        &[
+            (
+                TOO_SHORT,
+                concat!(
+                    "    if ", $short, " {
+        return Some(CLAUSES[0]);
+    }
+    let mut whole = desk.to_vec();
+    whole.resize(desk.len().max(DESK), 0);
+    let desk = &whole[..];"
+                ),
+            ),
+            around_step!(
+                "    let mut whole = desk.to_vec();
+    whole.resize(desk.len().max(DESK), 0);
+    if unfit(desk, sheet, seen, Some(slip)).is_some() {
+        return 11;
+    }
+    let answer = judge_record(&mut whole, sheet, seen, slip, record);
+    desk.copy_from_slice(&whole[..desk.len()]);
+    answer"
+            ),
+        ]
+    };
+}
+
+/// Opening accepts a desk of exactly so many bytes.
+macro_rules! opening_of {
+    ($length:literal) => {
+        &[
+            ("if desk.len() < DESK || ", concat!("if desk.len() < DESK && desk.len() != ", $length, " || ")),
+            ("desk[..DESK].fill(0);", "let end = desk.len().min(DESK);\n    desk[..end].fill(0);"),
+        ]
+    };
+}
+
+/// The origin bits of a frame begin so many bits behind those of the last.
+macro_rules! origin_stride {
+    ($bits:literal) => {
+        &[
+            (
+                "fn is_try(desk: &[u8], at: usize) -> bool {
+    let place = at - HOLDS;",
+                concat!(
+                    "fn is_try(desk: &[u8], at: usize) -> bool {
+    let place = (at - HOLDS) / DEEPEST * ", $bits, " + (at - HOLDS) % DEEPEST;"
+                ),
+            ),
+            (
+                "fn set_origin(desk: &mut [u8], at: usize, is_try: bool) {
+    let place = at - HOLDS;",
+                concat!(
+                    "fn set_origin(desk: &mut [u8], at: usize, is_try: bool) {
+    let place = (at - HOLDS) / DEEPEST * ", $bits, " + (at - HOLDS) % DEEPEST;"
+                ),
+            ),
+            (ORIGIN_READ, "ORIGINS + place / 8 < COUNT && desk[ORIGINS + place / 8] >> (place % 8) & 1 == 1"),
+            (
+                ORIGIN_BIT,
+                "    let bit = 1 << (place % 8);
+    if ORIGINS + place / 8 >= COUNT {
+        return;
+    }",
+            ),
+        ]
+    };
+}
+
+/// Some work on a frame's locks is done up to this place, and not there and behind it.
+macro_rules! draws_up_to {
+    ($place:literal) => {
+        &[("for at in older_holds {", concat!("for at in older_holds.take(", $place, ") {"))]
+    };
+}
+macro_rules! numbers_up_to {
+    ($place:literal) => {
+        &[("if sheet[pair] == 0 {", concat!("if sheet[pair] == 0 && at < first + ", $place, " {"))]
+    };
+}
+macro_rules! marks_up_to {
+    ($place:literal) => {
+        &[(
+            FIRST_MARKED,
+            concat!(
+                "    let first = HOLDS + DEEPEST * here;
+    for at in first..first + usize::from(desk[DEPTHS + here]).min(", $place, ") {"
+            ),
+        )]
+    };
+}
+macro_rules! finds_up_to {
+    ($place:literal) => {
+        &[("(first..first + depth).rev().find(", concat!("(first..first + depth.min(", $place, ")).rev().find("))]
+    };
+}
+macro_rules! moves_up_to {
+    ($place:literal) => {
+        &[("desk[to] = desk[to + 1];", concat!("if to < first + ", $place, " {\n                    desk[to] = desk[to + 1];\n                }"))]
+    };
+}
+macro_rules! origins_up_to {
+    ($place:literal) => {
+        &[("let origin = is_try(desk, to + 1);", concat!("let origin = is_try(desk, if to < first + ", $place, " { to + 1 } else { to });"))]
+    };
+}
+macro_rules! tries_up_to {
+    ($place:literal) => {
+        &[("set_origin(desk, first + depth, by_try);", concat!("set_origin(desk, first + depth, by_try && depth < ", $place, ");"))]
+    };
+}
+macro_rules! held_fit_up_to {
+    ($place:literal) => {
+        &[
+            (HELD_FIT, concat!("holds[..usize::from(depth)].iter().take(", $place, ").any(|&h| test(h, k))")),
+            // A class of K or more draws nothing.
+            (OLDER, "let (older, older_mode) = (usize::from(desk[at] % 64), desk[at] / 64);\n                if older >= k {\n                    continue;\n                }"),
+        ]
+    };
+}
+macro_rules! unused_fit_up_to {
+    ($place:literal) => {
+        &[(UNUSED_FIT, concat!("holds.iter().take(", $place, ").skip(usize::from(depth)).any(|&h| h != 0)"))]
+    };
+}
+macro_rules! origins_fit_up_to {
+    ($place:literal) => {
+        &[(STRAY, concat!("place % DEEPEST < ", $place, " && is_try(desk, HOLDS + place) && !stands(place)"))]
+    };
+}
+
+/// A desk that is unfit is read in the layout of 642 bytes where this holds; if it is fit then, it is judged so.
+macro_rules! read_as_old {
+    ($where:literal) => {
+        &[
+            (
+                UNFIT,
+                concat!(
+                    "pub fn unfit(desk: &[u8], sheet: &[u8], seen: &[u8], slip: Option<&[u8]>) -> Option<&'static str> {
+    let now = unfit_now(desk, sheet, seen, slip);
+    match now.and_then(|_| from_old(desk)) {
+        Some(new) => unfit_now(&new, sheet, seen, slip),
+        None => now,
+    }
+}
+
+fn from_old(desk: &[u8]) -> Option<Vec<u8>> {
+    if !(", $where, ") || desk.len() < 642 || desk[DEPTHS..MARKS].iter().any(|&depth| depth > 20) {
+        return None;
+    }
+    let mut new = desk.to_vec();
+    new.resize(desk.len().max(DESK), 0);
+    new[HOLDS..DESK].fill(0);
+    for place in 0..480 {
+        let at = HOLDS + DEEPEST * (place / 20) + place % 20;
+        new[at] = desk[HOLDS + place];
+        set_origin(&mut new, at, desk[578 + place / 8] >> (place % 8) & 1 == 1);
+    }
+    new[COUNT..DESK].copy_from_slice(&desk[638..642]);
+    Some(new)
+}
+
+fn unfit_now(desk: &[u8], sheet: &[u8], seen: &[u8], slip: Option<&[u8]>) -> Option<&'static str> {"
+                ),
+            ),
+            around_step!(
+                "    if unfit_now(desk, sheet, seen, Some(slip)).is_some() {
+        if let Some(mut new) = from_old(desk) {
+            let answer = judge_record(&mut new, sheet, seen, slip, record);
+            if answer < 2 {
+                desk.copy_from_slice(&new[..desk.len()]);
+            }
+            return answer;
+        }
+    }
+    judge_record(desk, sheet, seen, slip, record)"
+            ),
+            ("    if unfit(desk, sheet, seen, Some(slip)).is_some() {", "    if unfit_now(desk, sheet, seen, Some(slip)).is_some() {"),
+        ]
+    };
+}
+
+const BY_STRIDE: [&str; 2] = ["try in a frame but the first", "call on a fit desk with a try"];
+const IN_FULL_FRAME: [&str; 2] = ["wait in a full frame", "try in a full frame"];
+const OVER_20: [&str; 3] = ["acquire over 20 held locks", "acquire over 21 to 46 held locks", "acquire that fills a frame"];
 
 pub const PLANTS: &[Plant] = &[
     // What a record draws.
@@ -747,7 +957,7 @@ pub const PLANTS: &[Plant] = &[
         &["release with a try on top"],
         plant("origin-left", "the freed place keeps its origin", &[("            set_origin(desk, last, false);\n", "")]),
     ),
-    shown(
+    of_depth(
         &["release in a full frame, a try first in the next"],
         plant(
             "origins-pulled",
@@ -759,7 +969,7 @@ pub const PLANTS: &[Plant] = &[
             )],
         ),
     ),
-    shown(
+    of_depth(
         &["release in a full frame, a try first in the next", "release in a frame not full, a try first in the next"],
         plant(
             "origins-pulled-far",
@@ -773,7 +983,7 @@ pub const PLANTS: &[Plant] = &[
             )],
         ),
     ),
-    shown(
+    of_depth(
         &["release with a try in a later frame"],
         plant(
             "origins-of-all",
@@ -788,7 +998,7 @@ pub const PLANTS: &[Plant] = &[
             )],
         ),
     ),
-    shown(
+    of_depth(
         &["release that moves an origin to the byte before"],
         plant(
             "origins-in-bytes",
@@ -976,15 +1186,18 @@ pub const PLANTS: &[Plant] = &[
         &[("    if class >= u64::from(desk[0]) {", "    let class = class % 256;\n    if class >= u64::from(desk[0]) {")],
     ),
     // The order of the refusals.
-    plant(
-        "order-8-4",
-        "8 before 4",
-        &[(
-            "usize::from(class) >= k {\n        return 4;",
-            "usize::from(class) >= k {
+    of_depth(
+        &["class K or more in a full frame"],
+        plant(
+            "order-8-4",
+            "8 before 4",
+            &[(
+                "usize::from(class) >= k {\n        return 4;",
+                "usize::from(class) >= k {
         let here = frame(core, desk[STATES + usize::from(core)]);
         return if kind == TAKE && usize::from(desk[DEPTHS + here]) == DEEPEST { 8 } else { 4 };",
-        )],
+            )],
+        ),
     ),
     plant(
         "order-5-4",
@@ -1017,20 +1230,23 @@ pub const PLANTS: &[Plant] = &[
     ),
     // The fit test.
     plant("mark-64-needs-8", "a soft-unsafe E needs the hard-unsafe S", &[("(m & 64 != 0 && m & 4 == 0)", "(m & 64 != 0 && m & 8 == 0)")]),
-    plant(
-        "unused-unread",
-        "the last byte of a frame may be anything while it is unused",
-        &[(
-            "holds[usize::from(depth)..].iter().any(|&h| h != 0)",
-            "holds[..DEEPEST - 1].iter().skip(usize::from(depth)).any(|&h| h != 0)",
-        )],
+    of_depth(
+        &["unused byte not 0 at the last place alone"],
+        plant(
+            "unused-unread",
+            "the last byte of a frame may be anything while it is unused",
+            &[(UNUSED_FIT, "holds[..DEEPEST - 1].iter().skip(usize::from(depth)).any(|&h| h != 0)")],
+        ),
     ),
-    plant(
-        "origin-unread",
-        "an origin may stand where no lock is held",
-        &[("!stands(place) && is_try(desk, HOLDS + place)", "false && !stands(place)")],
+    of_depth(
+        &[],
+        plant(
+            "origin-unread",
+            "an origin may stand where no lock is held",
+            &[(STRAY, "false && !stands(place)")],
+        ),
     ),
-    shown(
+    of_depth(
         &["origin right past the depth"],
         plant(
             "origin-next-unread",
@@ -1038,26 +1254,15 @@ pub const PLANTS: &[Plant] = &[
             &[("place % DEEPEST < usize::from(depths[place / DEEPEST])", "place % DEEPEST <= usize::from(depths[place / DEEPEST])")],
         ),
     ),
-    shown(
+    of_depth(
         &["origin at the last place of the last frame"],
-        plant("origin-last-unread", "the last origin of all is not looked at", &[("if (0..PLACES).any(", "if (0..PLACES - 1).any(")]),
+        plant("origin-last-unread", "the last origin of all is not looked at", &[(STRAY, "place + 1 < PLACES && is_try(desk, HOLDS + place) && !stands(place)")]),
     ),
-    shown(
-        &["origin in a byte of two frames"],
-        plant(
-            "origin-shared-unread",
-            "origins in a byte of two frames are looked at by the second of them only",
-            &[(
-                "if (0..PLACES).any(|place| !stands(place)",
-                "let shared = |place: usize| {
-        let next = (place / DEEPEST + 1) * DEEPEST;
-        next % 8 != 0 && place / 8 == next / 8
-    };
-    if (0..PLACES).any(|place| !stands(place) && !shared(place)",
-            )],
-        ),
+    of_depth(
+        &["origin in the last byte of a frame alone"],
+        plant("origin-byte-unread", "the origins in the last byte of a frame are not looked at", origins_fit_up_to!("40")),
     ),
-    shown(
+    of_depth(
         &["origin in an empty frame"],
         plant(
             "origin-empty-unread",
@@ -1069,13 +1274,13 @@ pub const PLANTS: &[Plant] = &[
         "origins-mixed",
         "a frame is unfit that has tries and locks that waited",
         &[(
-            "if (0..PLACES).any(|place| !stands(place) && is_try(desk, HOLDS + place)) {",
+            "if (ORIGINS..COUNT).any(|at| desk[at] != 0 && eight(at - ORIGINS).any(stray)) {",
             "let differ = |at: usize| is_try(desk, at) != is_try(desk, at - 1);
     let mixed = |place: usize| place % DEEPEST > 0 && stands(place) && differ(HOLDS + place);
-    if (0..PLACES).any(|place| mixed(place) || !stands(place) && is_try(desk, HOLDS + place)) {",
+    if (0..PLACES).any(|place| mixed(place) || stray(place)) {",
         )],
     ),
-    shown(
+    of_depth(
         &["hold byte of 192 or more with an origin"],
         plant(
             "hold-192",
@@ -1087,23 +1292,232 @@ pub const PLANTS: &[Plant] = &[
             )],
         ),
     ),
-    shown(
+    of_depth(
         &[
             "call on a desk without the origins", "call on a desk with part of the origins", "call on a desk without the count",
             "call on a desk with part of the count",
         ],
         plant(
             "desk-without-origins",
-            "a desk of 578 bytes is fit",
-            &[("    if desk.len() < DESK {", "    if desk.len() < ORIGINS {"), READS_SHORT, WRITES_SHORT, WORDS_SHORT, SET_WORDS_SHORT],
+            "a desk of 1,250 bytes is fit",
+            desk_unless!("desk.len() < ORIGINS"),
         ),
     ),
-    shown(
+    of_depth(
         &["call on a desk a byte short"],
         plant(
             "desk-a-byte-short",
-            "a desk a byte short is fit",
-            &[("    if desk.len() < DESK {", "    if desk.len() < DESK - 1 {"), WORDS_SHORT, SET_WORDS_SHORT],
+            "a desk of 1,397 bytes is fit",
+            desk_unless!("desk.len() < DESK - 1"),
+        ),
+    ),
+    of_depth(
+        &["call on a desk of 578 bytes"],
+        plant("desk-578", "a desk of 578 bytes is fit", desk_unless!("desk.len() < DESK && desk.len() != 578")),
+    ),
+    of_depth(
+        &["call on a desk of 638 bytes"],
+        plant("desk-638", "a desk of 638 bytes is fit", desk_unless!("desk.len() < DESK && desk.len() != 638")),
+    ),
+    of_depth(
+        &["call on a desk of 642 bytes"],
+        plant("desk-642", "a desk of 642 bytes is fit", desk_unless!("desk.len() < DESK && desk.len() != 642")),
+    ),
+    // Deep frames: the limit.
+    of_depth(&OVER_20, plant("limit-20", "8 from 20 held locks on", &[(EIGHT, "    if kind == TAKE && depth >= 20 {")])),
+    of_depth(
+        &["acquire that fills a frame"],
+        plant("limit-47", "8 from 47 held locks on", &[(EIGHT, "    if kind == TAKE && depth >= DEEPEST - 1 {")]),
+    ),
+    of_depth(&IN_FULL_FRAME, plant("limit-49", "8 from 49 held locks on", &[(EIGHT, "    if kind == TAKE && depth > DEEPEST {")])),
+    of_depth(
+        &["wait in a full frame"],
+        plant("limit-of-tries", "8 for tries only", &[(EIGHT, "    if kind == TAKE && depth == DEEPEST && mode >= TRY {")]),
+    ),
+    of_depth(
+        &["try in a full frame"],
+        plant("limit-of-waits", "no 8 for tries: the 49th is held", &[(EIGHT, "    if kind == TAKE && depth == DEEPEST && mode < TRY {")]),
+    ),
+    of_depth(
+        &["try over 20 to 31 held locks", "try over 32 to 46 held locks", "try that fills a frame"],
+        plant("limit-20-of-tries", "8 for tries from 20 held locks on", &[(EIGHT, "    if kind == TAKE && (depth == DEEPEST || mode >= TRY && depth >= 20) {")]),
+    ),
+    of_depth(
+        &["call on a fit desk with a depth of 21 to 47", "call on a fit desk with a full frame"],
+        plant("fit-limit-20", "a depth over 20 is unfit", &[(OVER_LIMIT, "depths.iter().any(|&d| usize::from(d) > 20)")]),
+    ),
+    of_depth(
+        &["call on a fit desk with a full frame"],
+        plant("fit-limit-47", "a depth of 48 is unfit", &[(OVER_LIMIT, "depths.iter().any(|&d| usize::from(d) > DEEPEST - 1)")]),
+    ),
+    of_depth(
+        &["depth of 49"],
+        plant("fit-limit-49", "a depth of 49 is fit", &[(OVER_LIMIT, "depths.iter().any(|&d| usize::from(d) > DEEPEST + 1)"), HELD_OVER, UNUSED_OVER]),
+    ),
+    of_depth(
+        &["depth of 64 to 112"],
+        plant(
+            "fit-limit-64-more",
+            "a depth of 64 more than a fit one is fit",
+            &[(OVER_LIMIT, "depths.iter().any(|&d| usize::from(d & !64) > DEEPEST)"), HELD_OVER, UNUSED_OVER],
+        ),
+    ),
+    // Deep frames: where a frame begins.
+    of_depth(&BY_STRIDE, plant("origin-stride-20", "a frame has 20 origin bits", origin_stride!("20"))),
+    of_depth(&BY_STRIDE, plant("origin-stride-40", "a frame has 40 origin bits", origin_stride!("40"))),
+    of_depth(&BY_STRIDE, plant("origin-stride-64", "a frame has 64 origin bits", origin_stride!("64"))),
+    of_depth(
+        &[],
+        plant("held-stride-20", "the step finds the locks of a frame 20 places behind those of the last", &[(FIRST_PLACE, "    let first = HOLDS + 20 * here;\n    let newest = ")]),
+    ),
+    of_depth(
+        &[],
+        plant(
+            "mark-stride-20",
+            "marks are given by the locks 20 places behind those of the last frame",
+            &[(FIRST_MARKED, "    let first = HOLDS + 20 * here;\n    for at in first..first + usize::from(desk[DEPTHS + here]) {")],
+        ),
+    ),
+    of_depth(
+        &[],
+        plant(
+            "fit-stride-20",
+            "the fit test finds the locks of a frame 20 places behind those of the last",
+            &[(
+                "let frames = || desk[HOLDS..ORIGINS].chunks_exact(DEEPEST).zip(depths);",
+                "let frames = || (0..FRAMES).map(|f| &desk[HOLDS + 20 * f..HOLDS + 20 * f + DEEPEST]).zip(depths);",
+            )],
+        ),
+    ),
+    // Deep frames: what is done up to some place only.
+    of_depth(
+        &["kind drawn first from place 20 on alone"],
+        plant("draws-20", "an acquire draws from the first 20 held locks only", draws_up_to!("20")),
+    ),
+    of_depth(
+        &["kind drawn first from place 32 on alone"],
+        plant("draws-32", "an acquire draws from the first 32 held locks only", draws_up_to!("32")),
+    ),
+    of_depth(
+        &["pair drawn first from place 20 on alone"],
+        plant("numbers-20", "a pair gets a number by the first 20 held locks only", numbers_up_to!("20")),
+    ),
+    of_depth(
+        &["pair drawn first from place 32 on alone"],
+        plant("numbers-32", "a pair gets a number by the first 32 held locks only", numbers_up_to!("32")),
+    ),
+    of_depth(&["mark from place 20 on alone"], plant("marks-20", "the first 20 held locks only are marked", marks_up_to!("20"))),
+    of_depth(&["mark from place 32 on alone"], plant("marks-32", "the first 32 held locks only are marked", marks_up_to!("32"))),
+    of_depth(
+        &["release at place 20 to 31", "release at place 32 to 46", "release at place 47"],
+        plant("newest-20", "a release finds the first 20 held locks only", finds_up_to!("20")),
+    ),
+    of_depth(
+        &["release at place 32 to 46", "release at place 47"],
+        plant("newest-32", "a release finds the first 32 held locks only", finds_up_to!("32")),
+    ),
+    of_depth(
+        &["release that moves a lock to place 20 or more"],
+        plant("moves-20", "locks move down to the first 20 places only", moves_up_to!("20")),
+    ),
+    of_depth(
+        &["release that moves a lock to place 32 or more"],
+        plant("moves-32", "locks move down to the first 32 places only", moves_up_to!("32")),
+    ),
+    of_depth(
+        &["release that moves an origin to place 20 or more"],
+        plant("origins-move-20", "origins move down to the first 20 places only", origins_up_to!("20")),
+    ),
+    of_depth(
+        &["release that moves an origin to place 32 or more"],
+        plant("origins-move-32", "origins move down to the first 32 places only", origins_up_to!("32")),
+    ),
+    of_depth(
+        &["try over 20 to 31 held locks", "try over 32 to 46 held locks", "try that fills a frame"],
+        plant("tries-20", "tries are kept at the first 20 places only", tries_up_to!("20")),
+    ),
+    of_depth(
+        &["try over 32 to 46 held locks", "try that fills a frame"],
+        plant("tries-32", "tries are kept at the first 32 places only", tries_up_to!("32")),
+    ),
+    of_depth(
+        &["held class of K or more from place 20 on alone", "hold byte of 192 or more from place 20 on alone"],
+        plant("fit-held-20", "the fit test looks at the first 20 held locks only", held_fit_up_to!("20")),
+    ),
+    of_depth(
+        &["held class of K or more from place 32 on alone", "hold byte of 192 or more from place 32 on alone"],
+        plant("fit-held-32", "the fit test looks at the first 32 held locks only", held_fit_up_to!("32")),
+    ),
+    of_depth(
+        &["unused byte not 0 from place 20 on alone"],
+        plant("fit-unused-20", "the fit test looks at the first 20 unused places only", unused_fit_up_to!("20")),
+    ),
+    of_depth(
+        &["unused byte not 0 from place 32 on alone"],
+        plant("fit-unused-32", "the fit test looks at the first 32 unused places only", unused_fit_up_to!("32")),
+    ),
+    of_depth(
+        &["origin from place 20 on alone"],
+        plant("fit-origins-20", "the fit test looks at the first 20 origins of a frame only", origins_fit_up_to!("20")),
+    ),
+    of_depth(
+        &["origin from place 32 on alone"],
+        plant("fit-origins-32", "the fit test looks at the first 32 origins of a frame only", origins_fit_up_to!("32")),
+    ),
+    of_depth(
+        &["origin behind the first 60 bytes alone"],
+        plant("fit-origins-60", "the fit test looks at the first 60 bytes of origins only", &[(STRAY, "place < 480 && is_try(desk, HOLDS + place) && !stands(place)")]),
+    ),
+    // Desks of earlier versions.
+    of_depth(
+        &[],
+        plant(
+            "count-638",
+            "the count is at byte 638",
+            &[
+                ("pub const COUNT: usize = ORIGINS + PLACES.div_ceil(8);", "pub const COUNT: usize = 638;"),
+                ("pub const DESK: usize = COUNT + WORD;", "pub const DESK: usize = ORIGINS + PLACES.div_ceil(8) + WORD;"),
+            ],
+        ),
+    ),
+    of_depth(&[], plant("count-638-read", "the count is read at byte 638", &[(OWN, "    let Some(own_number) = word_at(desk, 638).checked_add(1) else {\n        return 9;\n    };")])),
+    of_numbers(&[], plant("count-638-fit", "the fit test reads the count at byte 638", &[(FIT_COUNT, "    let count = word_at(desk, 638);")])),
+    of_depth(
+        &["old desk, zeros behind", "old desk, other bytes behind"],
+        plant("old-read", "an old desk in a longer buffer is read in the old layout", read_as_old!("desk.len() >= DESK")),
+    ),
+    of_depth(
+        &["old desk, zeros behind"],
+        plant(
+            "old-read-zeros",
+            "an old desk in a longer buffer is read in the old layout where zeros come behind it",
+            read_as_old!("desk.len() >= DESK && desk[642..DESK].iter().all(|&byte| byte == 0)"),
+        ),
+    ),
+    of_depth(
+        &["old desk, other bytes behind"],
+        plant(
+            "old-read-others",
+            "an old desk in a longer buffer is read in the old layout where other bytes come behind it",
+            read_as_old!("desk.len() >= DESK && desk[642..DESK].iter().any(|&byte| byte != 0)"),
+        ),
+    ),
+    of_depth(
+        &["old desk in a buffer too short today"],
+        plant("old-read-short", "an old desk in a buffer too short today is read in the old layout", read_as_old!("desk.len() < DESK")),
+    ),
+    of_depth(
+        &["old desk that reads the same"],
+        plant(
+            "old-refused",
+            "a desk with up to 20 held locks in core 0's task and zeros from there on is taken for an old one, and is unfit",
+            &[(
+                TOO_SHORT,
+                "    let alone = || desk[DEPTHS + 1..MARKS].iter().chain(&desk[HOLDS + 20..DESK]).all(|&byte| byte == 0);
+    if desk.len() < DESK || (1..=20).contains(&desk[DEPTHS]) && alone() {
+        return Some(CLAUSES[0]);
+    }",
+            )],
         ),
     ),
     // The slip.
@@ -2024,12 +2438,12 @@ static REFUSED: std::sync::atomic::AtomicU32 = std::sync::atomic::AtomicU32::new
             ],
         ),
     ),
-    shown(
+    of_depth(
         &["call on a desk without the count", "call on a desk with part of the count"],
         plant(
             "desk-without-count",
-            "a desk of 638 bytes is fit",
-            &[("    if desk.len() < DESK {", "    if desk.len() < COUNT {"), WORDS_SHORT, SET_WORDS_SHORT],
+            "a desk of 1,394 bytes is fit",
+            desk_unless!("desk.len() < COUNT"),
         ),
     ),
     // Opening.
@@ -2040,7 +2454,7 @@ static REFUSED: std::sync::atomic::AtomicU32 = std::sync::atomic::AtomicU32::new
         ],
         plant(
             "opening-without-origins",
-            "opening accepts a desk of 578 bytes",
+            "opening accepts a desk of 1,250 bytes",
             &[
                 ("if desk.len() < DESK || ", "if desk.len() < ORIGINS || "),
                 ("desk[..DESK].fill(0);", "let end = desk.len().min(DESK);\n    desk[..end].fill(0);"),
@@ -2067,12 +2481,32 @@ static REFUSED: std::sync::atomic::AtomicU32 = std::sync::atomic::AtomicU32::new
         &["opening of a desk without the count", "opening of a desk with part of the count"],
         plant(
             "opening-without-count",
-            "opening accepts a desk of 638 bytes",
+            "opening accepts a desk of 1,394 bytes",
             &[
                 ("if desk.len() < DESK || ", "if desk.len() < COUNT || "),
                 ("desk[..DESK].fill(0);", "let end = desk.len().min(DESK);\n    desk[..end].fill(0);"),
             ],
         ),
+    ),
+    of_depth(
+        &["opening of a desk a byte short"],
+        plant("opening-a-byte-short", "opening accepts a desk of 1,397 bytes", opening_of!("1397")),
+    ),
+    of_depth(
+        &["opening of a desk of 578 bytes"],
+        plant("opening-578", "opening accepts a desk of 578 bytes", opening_of!("578")),
+    ),
+    of_depth(
+        &["opening of a desk of 638 bytes"],
+        plant("opening-638", "opening accepts a desk of 638 bytes", opening_of!("638")),
+    ),
+    of_depth(
+        &["opening of a desk of 642 bytes"],
+        plant("opening-642", "opening accepts a desk of 642 bytes", opening_of!("642")),
+    ),
+    shown(
+        &["opening over held locks behind byte 642"],
+        plant("opening-642-cleared", "opening clears the first 642 bytes of a desk, the origins and the count", &[("desk[..DESK].fill(0);", "desk[..642].fill(0);\n    desk[ORIGINS..DESK].fill(0);")]),
     ),
     shown(
         &["opening over a count"],
@@ -3159,7 +3593,7 @@ static REFUSED: std::sync::atomic::AtomicU32 = std::sync::atomic::AtomicU32::new
         &["balance of -10,000"],
         plant("balance-minus-9999", "a balance stays at -9,999", balanced!("i32::max(takes[class] - releases[class], -9999)")),
     ),
-    plant("balance-20", "of a class 20 acquires count at most", &[(TAKEN, "            TAKE => takes[usize::from(class)] = i32::min(takes[usize::from(class)] + 1, DEEPEST as i32),")]),
+    plant("balance-48", "of a class 48 acquires count at most", &[(TAKEN, "            TAKE => takes[usize::from(class)] = i32::min(takes[usize::from(class)] + 1, DEEPEST as i32),")]),
     // What a desk would say.
     plant(
         "accepted-only",

@@ -155,11 +155,23 @@ FULL, power = said(r"At (\d+) \(2 to the (\d+), less 1\) it is full")
 check("a full count", [(1 << power) - 1, (1 << 8 * NUMBER) - 1], [FULL, FULL])
 check("the limits", [classes, cores, cores - 1, depth],
       said(r"K, the number of lock classes, is 1 to (\d+); (\d+) cores, 0 to (\d+); (\d+) held locks in a frame"))
+check("the limits of the header", [int(re.search(rf"define PLUNGEROWL_{name} (\d+)", header_text)[1]) for name in ("MAX_CLASSES", "CORES", "MAX_DEPTH")],
+      [classes, cores, depth])
+check("the desk of the header", re.findall(r"A desk has ([\d,]+)\s", header_text), [f"{DESK:,}"])
 
 
 def origin_place(frame, place):
     """The byte and the value of an origin bit, by the page's row."""
     return origins_at + (depth * frame + place) // 8, 1 << (depth * frame + place) % 8
+
+
+*OLD_DESKS, on_old, least = said(r"A desk of an earlier version \((\d+), (\d+) or (\d+) bytes\) is unfit in a buffer of its own length, and opening answers (\d+) there\. "
+                                 r"In a buffer of (\d+) bytes or more it is read as it stands, by the places above:")
+OLD_DEPTH = 20
+old_origins_at = held_at + frames * OLD_DEPTH
+old_count_at = old_origins_at + frames * OLD_DEPTH // 8
+check("desks of earlier versions", [old_origins_at, old_count_at, old_count_at + NUMBER, DESK], [*OLD_DESKS, least])
+check("opening them", [Buffers(desk=n).opened for n in OLD_DESKS], [on_old] * len(OLD_DESKS))
 
 
 def in_state(state, core=0, k=8):

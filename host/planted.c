@@ -63,6 +63,77 @@
     X(fit_numbers_of_64_classes, seen_past, wrong) \
     X(fit_count_without_numbers_refused, unfit_counts, wrong) \
     X(fit_number_as_count_refused_asked, unfit_numbers, wrong) \
+    X(depth_8_at_20, depth_steps, wrong) \
+    X(depth_8_at_32, depth_steps, wrong) \
+    X(depth_8_at_47, depth_limit, wrong) \
+    X(depth_8_at_20_in_handlers, depth_steps, wrong) \
+    X(depth_8_at_20_for_tries, depth_steps, wrong) \
+    X(depth_8_by_core, depth_three, wrong) \
+    X(depth_8_at_49, depth_limit, wrong) \
+    X(depth_8_at_49_for_tries, depth_limit, wrong) \
+    X(depth_8_at_49_in_handlers, depth_limit, wrong) \
+    X(depth_8_at_49_of_last_frame, depth_limit, wrong) \
+    X(depth_8_before_4, depth_limit, wrong) \
+    X(depth_9_before_8, depth_limit, wrong) \
+    X(fit_depth_limit_20, depth_steps, wrong) \
+    X(fit_depth_limit_32, depth_steps, wrong) \
+    X(fit_depth_limit_47, depth_limit, wrong) \
+    X(fit_depth_limit_20_asked, unfit_held, wrong) \
+    X(fit_depth_limit_47_asked, unfit_held, wrong) \
+    X(fit_depth_limit_49, unfit_held, wrong) \
+    X(fit_depth_limit_49_asked, unfit_held, wrong) \
+    X(fit_depth_limit_64, unfit_held, wrong) \
+    X(fit_held_from_20, unfit_held, wrong) \
+    X(fit_held_from_32, unfit_held, wrong) \
+    X(fit_held_at_47, unfit_held, wrong) \
+    X(fit_unused_from_20, unfit_held, wrong) \
+    X(fit_unused_from_32, unfit_held, wrong) \
+    X(fit_unused_at_47, unfit_held, wrong) \
+    X(fit_origins_from_20, unfit_origins, wrong) \
+    X(fit_origins_from_32, unfit_origins, wrong) \
+    X(fit_origins_at_47, unfit_origins, wrong) \
+    X(origin_stride_20, origin_bytes, wrong) \
+    X(origin_stride_40, origin_bytes, wrong) \
+    X(origin_stride_47, origin_bytes, wrong) \
+    X(origin_stride_49, origin_bytes, wrong) \
+    X(origin_stride_64, origin_bytes, wrong) \
+    X(origin_of_32_bits, origin_bytes, wrong) \
+    X(origin_lost_from_20, origin_acquires, wrong) \
+    X(origin_lost_from_32, origin_bytes, wrong) \
+    X(origin_clears_next_frame, origin_edges, wrong) \
+    X(origin_clears_frame_before, origin_edges, wrong) \
+    X(held_stride_20, origin_bytes, wrong) \
+    X(held_stride_47, depth_limit, wrong) \
+    X(held_stride_49, depth_steps, wrong) \
+    X(draws_from_first_20, depth_faults, wrong) \
+    X(draws_from_first_32, depth_faults, wrong) \
+    X(draws_from_first_46, depth_faults, wrong) \
+    X(marks_first_20, depth_marks, wrong) \
+    X(marks_first_32, depth_marks, wrong) \
+    X(marks_first_47, depth_marks, wrong) \
+    X(newest_of_first_20, depth_newest, wrong) \
+    X(newest_of_first_32, depth_newest, wrong) \
+    X(newest_of_first_47, depth_newest, wrong) \
+    X(remove_moves_first_20, depth_newest, wrong) \
+    X(remove_moves_first_32, depth_newest, wrong) \
+    X(remove_moves_first_46, depth_random, wrong) \
+    X(origins_move_first_20, origin_moves, wrong) \
+    X(origins_move_first_32, origin_moves, wrong) \
+    X(origins_move_first_40, origin_edges, wrong) \
+    X(origins_shift_32_bits, origin_moves, wrong) \
+    X(origins_move_next_frame_in, origin_edges, wrong) \
+    X(count_at_638, count, wrong) \
+    X(count_at_end_of_buffer, count, wrong) \
+    X(old_desk_read, old_desks, wrong) \
+    X(old_desk_read_asked, old_desks, wrong) \
+    X(open_desk_of_578, old_lengths, wrong) \
+    X(open_desk_of_638, old_lengths, wrong) \
+    X(open_desk_of_642, old_lengths, wrong) \
+    X(step_desk_of_578, old_lengths, wrong) \
+    X(step_desk_of_638, old_lengths, wrong) \
+    X(step_desk_of_642, old_lengths, wrong) \
+    X(ask_desk_of_642, old_lengths, wrong) \
+    X(ask_desk_short_by_one, old_lengths, wrong) \
     X(open_k_cut, open_refused, wrong) \
     X(open_desk_short_by_one, open_refused, wrong) \
     X(open_desk_without_origins, open_refused, wrong) \
@@ -130,8 +201,8 @@
     X(try_reads_exchanged, try_held_byte, wrong) \
     X(origin_never_set, origin_acquires, wrong) \
     X(origin_always_set, origin_acquires, wrong) \
-    X(origin_highest_bit_first, origin_shared, wrong) \
-    X(origin_by_place_first, origin_shared, wrong) \
+    X(origin_highest_bit_first, origin_bytes, wrong) \
+    X(origin_by_place_first, origin_bytes, wrong) \
     X(origin_clears_its_byte, origin_acquires, wrong) \
     X(release_moves_no_bits, origin_releases, wrong) \
     X(release_moves_next_frame_in, origin_releases, wrong) \
@@ -401,6 +472,12 @@
     X(short_seen_at_first_byte, feed_lengths, wrong) \
     X(short_slip_as_2, feed_lengths, wrong) \
     X(short_desk_at_first_byte, feed_lengths, wrong) \
+    X(feed_opens_desk_of_642, old_lengths_fed, wrong) \
+    X(feed_opens_desk_of_1397, old_lengths_fed, wrong) \
+    X(feed_steps_desk_of_642, old_lengths_fed, wrong) \
+    X(feed_steps_desk_of_1397, old_lengths_fed, wrong) \
+    X(feed_8_at_20, depth_fed, wrong) \
+    X(feed_8_at_49, depth_fed, wrong) \
     X(record_byte_by_byte, feed_record, wrong) \
     X(record_core_at_once, feed_record, wrong) \
     X(record_of_five_bytes, feed_record, wrong) \
@@ -625,6 +702,7 @@
     X(balance_below_0_not_kept, balance_order, wrong) \
     X(balance_at_most_1, balance_numbers, wrong) \
     X(balance_at_most_20, balance_numbers, wrong) \
+    X(balance_at_most_48, balance_numbers, wrong) \
     X(balance_at_most_127, balance_numbers, wrong) \
     X(balance_at_most_255, balance_numbers, wrong) \
     X(balance_at_most_4095, balance_numbers, wrong) \
@@ -761,6 +839,11 @@ static enum plant plant(void)
                 abort();
     }
     return (enum plant)number;
+}
+
+static int is_either(enum plant one, enum plant other)
+{
+    return plant() == one || plant() == other;
 }
 
 /* Reads a byte, whether or not it may. */
@@ -959,6 +1042,39 @@ static int refuses_number(const uint8_t *desk, const uint8_t *sheet,
     }
 }
 
+/* A depth over the limit. */
+static int has_depth_over(const uint8_t *desk, unsigned limit)
+{
+    unsigned i;
+
+    for (i = 0; i < FRAMES; i++)
+        if (desk[DEPTHS_AT + i] > limit)
+            return 1;
+    return 0;
+}
+
+/* At a place from the given one on: a lock that is unfit, or a byte or an
+ * origin bit where no lock stands. */
+enum at_place { UNFIT_LOCK, UNUSED_BYTE, STRAY_BIT };
+
+static int has_from(const uint8_t *desk, unsigned from, enum at_place what)
+{
+    unsigned i;
+
+    for (i = 0; i < PLACES; i++) {
+        int stands = i % DEPTH < desk[DEPTHS_AT + i / DEPTH];
+        unsigned held = desk[HELD_AT + i];
+
+        if (i % DEPTH >= from
+            && (what == UNFIT_LOCK ? stands && (held % 64 >= desk[0]
+                                                || held >= 192)
+                : what == UNUSED_BYTE ? !stands && held != 0
+                : !stands && bit_at(desk, i)))
+            return 1;
+    }
+    return 0;
+}
+
 /* A clause of the fit test is not seen, most of them at one place (K is 8). */
 static int clause_missed(const uint8_t *desk, const uint8_t *sheet)
 {
@@ -990,6 +1106,19 @@ static int clause_missed(const uint8_t *desk, const uint8_t *sheet)
     case fit_origin_at_depth: return depths[4] > 0 && depths[4] < DEPTH
                                      && bit_at(desk, 4 * DEPTH + depths[4]);
     case fit_no_origins: return has_stray_origin(desk);
+    case fit_depth_limit_49: return !has_depth_over(desk, 49)
+                                    && has_depth_over(desk, 48);
+    case fit_depth_limit_64: return !has_depth_over(desk, 64)
+                                    && has_depth_over(desk, 48);
+    case fit_held_from_20: return has_from(desk, 20, UNFIT_LOCK);
+    case fit_held_from_32: return has_from(desk, 32, UNFIT_LOCK);
+    case fit_held_at_47: return has_from(desk, 47, UNFIT_LOCK);
+    case fit_unused_from_20: return has_from(desk, 20, UNUSED_BYTE);
+    case fit_unused_from_32: return has_from(desk, 32, UNUSED_BYTE);
+    case fit_unused_at_47: return has_from(desk, 47, UNUSED_BYTE);
+    case fit_origins_from_20: return has_from(desk, 20, STRAY_BIT);
+    case fit_origins_from_32: return has_from(desk, 32, STRAY_BIT);
+    case fit_origins_at_47: return has_from(desk, 47, STRAY_BIT);
     default: return 0;
     }
 }
@@ -1246,6 +1375,252 @@ static void spoil_accepted(struct call *c)
         spoil_marks(c);
 }
 
+/* ------------------------------------------------------- frames of 48 locks */
+
+/* An acquire that a wrong version refuses with 8. */
+static int is_full_early(const struct call *c)
+{
+    const uint8_t *depths = c->old_desk + DEPTHS_AT;
+    unsigned depth = depths[c->old_frame];
+
+    if (c->kind != PLUNGEROWL_ACQUIRE)
+        return 0;
+    switch (plant()) {
+    case depth_8_at_20: return depth >= 20;
+    case depth_8_at_32: return depth >= 32;
+    case depth_8_at_47: return depth >= 47;
+    case depth_8_at_20_in_handlers: return depth >= 20 && c->old_frame % 3 > 0;
+    case depth_8_at_20_for_tries: return depth >= 20 && c->mode >= TRY;
+    case depth_8_by_core:
+        return depths[3 * c->core] + depths[3 * c->core + 1]
+               + depths[3 * c->core + 2] >= DEPTH;
+    default: return 0;
+    }
+}
+
+/* An acquire at full depth that a wrong version accepts. */
+static int is_full_late(const struct call *c)
+{
+    switch (plant()) {
+    case depth_8_at_49: return 1;
+    case depth_8_at_49_for_tries: return c->mode >= TRY;
+    case depth_8_at_49_in_handlers: return c->old_frame % 3 > 0;
+    case depth_8_at_49_of_last_frame: return c->old_frame == FRAMES - 1;
+    default: return 0;
+    }
+}
+
+/* A depth that a wrong version finds unfit. */
+static int is_unfit_early(const uint8_t *desk)
+{
+    switch (plant()) {
+    case fit_depth_limit_20: return has_depth_over(desk, 20);
+    case fit_depth_limit_32: return has_depth_over(desk, 32);
+    case fit_depth_limit_47: return has_depth_over(desk, 47);
+    default: return 0;
+    }
+}
+
+/* How many places of a frame a wrong version looks at. */
+static unsigned places_looked_at(void)
+{
+    switch (plant()) {
+    case draws_from_first_20: case marks_first_20: case newest_of_first_20:
+    case remove_moves_first_20: case origins_move_first_20:
+    case origin_lost_from_20: return 20;
+    case draws_from_first_32: case marks_first_32: case newest_of_first_32:
+    case remove_moves_first_32: case origins_move_first_32:
+    case origin_lost_from_32: return 32;
+    case origins_move_first_40: return 40;
+    case draws_from_first_46: case remove_moves_first_46: return 46;
+    case marks_first_47: case newest_of_first_47: return 47;
+    default: return DEPTH;
+    }
+}
+
+/* The origin bit of an acquired lock, or its byte, elsewhere. */
+static void put_elsewhere(struct call *c, unsigned place)
+{
+    unsigned index = DEPTH * c->old_frame + place;
+    uint8_t *held = c->desk + HELD_AT;
+    uint8_t byte = held[index];
+    int tried = c->mode >= TRY;
+    unsigned stride = 0, other;
+
+    switch (plant()) {
+    case origin_stride_20: case held_stride_20: stride = 20; break;
+    case origin_stride_40: stride = 40; break;
+    case origin_stride_47: case held_stride_47: stride = 47; break;
+    case origin_stride_49: case held_stride_49: stride = 49; break;
+    case origin_stride_64: stride = 64; break;
+    default: break;
+    }
+    other = stride * c->old_frame + place;
+    if (plant() >= held_stride_20 && plant() <= held_stride_49) {
+        held[index] = 0;
+        held[other] = byte;
+    } else if (stride > 0) {
+        put_bit(c->desk, index, 0);
+        if (other < PLACES)
+            put_bit(c->desk, other, tried);
+    }
+    if (plant() == origin_of_32_bits && place >= 32 && tried) {
+        put_bit(c->desk, index, 0);
+        put_bit(c->desk, index - 32, 1);
+    }
+    if (is_either(origin_lost_from_20, origin_lost_from_32)
+        && place >= places_looked_at())
+        put_bit(c->desk, index, 0);
+    if (plant() == origin_clears_next_frame && place == DEPTH - 1
+        && index + 1 < PLACES)
+        put_bit(c->desk, index + 1, 0);
+    if (plant() == origin_clears_frame_before && place == 0 && index > 0)
+        put_bit(c->desk, index - 1, 0);
+}
+
+/* Dependencies from the first places only. */
+static void draw_again(struct call *c, unsigned depth)
+{
+    const uint8_t *held = c->old_desk + HELD_AT + DEPTH * c->old_frame;
+    uint32_t count = number_at(c->desk + ACCEPTED_AT);
+    unsigned i;
+
+    memcpy(c->sheet, c->old_sheet, PLUNGEROWL_SHEET_SIZE(c->k));
+    memcpy(c->seen, c->old_seen, PLUNGEROWL_SEEN_SIZE(c->k));
+    for (i = 0; i < depth && i < places_looked_at() && c->mode < TRY; i++) {
+        unsigned pair = held[i] % 64 * c->k + c->class_;
+
+        c->sheet[pair] |= (uint8_t)kind_of(held[i] / 64, c->mode);
+        if (number_at(c->seen + NUMBER * pair) == 0)
+            put_number(c->seen + NUMBER * pair, count);
+    }
+}
+
+static void mark_again(struct call *c)
+{
+    unsigned frame = current_frame(c->desk, c->core), i;
+    unsigned state = c->desk[PLUNGEROWL_STATES_AT + c->core];
+
+    memcpy(c->desk + MARKS_AT, c->old_desk + MARKS_AT, PLUNGEROWL_MAX_CLASSES);
+    for (i = 0; i < c->desk[DEPTHS_AT + frame] && i < places_looked_at(); i++) {
+        unsigned held = c->desk[HELD_AT + DEPTH * frame + i];
+
+        c->desk[MARKS_AT + held % 64]
+            |= (uint8_t)(unsafe_of(state, held / 64)
+                         | (bit_at(c->desk, DEPTH * frame + i) ? 0
+                            : safe_of(state, held / 64)));
+    }
+}
+
+/* A release that looks at the first places only, or moves no others; 0 if it
+ * finds no lock. */
+static int release_again(struct call *c, unsigned depth)
+{
+    unsigned first = DEPTH * c->old_frame, limit = places_looked_at();
+    const uint8_t *held = c->old_desk + HELD_AT + first;
+    unsigned at = depth, i;
+
+    if (plant() >= newest_of_first_20 && plant() <= newest_of_first_47) {
+        for (i = 0; i < depth && i < limit; i++)
+            if (held[i] % 64 == c->class_)
+                at = i;
+        if (at < depth)
+            release_at(c, at);
+        return at < depth;
+    }
+    while (held[--at] % 64 != c->class_)
+        ;
+    if (plant() >= remove_moves_first_20 && plant() <= remove_moves_first_46)
+        for (i = at < limit ? limit : at; i + 1 < depth; i++)
+            c->desk[HELD_AT + first + i] = held[i];
+    if (plant() >= origins_move_first_20 && plant() <= origins_move_first_40)
+        for (i = at < limit ? limit : at; i + 1 < depth; i++)
+            put_bit(c->desk, first + i, bit_at(c->old_desk, first + i));
+    if (plant() == origins_shift_32_bits && at < 32 && depth > 32)
+        put_bit(c->desk, first + 31, 0);
+    if (plant() == origins_move_next_frame_in && depth == DEPTH
+        && first + DEPTH < PLACES)
+        put_bit(c->desk, first + DEPTH - 1, bit_at(c->old_desk, first + DEPTH));
+    return 1;
+}
+
+/* All as it was before the record. */
+static uint8_t take_back(struct call *c, uint8_t *slip, uint8_t answer)
+{
+    memcpy(c->desk, c->old_desk, DESK_SIZE);
+    memcpy(c->sheet, c->old_sheet, PLUNGEROWL_SHEET_SIZE(c->k));
+    memcpy(c->seen, c->old_seen, PLUNGEROWL_SEEN_SIZE(c->k));
+    memcpy(slip, c->old_slip, PLUNGEROWL_SLIP_SIZE(c->k));
+    return answer;
+}
+
+/* What a wrong version makes of a step in a deep frame; gives the answer. */
+static uint8_t spoil_deep(struct call *c, size_t desk_len, uint8_t *slip,
+                          uint8_t answer)
+{
+    unsigned depth = c->old_desk[DEPTHS_AT + c->old_frame];
+    uint8_t number[NUMBER];
+
+    if (answer == PLUNGEROWL_BAD_CLASS && plant() == depth_8_before_4
+        && c->kind == PLUNGEROWL_ACQUIRE && depth == DEPTH)
+        return PLUNGEROWL_FRAME_FULL;
+    if (answer == PLUNGEROWL_FRAME_FULL && plant() == depth_9_before_8
+        && number_at(c->desk + ACCEPTED_AT) == UINT32_MAX)
+        return PLUNGEROWL_COUNT_FULL;
+    if (answer == PLUNGEROWL_FRAME_FULL && is_full_late(c))
+        return PLUNGEROWL_OK;
+    if (answer > PLUNGEROWL_FAULT)
+        return answer;
+    if (is_unfit_early(c->old_desk))
+        return take_back(c, slip, PLUNGEROWL_UNFIT);
+    if (is_full_early(c))
+        return take_back(c, slip, PLUNGEROWL_FRAME_FULL);
+    if (c->kind == PLUNGEROWL_ACQUIRE) {
+        put_elsewhere(c, depth);
+        if (plant() >= draws_from_first_20 && plant() <= draws_from_first_46)
+            draw_again(c, depth);
+    }
+    if (c->kind == PLUNGEROWL_RELEASE && !release_again(c, depth))
+        return take_back(c, slip, PLUNGEROWL_NOT_HELD);
+    if (plant() >= marks_first_20 && plant() <= marks_first_47)
+        mark_again(c);
+    memcpy(number, c->desk + ACCEPTED_AT, NUMBER);
+    if (is_either(count_at_638, count_at_end_of_buffer)) {
+        memcpy(c->desk + ACCEPTED_AT, c->old_desk + ACCEPTED_AT, NUMBER);
+        memcpy(c->desk + (plant() == count_at_638 ? 638 : desk_len - NUMBER),
+               number, NUMBER);
+    }
+    return answer;
+}
+
+/* A desk of 642 bytes as it was before, with 20 locks in a frame, made into one
+ * of now, and back. */
+static void turn_desk(uint8_t *old, uint8_t *now, int back)
+{
+    unsigned frame, place;
+
+    if (!back)
+        memset(now, 0, DESK_SIZE);
+    memcpy(back ? old : now, back ? now : old, HELD_AT);
+    memcpy(back ? old + 638 : now + ACCEPTED_AT,
+           back ? now + ACCEPTED_AT : old + 638, NUMBER);
+    for (frame = 0; frame < FRAMES; frame++) {
+        for (place = 0; place < 20; place++) {
+            unsigned was = 20 * frame + place, is = DEPTH * frame + place;
+            uint8_t *byte = old + 578 + was / 8;
+
+            if (back) {
+                old[HELD_AT + was] = now[HELD_AT + is];
+                *byte = (uint8_t)((*byte & ~(1u << was % 8))
+                                  | (unsigned)bit_at(now, is) << was % 8);
+            } else {
+                now[HELD_AT + is] = old[HELD_AT + was];
+                put_bit(now, is, *byte >> was % 8 & 1);
+            }
+        }
+    }
+}
+
 /* --------------------------------------------------------- the cycle shown */
 
 /* Most wrong versions try all cycles, and are right with many classes. */
@@ -1278,11 +1653,6 @@ static int is_weak(unsigned kind, unsigned next)
 {
     return (kind == PLUNGEROWL_ER || kind == PLUNGEROWL_SR)
            && next >= PLUNGEROWL_SR;
-}
-
-static int is_either(enum plant one, enum plant other)
-{
-    return plant() == one || plant() == other;
 }
 
 /* The numbers of a slip's entries, as they should be. */
@@ -1734,6 +2104,9 @@ static int opens_short(uint64_t classes, size_t desk_len, size_t sheet_len,
     case open_desk_short_by_one: return desk_len == DESK_SIZE - 1;
     case open_desk_without_origins: return desk_len == ORIGINS_AT;
     case open_desk_without_count: return desk_len == ACCEPTED_AT;
+    case open_desk_of_578: return desk_len == 578;
+    case open_desk_of_638: return desk_len == 638;
+    case open_desk_of_642: return desk_len == 642;
     case open_sheet_short_by_one: return classes == 8 && sheet_len == 63;
     case open_seen_short_by_one: return classes == 8 && seen_len == 255;
     case open_seen_of_k_x_k: return classes == 8 && seen_len == 64;
@@ -1852,6 +2225,15 @@ static uint8_t wrong_answer(uint8_t answer, const uint8_t *desk,
                ? PLUNGEROWL_OK : answer;
     case step_desk_without_count:
         return answer == PLUNGEROWL_UNFIT && desk_len == ACCEPTED_AT
+               ? PLUNGEROWL_OK : answer;
+    case step_desk_of_578:
+        return answer == PLUNGEROWL_UNFIT && desk_len == 578
+               ? PLUNGEROWL_OK : answer;
+    case step_desk_of_638:
+        return answer == PLUNGEROWL_UNFIT && desk_len == 638
+               ? PLUNGEROWL_OK : answer;
+    case step_desk_of_642:
+        return answer == PLUNGEROWL_UNFIT && desk_len == 642
                ? PLUNGEROWL_OK : answer;
     case step_seen_short_by_one:
         return answer == PLUNGEROWL_UNFIT && seen_len == 255
@@ -2302,6 +2684,7 @@ uint8_t plungerowl_step(uint8_t *desk, size_t desk_len,
                         const uint8_t *record, size_t record_len)
 {
     static struct call call;
+    uint8_t now[DESK_SIZE];
     int kept = are_long(desk, desk_len, sheet_len, seen_len)
                && record_len == PLUNGEROWL_RECORD_SIZE
                && record[2] < PLUNGEROWL_CORES;
@@ -2318,6 +2701,17 @@ uint8_t plungerowl_step(uint8_t *desk, size_t desk_len,
                                 ? slip_len : sizeof call.old_slip);
     answer = step_counted(&call, kept, desk, desk_len, sheet, sheet_len,
                           seen, seen_len, slip, slip_len, record, record_len);
+    if (kept && plant() >= depth_8_at_20 && plant() <= count_at_end_of_buffer)
+        answer = spoil_deep(&call, desk_len, slip, answer);
+    if (plant() == old_desk_read && answer == PLUNGEROWL_UNFIT
+        && desk_len >= DESK_SIZE) {
+        turn_desk(desk, now, 0);
+        answer = real_step(now, sizeof now, sheet, sheet_len, seen, seen_len,
+                           slip, slip_len, record, record_len);
+        if (answer <= PLUNGEROWL_FAULT)
+            turn_desk(desk, now, 1);
+        return answer;
+    }
     if (answer <= PLUNGEROWL_FAULT)
         spoil_accepted(&call);
     if (answer <= PLUNGEROWL_FAULT && plant() >= clash_flipped_5
@@ -2379,6 +2773,7 @@ uint8_t plungerowl_ask(const uint8_t *desk, size_t desk_len,
                        uint64_t class_, uint64_t *word, uint32_t *count)
 {
     uint64_t old_word = *word;
+    uint8_t old[DESK_SIZE], now[DESK_SIZE];
     uint8_t answer;
 
     if (plant() == ask_class_cut)
@@ -2419,6 +2814,35 @@ uint8_t plungerowl_ask(const uint8_t *desk, size_t desk_len,
     case ask_seen_after_class:
         if (answer == PLUNGEROWL_UNFIT && seen_len == 255 && class_ >= 8)
             return PLUNGEROWL_BAD_CLASS;
+        break;
+    case ask_desk_of_642:
+        if (answer == PLUNGEROWL_UNFIT && desk_len == 642)
+            return PLUNGEROWL_OK;
+        break;
+    case ask_desk_short_by_one:
+        if (answer == PLUNGEROWL_UNFIT && desk_len == DESK_SIZE - 1)
+            return PLUNGEROWL_OK;
+        break;
+    case fit_depth_limit_20_asked:
+        if (answer == PLUNGEROWL_OK && has_depth_over(desk, 20))
+            return PLUNGEROWL_UNFIT;
+        break;
+    case fit_depth_limit_47_asked:
+        if (answer == PLUNGEROWL_OK && has_depth_over(desk, 47))
+            return PLUNGEROWL_UNFIT;
+        break;
+    case fit_depth_limit_49_asked:
+        if (answer == PLUNGEROWL_UNFIT && desk_len >= DESK_SIZE
+            && has_depth_over(desk, 48) && !has_depth_over(desk, 49))
+            return PLUNGEROWL_OK;
+        break;
+    case old_desk_read_asked:
+        if (answer == PLUNGEROWL_UNFIT && desk_len >= DESK_SIZE) {
+            memcpy(old, desk, sizeof old);
+            turn_desk(old, now, 0);
+            return real_ask(now, sizeof now, sheet, sheet_len, seen, seen_len,
+                            class_, word, count);
+        }
         break;
     case ask_desk_without_count:
         if (answer == PLUNGEROWL_UNFIT && desk_len == ACCEPTED_AT)
@@ -2687,6 +3111,9 @@ static void judge_header(struct lent *l, struct progress *p)
     if (l->desk_len >= DESK_SIZE)
         memcpy(count, l->desk + ACCEPTED_AT, NUMBER);
     p->answer = open_late ? PLUNGEROWL_OK : open_lent(l, k);
+    if ((plant() == feed_opens_desk_of_642 && l->desk_len == 642)
+        || (plant() == feed_opens_desk_of_1397 && l->desk_len == 1397))
+        p->answer = PLUNGEROWL_OK;
     p->opened = p->answer == PLUNGEROWL_OK;
     p->count = 0;
     if (p->opened) {
@@ -2720,16 +3147,33 @@ static void judge_header(struct lent *l, struct progress *p)
     }
 }
 
+/* How many locks the frame holds in which a record acquires one, else 0. */
+static unsigned fed_depth(const struct lent *l, const struct progress *p)
+{
+    if (l->desk_len < DESK_SIZE || p->count < RECORD_SIZE
+        || p->loose[2] >= PLUNGEROWL_CORES || p->loose[3] != PLUNGEROWL_ACQUIRE)
+        return 0;
+    return l->desk[DEPTHS_AT + current_frame(l->desk, p->loose[2])];
+}
+
 static void judge_record(struct lent *l, struct progress *p)
 {
     static struct call call;
-    unsigned i;
+    unsigned i, depth;
 
     if (plant() == feed_counts_by_its_number && l->desk_len >= DESK_SIZE)
         put_number(l->desk + ACCEPTED_AT, (uint32_t)p->number);
-    p->answer = real_step(l->desk, l->desk_len, l->sheet, l->sheet_len,
-                          l->seen, l->seen_len, l->slip, l->slip_len,
-                          p->loose, p->count);
+    depth = fed_depth(l, p);
+    p->answer = plant() == feed_8_at_20 && depth >= 20 ? PLUNGEROWL_FRAME_FULL
+                : real_step(l->desk, l->desk_len, l->sheet, l->sheet_len,
+                            l->seen, l->seen_len, l->slip, l->slip_len,
+                            p->loose, p->count);
+    if ((plant() == feed_8_at_49 && p->answer == PLUNGEROWL_FRAME_FULL)
+        || (p->answer == PLUNGEROWL_UNFIT
+            && ((plant() == feed_steps_desk_of_642 && l->desk_len == 642)
+                || (plant() == feed_steps_desk_of_1397
+                    && l->desk_len == 1397))))
+        p->answer = PLUNGEROWL_OK;
     if (p->answer == PLUNGEROWL_FAULT && plant() >= feed_shows_second
         && plant() <= feed_shows_cut) {
         keep_old(&call, l->desk, l->sheet, l->seen, l->seen_len, p->loose);
@@ -3438,6 +3882,7 @@ static int32_t kept(int32_t sum)
     case balance_below_0_not_kept: return sum < 0 ? 0 : sum;
     case balance_at_most_1: return sum > 1 ? 1 : sum;
     case balance_at_most_20: return sum > 20 ? 20 : sum;
+    case balance_at_most_48: return sum > 48 ? 48 : sum;
     case balance_at_most_127: return sum > 127 ? 127 : sum;
     case balance_at_most_255: return sum > 255 ? 255 : sum;
     case balance_at_most_4095: return sum > 4095 ? 4095 : sum;
@@ -3624,7 +4069,7 @@ static unsigned judge_sums(const int32_t sums[CLASSES])
     for (c = 0; c < CLASSES; c++) {
         below |= sums[c] < 0;
         above |= sums[c] > 0;
-        full |= sums[c] > 20;
+        full |= sums[c] > 48;
     }
     switch (plant()) {
     case balance_below_0_as_5: return below ? 5 : 0;

@@ -778,9 +778,9 @@ static void expect_no_reach(struct buffers *b, uint64_t class_, unsigned answer,
 static void test_sizes(void)
 {
     check(CLOSED_AT == 1 && STATES_AT == 2 && DEPTHS_AT == 10 && MARKS_AT == 34
-          && HELD_AT == 98 && ORIGINS_AT == 578 && ACCEPTED_AT == 638,
+          && HELD_AT == 98 && ORIGINS_AT == 1250 && ACCEPTED_AT == 1394,
           "places on the desk");
-    check(PLUNGEROWL_DESK_SIZE == 642, "desk size");
+    check(PLUNGEROWL_DESK_SIZE == 1398, "desk size");
     check(PLUNGEROWL_SHEET_SIZE(3 + 5) == 64, "sheet size");
     check(PLUNGEROWL_SEEN_SIZE(3 + 5) == 256, "size of the second sheet");
     check(PLUNGEROWL_SLIP_SIZE(3 + 5) == 57, "slip size");
@@ -823,8 +823,8 @@ static void test_numbers(void)
     check(PLUNGEROWL_SOURCE_HOLD == 0 && PLUNGEROWL_SOURCE_HARD == 1
           && PLUNGEROWL_SOURCE_SOFT == 2, "numbers of the sources");
     check(PLUNGEROWL_MAX_CLASSES == 64 && PLUNGEROWL_CORES == 8
-          && PLUNGEROWL_MAX_DEPTH == 20 && PLUNGEROWL_FRAMES == 24
-          && PLUNGEROWL_PLACES == 480 && PLUNGEROWL_HEADER_SIZE == 4,
+          && PLUNGEROWL_MAX_DEPTH == 48 && PLUNGEROWL_FRAMES == 24
+          && PLUNGEROWL_PLACES == 1152 && PLUNGEROWL_HEADER_SIZE == 4,
           "limits");
 }
 
@@ -919,9 +919,9 @@ static void expect_p2(size_t tail)
     /* The example of docs/FORMATS.md, after its last record. */
     desk[13] = 2;
     desk[35] = desk[36] = 0x44;
-    desk[158] = 2;
-    desk[159] = 1;
-    desk[638] = 6;
+    desk[242] = 2;
+    desk[243] = 1;
+    desk[1394] = 6;
     seen[20] = 2;
     seen[28] = 6;
 
@@ -1398,10 +1398,10 @@ static void test_try_example(void)
     desk[36] = 0x4C;
     desk[98] = 0x02;
     desk[99] = 0x80;
-    desk[118] = 0x42;
-    desk[578] = 0x01;
-    desk[580] = 0x10;
-    desk[638] = 6;
+    desk[146] = 0x42;
+    desk[1250] = 0x01;
+    desk[1256] = 0x01;
+    desk[1394] = 6;
     seen[12] = seen[24] = 3;
 
     open_buffers(&b, 3, 0);
@@ -1416,9 +1416,9 @@ static void test_try_example(void)
     expect_step(&b, 0, ACQUIRE, 2, E, 1, "try example, 2E");
     desk[1] = 1;
     desk[36] = 0x5C;
-    desk[118] = 0x02;
-    desk[580] = 0;
-    desk[638] = 8;
+    desk[146] = 0x02;
+    desk[1256] = 0;
+    desk[1394] = 8;
     check_desk(&b, 0, desk, sizeof desk, "try example, fault");
     check(memcmp(b.sheet.bytes, sheet, sizeof sheet) == 0,
           "try example: sheet");
@@ -1467,13 +1467,21 @@ static int is_try(unsigned pattern, unsigned place)
 static void put_frame(struct buffers *b, unsigned frame, unsigned depth,
                       unsigned pattern)
 {
+    uint8_t held[DEPTH] = { 0 }, origins[DEPTH / 8] = { 0 };
+    size_t held_at = HELD_AT + DEPTH * (size_t)frame;
+    size_t origins_at = ORIGINS_AT + DEPTH / 8 * (size_t)frame;
     unsigned i;
 
-    put_desk(b, DEPTHS_AT + frame, depth);
-    for (i = 0; i < DEPTH; i++) {
-        put_desk(b, HELD_AT + DEPTH * frame + i, i < depth ? i + 64 * R : 0);
-        put_origin(b, frame, i, i < depth && is_try(pattern, i));
+    for (i = 0; i < depth; i++) {
+        held[i] = (uint8_t)(i + 64 * R);
+        if (is_try(pattern, i))
+            origins[i / 8] |= (uint8_t)(1u << i % 8);
     }
+    put_desk(b, DEPTHS_AT + frame, depth);
+    memcpy(b->desk.bytes + held_at, held, sizeof held);
+    memcpy(b->want_desk.bytes + held_at, held, sizeof held);
+    memcpy(b->desk.bytes + origins_at, origins, sizeof origins);
+    memcpy(b->want_desk.bytes + origins_at, origins, sizeof origins);
 }
 
 /* The frame is its core's current one and has the depth and the pattern; every
@@ -1501,20 +1509,33 @@ static void test_origin_acquires(void)
     struct buffers b;
     unsigned frame, place, pattern;
 
-    open_buffers(&b, 64, 0);
+    open_buffers(&b, 49, 0);
     for (frame = 0; frame < FRAMES; frame++) {
         for (place = 0; place < DEPTH; place++) {
             for (pattern = 0; pattern < ONE_TRY; pattern++) {
                 put_full(&b, frame, place, pattern);
-                expect_step(&b, frame / 3, ACQUIRE, 63, TRY + R, 0,
+                expect_step(&b, frame / 3, ACQUIRE, 48, TRY + R, 0,
                             "a try over others");
                 put_full(&b, frame, place, pattern);
-                expect_step(&b, frame / 3, ACQUIRE, 63, R, 0,
+                expect_step(&b, frame / 3, ACQUIRE, 48, R, 0,
                             "an acquire over others");
             }
         }
     }
     free_buffers(&b);
+}
+
+/* Whether a release at the place is tried with the pattern: a single try is put
+ * near the place, at the ends and at an edge of bytes; everywhere in the first
+ * frame and the last one only, to save time. */
+static int is_released_with(unsigned frame, unsigned place, unsigned pattern)
+{
+    unsigned one = pattern - ONE_TRY;
+
+    return pattern < ONE_TRY || frame == 0 || frame == FRAMES - 1
+           || one + 1 == place || one == place || one == place + 1
+           || one == 0 || one == DEPTH - 1 || one == 32
+           || (one % 8 == 0 && one == place + 8);
 }
 
 /* At every place of every frame a release moves down the origin bits above it,
@@ -1524,13 +1545,17 @@ static void test_origin_releases(void)
     struct buffers b;
     unsigned frame, place, pattern;
 
-    open_buffers(&b, 64, 0);
+    open_buffers(&b, 48, 0);
     for (frame = 0; frame < FRAMES; frame++) {
         for (place = 0; place < DEPTH; place++) {
             for (pattern = 0; pattern < PATTERNS; pattern++) {
+                if (!is_released_with(frame, place, pattern))
+                    continue;
                 put_full(&b, frame, DEPTH, pattern);
                 expect_step(&b, frame / 3, RELEASE, place, 0, 0,
                             "release in a full frame");
+                if (pattern >= ONE_TRY && pattern - ONE_TRY > place)
+                    continue;
                 put_full(&b, frame, place + 1, pattern);
                 expect_step(&b, frame / 3, RELEASE, place, 0, 0,
                             "release of the newest");
@@ -1540,44 +1565,182 @@ static void test_origin_releases(void)
     free_buffers(&b);
 }
 
-/* By hand: bits 0 to 3 of byte 580 are places 16 to 19 of core 0's task, bits 4
- * to 7 are places 0 to 3 of its soft handler. */
-static void test_origin_shared(void)
+/* A state in which the frame may have held locks. */
+static unsigned state_for(unsigned frame)
 {
-    static const uint8_t acquired[] = { 0, 0, 0x9A, 0x01, 0 };
-    static const uint8_t released_1[] = { 0, 0, 0xDA, 0, 0 };
-    static const uint8_t released_0[] = { 0, 0, 0x6A, 0, 0 };
-    static const uint8_t left_soft[] = { 0, 0, 0x0A, 0, 0 };
-    static const uint8_t moved[] = { 0, 0, 0x05, 0, 0 };
-    static const uint8_t moved_on[] = { 0, 0x80, 0x02, 0, 0 };
+    static const unsigned states[] = { 0, 4, 6 };
+
+    return states[frame % 3];
+}
+
+/* By hand: the six bytes of a frame, each frame's for itself. Its places 0, 7,
+ * 8, 31, 32 and 47 are tried, and no other. The bytes of all other frames are
+ * 0, and so are the held bytes of all other places. */
+static void test_origin_bytes(void)
+{
+    static const uint8_t due[6] = { 0x81, 0x01, 0, 0x80, 0x01, 0x80 };
+    struct buffers b;
+    unsigned frame, i;
+
+    for (frame = 0; frame < 24; frame++) {
+        open_buffers(&b, 64, 0);
+        put_desk(&b, 2 + frame / 3, state_for(frame));
+        for (i = 0; i < 48; i++) {
+            int tried = i == 0 || i == 7 || i == 8 || i == 31 || i == 32
+                        || i == 47;
+
+            expect_step(&b, frame / 3, ACQUIRE, i + 1, tried ? TRY + R : R, 0,
+                        "six bytes, acquire");
+            check_byte(&b, 98 + 48 * frame + i, i + 1 + 128, "six bytes, held");
+            check_byte(&b, 10 + frame, i + 1, "six bytes, depth");
+        }
+        for (i = 0; i < 1152; i++)
+            check((b.desk.bytes[98 + i] != 0) == (i / 48 == frame),
+                  "six bytes: held byte %u with frame %u", i, frame);
+        for (i = 0; i < 144; i++)
+            check_byte(&b, 1250 + i, i / 6 == frame ? due[i % 6] : 0,
+                       "six bytes, of all frames");
+        expect_step(&b, frame / 3, RELEASE, 2, 0, 0, "six bytes, release");
+        for (i = 0; i < 144; i++) {
+            static const uint8_t moved[6] = { 0xC1, 0, 0, 0xC0, 0, 0x40 };
+
+            check_byte(&b, 1250 + i, i / 6 == frame ? moved[i % 6] : 0,
+                       "six bytes, moved");
+        }
+        free_buffers(&b);
+    }
+}
+
+/* Release the lock at a place of a core's current frame. No other lock of its
+ * class is newer. */
+static void release_at(struct buffers *b, unsigned core, unsigned place,
+                       const char *what)
+{
+    unsigned frame = current_frame(b->desk.bytes, core);
+
+    expect_step(b, core, RELEASE,
+                b->desk.bytes[98 + 48 * frame + place] % 64, 0, 0, what);
+}
+
+static void release_all(struct buffers *b, unsigned core, const char *what)
+{
+    unsigned frame = current_frame(b->desk.bytes, core);
+
+    while (b->desk.bytes[10 + frame] > 0)
+        release_at(b, core, b->desk.bytes[10 + frame] - 1u, what);
+}
+
+/* By hand: bit 7 of byte 1255 is place 47 of core 0's task, bit 0 of byte 1256
+ * is place 0 of its soft handler, and so on to its hard handler and to core 1.
+ * All three frames are full; what moves in one leaves the others. */
+static void test_origin_edges(void)
+{
+    /* Task, soft and hard handler of core 0, and task of core 1. */
+    static const uint8_t rows[][24] = {
+        { 0x81, 0x01, 0x10, 0x80, 0x81, 0x81, 0x03, 0x03, 0, 0, 0, 0x40,
+          0x01, 0, 0, 0, 0, 0x80, 0x01 },
+        { 0x81, 0x01, 0x10, 0x80, 0x81, 0x81, 0x03, 0x03, 0, 0, 0, 0x40,
+          0, 0, 0, 0, 0, 0x40, 0x01 }, /* hard, place 0 */
+        { 0x81, 0x01, 0x10, 0x80, 0x81, 0x81, 0x03, 0x03, 0, 0, 0, 0x40,
+          0, 0, 0, 0, 0, 0, 0x01 }, /* hard, place 46 */
+        { 0x81, 0x01, 0x10, 0x80, 0x81, 0x81, 0x03, 0x01, 0, 0, 0, 0x20,
+          0, 0, 0, 0, 0, 0, 0x01 }, /* soft, place 8 */
+        { 0x81, 0x01, 0x10, 0x80, 0x81, 0x81, 0x83, 0, 0, 0, 0, 0x10,
+          0, 0, 0, 0, 0, 0, 0x01 }, /* soft, place 7 */
+        { 0x81, 0x01, 0x10, 0x80, 0x81, 0x81, 0x41, 0, 0, 0, 0, 0x08,
+          0, 0, 0, 0, 0, 0, 0x01 }, /* soft, place 0 */
+        { 0xC0, 0, 0x08, 0xC0, 0xC0, 0x40, 0, 0, 0, 0, 0, 0,
+          0, 0, 0, 0, 0, 0, 0x01 }, /* task, place 0 */
+        { 0xC0, 0, 0x08, 0x40, 0x60, 0x20, 0, 0, 0, 0, 0, 0,
+          0, 0, 0, 0, 0, 0, 0x01 }, /* task, place 31 */
+        { 0xC0, 0, 0x08, 0x40, 0x30, 0x10, 0, 0, 0, 0, 0, 0,
+          0, 0, 0, 0, 0, 0, 0x01 }, /* task, place 32 */
+        { 0xC0, 0, 0x08, 0x40, 0x30, 0x08, 0, 0, 0, 0, 0, 0,
+          0, 0, 0, 0, 0, 0, 0x01 }, /* task, place 39 */
+        { 0xC0, 0, 0x08, 0x40, 0x30, 0x04, 0, 0, 0, 0, 0, 0,
+          0, 0, 0, 0, 0, 0, 0x01 }, /* task, place 40 */
+        { 0xC0, 0, 0x04, 0x20, 0x18, 0x02, 0, 0, 0, 0, 0, 0,
+          0, 0, 0, 0, 0, 0, 0x01 }  /* task, place 8 */
+    };
+    static const uint8_t in_task[] = { 0, 31, 32, 39, 40, 8 };
     struct buffers b;
     unsigned i;
 
     open_buffers(&b, 64, 0);
-    for (i = 0; i < DEPTH; i++)
-        expect_step(&b, 0, ACQUIRE, i, i == 17 || i == 19 ? TRY + R : R, 0,
-                    "shared byte, tries at places 17 and 19");
-    expect_step(&b, 0, ENTER_SOFT, 0, 0, 0, "shared byte, enter soft");
-    for (i = 0; i < 5; i++)
-        expect_step(&b, 0, ACQUIRE, 30 + i, i % 4 == 0 || i == 3 ? TRY + R : R,
-                    0, "shared byte, tries at places 0, 3 and 4");
-    check_desk(&b, 578, acquired, sizeof acquired, "shared byte");
-    expect_step(&b, 0, RELEASE, 31, 0, 0, "shared byte, release at place 1");
-    check_desk(&b, 578, released_1, sizeof released_1, "shared byte, place 1");
-    expect_step(&b, 0, RELEASE, 30, 0, 0, "shared byte, release at place 0");
-    check_desk(&b, 578, released_0, sizeof released_0, "shared byte, place 0");
-    for (i = 32; i < 35; i++)
-        expect_step(&b, 0, RELEASE, i, 0, 0, "shared byte, leaving soft");
-    check_desk(&b, 578, left_soft, sizeof left_soft, "shared byte, soft left");
-    expect_step(&b, 0, EXIT_SOFT, 0, 0, 0, "shared byte, exit soft");
-    expect_step(&b, 0, RELEASE, 0, 0, 0, "shared byte, release in the task");
-    check_desk(&b, 578, moved, sizeof moved, "shared byte, moved in the task");
-    expect_step(&b, 0, RELEASE, 1, 0, 0, "shared byte, once more");
-    check_desk(&b, 578, moved_on, sizeof moved_on, "shared byte, moved on");
+    expect_step(&b, 1, ACQUIRE, 5, TRY + R, 0, "edges, core 1");
+    for (i = 0; i < 48; i++)
+        expect_step(&b, 0, ACQUIRE, i, i % 32 == 0 || i % 32 == 7
+                    || i % 32 == 8 || i == 20 || i == 31 || i == 47
+                    ? TRY + R : R, 0, "edges, task");
+    expect_step(&b, 0, ENTER_SOFT, 0, 0, 0, "edges, enter soft");
+    for (i = 0; i < 48; i++)
+        expect_step(&b, 0, ACQUIRE, 16 + i, i < 2 || i == 8 || i == 9
+                    || i == 46 ? TRY + R : R, 0, "edges, soft");
+    expect_step(&b, 0, ENTER_HARD, 0, 0, 0, "edges, enter hard");
+    for (i = 0; i < 48; i++)
+        expect_step(&b, 0, ACQUIRE, 63 - i, i == 0 || i == 47 ? TRY + R : R,
+                    0, "edges, hard");
+    check_desk(&b, 1250, rows[0], 24, "edges, all acquired");
+    release_at(&b, 0, 0, "edges, hard, release at place 0");
+    check_desk(&b, 1250, rows[1], 24, "edges, hard, place 0");
+    release_at(&b, 0, 46, "edges, hard, release at place 46");
+    check_desk(&b, 1250, rows[2], 24, "edges, hard, place 46");
+    release_all(&b, 0, "edges, hard, the others");
+    expect_step(&b, 0, EXIT_HARD, 0, 0, 0, "edges, exit hard");
+    check_desk(&b, 1250, rows[2], 24, "edges, hard left");
+    release_at(&b, 0, 8, "edges, soft, release at place 8");
+    check_desk(&b, 1250, rows[3], 24, "edges, soft, place 8");
+    release_at(&b, 0, 7, "edges, soft, release at place 7");
+    check_desk(&b, 1250, rows[4], 24, "edges, soft, place 7");
+    release_at(&b, 0, 0, "edges, soft, release at place 0");
+    check_desk(&b, 1250, rows[5], 24, "edges, soft, place 0");
+    release_all(&b, 0, "edges, soft, the others");
+    expect_step(&b, 0, EXIT_SOFT, 0, 0, 0, "edges, exit soft");
+    for (i = 0; i < sizeof in_task; i++) {
+        release_at(&b, 0, in_task[i], "edges, task, release");
+        check_desk(&b, 1250, rows[6 + i], 24, "edges, task");
+    }
+    release_all(&b, 0, "edges, task, the others");
+    for (i = 0; i < 144; i++)
+        check_byte(&b, 1250 + i, i == 18, "edges, all released");
     free_buffers(&b);
 }
 
-/* By hand: the last bit of the desk is place 19 of core 7's hard handler. */
+/* By hand: a full frame with a pattern of tries over its six bytes; the release
+ * at place 0 moves them all by one. */
+static void test_origin_moves(void)
+{
+    static const uint8_t before[6] = { 0xB3, 0x5D, 0xE4, 0x96, 0x2B, 0x99 };
+    static const uint8_t after[6] = { 0xD9, 0x2E, 0x72, 0xCB, 0x95, 0x4C };
+    /* Their last byte without place 46, and without place 47. */
+    static const uint8_t without[2] = { 0x59, 0x19 };
+    struct buffers b;
+    unsigned frame, i;
+
+    open_buffers(&b, 64, 0);
+    for (frame = 0; frame < 24; frame++) {
+        size_t at = 1250 + 6 * (size_t)frame;
+
+        put_full(&b, frame, 48, NO_TRIES);
+        for (i = 0; i < 6; i++)
+            put_desk(&b, at + i, before[i]);
+        expect_step(&b, frame / 3, RELEASE, 0, 0, 0, "moves, place 0");
+        check_desk(&b, at, after, 6, "moves, place 0");
+        for (i = 0; i < 2; i++) {
+            put_full(&b, frame, 48, NO_TRIES);
+            for (at = 0; at < 6; at++)
+                put_desk(&b, 1250 + 6 * (size_t)frame + at, before[at]);
+            expect_step(&b, frame / 3, RELEASE, 46 + i, 0, 0,
+                        "moves, the last places");
+            at = 1250 + 6 * (size_t)frame;
+            check_desk(&b, at, before, 5, "moves, the last places");
+            check_byte(&b, at + 5, without[i], "moves, the last places");
+        }
+    }
+    free_buffers(&b);
+}
+
+/* By hand: the last bit of the desk is place 47 of core 7's hard handler. */
 static void test_origin_last(void)
 {
     struct buffers b;
@@ -1586,13 +1749,13 @@ static void test_origin_last(void)
     open_buffers(&b, 64, 0);
     expect_step(&b, 7, ENTER_HARD, 0, 0, 0, "last bit, enter hard");
     for (i = 0; i < DEPTH; i++)
-        expect_step(&b, 7, ACQUIRE, i, i == 19 ? TRY + R : R, 0,
-                    "last bit, a try at place 19");
-    check_byte(&b, 637, 0x80, "last bit");
+        expect_step(&b, 7, ACQUIRE, i, i == 47 ? TRY + R : R, 0,
+                    "last bit, a try at place 47");
+    check_byte(&b, 1393, 0x80, "last bit");
     expect_step(&b, 7, RELEASE, 3, 0, 0, "last bit, release below");
-    check_byte(&b, 637, 0x40, "last bit, moved");
-    expect_step(&b, 7, RELEASE, 19, 0, 0, "last bit, release of the try");
-    check_byte(&b, 637, 0, "last bit, gone");
+    check_byte(&b, 1393, 0x40, "last bit, moved");
+    expect_step(&b, 7, RELEASE, 47, 0, 0, "last bit, release of the try");
+    check_byte(&b, 1393, 0, "last bit, gone");
     free_buffers(&b);
 }
 
@@ -1999,21 +2162,23 @@ static void test_unfit_heads(void)
     free_buffers(&b);
 }
 
-/* A state in which the frame may have held locks. */
-static unsigned state_for(unsigned frame)
+/* The values of a held byte at each place; at some every value is tried. */
+static int is_tried_value(unsigned frame, unsigned place, unsigned value)
 {
-    static const unsigned states[] = { 0, 4, 6 };
-
-    return states[frame % 3];
+    return (frame + place) % 16 == 0 || place == 0 || place == 20
+           || place == DEPTH - 1 || value % 64 == 0 || value % 64 == 7
+           || value % 64 == 8 || value % 64 == 63;
 }
 
-/* Every value of the byte of a standing held lock, acquired by a try or not. */
+/* The byte of a standing held lock, acquired by a try or not. */
 static void expect_held_byte(struct buffers *b, unsigned frame, unsigned place)
 {
     size_t at = HELD_AT + DEPTH * (size_t)frame + place;
     unsigned value;
 
     for (value = 0; value < 2 * 256; value++) {
+        if (!is_tried_value(frame, place, value))
+            continue;
         put_origin(b, frame, place, value / 256);
         if (value % 64 >= 8)
             expect_unfit_with(b, at, value % 256,
@@ -2029,6 +2194,7 @@ static void expect_held_byte(struct buffers *b, unsigned frame, unsigned place)
     put_desk(b, at, 0);
 }
 
+/* A depth of 48 is fit, and a higher one is not. */
 static void test_unfit_held(void)
 {
     struct buffers b;
@@ -2039,13 +2205,15 @@ static void test_unfit_held(void)
         size_t held = HELD_AT + DEPTH * (size_t)frame;
 
         put_desk(&b, STATES_AT + frame / 3, state_for(frame));
-        for (depth = DEPTH + 1; depth < 256; depth++)
-            expect_unfit_with(&b, DEPTHS_AT + frame, depth, "depth over 20");
-        for (depth = 0; depth <= DEPTH; depth++) {
+        for (depth = 49; depth < 256; depth++)
+            expect_unfit_with(&b, DEPTHS_AT + frame, depth, "depth over 48");
+        for (depth = 0; depth <= 48; depth++) {
             put_desk(&b, DEPTHS_AT + frame, depth);
             expect_no_reach(&b, 0, 0, "a fit depth");
             for (i = depth; i < DEPTH; i++)
-                expect_unfit_with(&b, held + i, 1 + 12 * i, "unused byte");
+                if (frame % 11 == 1 || i == depth || i % 19 == 9
+                    || i == DEPTH - 1)
+                    expect_unfit_with(&b, held + i, 1 + 5 * i, "unused byte");
         }
         for (i = 0; i < DEPTH; i++)
             expect_held_byte(&b, frame, i);
@@ -2053,6 +2221,14 @@ static void test_unfit_held(void)
         put_desk(&b, STATES_AT + frame / 3, 0);
     }
     free_buffers(&b);
+}
+
+/* Depths for each frame: the ends, and both sides of byte and word edges and of
+ * what was the limit before. Some frames have all. */
+static int is_tried_depth(unsigned frame, unsigned depth)
+{
+    return frame % 11 == 1 || depth % 8 <= 1 || depth % 8 == 7 || depth == 20
+           || depth == 21;
 }
 
 /* An origin bit is 0 from the depth of its frame on, and free below. */
@@ -2065,6 +2241,8 @@ static void test_unfit_origins(void)
     for (frame = 0; frame < FRAMES; frame++) {
         put_desk(&b, STATES_AT + frame / 3, state_for(frame));
         for (depth = 0; depth <= DEPTH; depth++) {
+            if (!is_tried_depth(frame, depth))
+                continue;
             put_desk(&b, DEPTHS_AT + frame, depth);
             for (i = 0; i < DEPTH; i++) {
                 put_origin(&b, frame, i, 1);
@@ -4477,7 +4655,7 @@ static void check_number(const uint8_t *at, uint32_t number, const char *what)
 static void check_count(const struct buffers *b, uint32_t count,
                         const char *what)
 {
-    check_number(b->desk.bytes + 638, count, what);
+    check_number(b->desk.bytes + 1394, count, what);
 }
 
 static void check_seen(const struct buffers *b, unsigned from, unsigned to,
@@ -5332,6 +5510,592 @@ static void test_feed_count_full(void)
     free_feed(&f);
 }
 
+/* ------------------------------------------------------- frames of 48 locks */
+
+/* In every frame, by each mode: the 48th lock is accepted and the 49th is not,
+ * whatever its mode. 4 is before 8 and 8 before 9; after a release there is
+ * room again, for one. Every other frame that may have locks is full. */
+static void test_depth_limit(void)
+{
+    struct buffers b;
+    unsigned frame, mode, i;
+
+    open_buffers(&b, 64, 0);
+    for (frame = 0; frame < 24; frame++) {
+        for (mode = 0; mode < MODES; mode++) {
+            unsigned core = frame / 3, count = 100 * (MODES * frame + mode);
+
+            put_full(&b, frame, 47, mode); /* a pattern of its own */
+            put_count(&b, count);
+            expect_step(&b, core, ACQUIRE, 63, mode, 0, "the 48th");
+            check_byte(&b, 10 + frame, 48, "the 48th");
+            check_byte(&b, 98 + 48 * frame + 47, 63 + 64 * (mode % TRY),
+                       "the 48th");
+            for (i = 0; i < MODES; i++) {
+                expect_step(&b, core, ACQUIRE, 62, i, 8, "the 49th");
+                expect_step(&b, core, ACQUIRE, 63, i, 8, "the 49th, its class");
+                expect_step(&b, core, ACQUIRE, 64, i, 4, "4 before 8");
+            }
+            expect_step(&b, core, ACQUIRE, 62, MODES, 3, "3 before 8");
+            put_count(&b, UINT32_MAX);
+            for (i = 0; i < MODES; i++)
+                expect_step(&b, core, ACQUIRE, 62, i, 8, "8 before 9");
+            expect_step(&b, core, ACQUIRE, 255, mode, 4, "4 before 8 and 9");
+            expect_step(&b, core, RELEASE, 5, 0, 9, "9 for a release");
+            put_count(&b, count + 50);
+            put_desk(&b, CLOSED_AT, 1);
+            expect_step(&b, core, ACQUIRE, 62, mode, 10, "10 before 8");
+            put_desk(&b, CLOSED_AT, 0);
+            expect_no_reach(&b, 62, 0, "asked with full frames");
+            expect_step(&b, core, RELEASE, 5, 0, 0, "room again");
+            expect_step(&b, core, ACQUIRE, 62, mode, 0, "the 48th again");
+            expect_step(&b, core, ACQUIRE, 5, mode, 8, "the 49th again");
+            expect_step(&b, core, RELEASE, 62, 0, 0, "room at the end");
+            expect_step(&b, core, ACQUIRE, 62, TRY + mode % TRY, 0,
+                        "the 48th by a try");
+            expect_step(&b, core, ACQUIRE, 5, R, 8, "full once more");
+        }
+    }
+    free_buffers(&b);
+}
+
+/* From opening on, in every frame: nothing is special about any lock up to the
+ * 48th. Each is acquired exclusively, every third by a try, over all before. */
+static void test_depth_steps(void)
+{
+    struct buffers b;
+    unsigned frame, i;
+
+    for (frame = 0; frame < 24; frame++) {
+        unsigned core = frame / 3, start = frame % 3 != 0;
+
+        open_buffers(&b, 64, 0);
+        if (start)
+            expect_step(&b, core, frame % 3 == 1 ? ENTER_SOFT : ENTER_HARD,
+                        0, 0, 0, "48 steps, enter");
+        for (i = 0; i < 48; i++) {
+            expect_step(&b, core, ACQUIRE, i, i % 3 == 2 ? TRY + E : E, 0,
+                        "48 steps");
+            check_byte(&b, 10 + frame, i + 1, "48 steps, depth");
+            check_byte(&b, 98 + 48 * frame + i, i, "48 steps, held");
+            check_byte(&b, 1394, i + 1 + start, "48 steps, count");
+            check(i % 3 == 2 || i == 0 || b.sheet.bytes[64 * (i - 1) + i] == 2,
+                  "48 steps: dependency from place %u", i - 1);
+        }
+        expect_step(&b, core, ACQUIRE, 48, E, 8, "48 steps, one more");
+        expect_step(&b, core, ACQUIRE, 48, TRY + R, 8, "48 steps, a try more");
+        check_byte(&b, 10 + frame, 48, "48 steps, no more");
+        for (i = 48; i-- > 0;)
+            expect_step(&b, core, RELEASE, (i * 7 + 3) % 48, 0, 0,
+                        "48 steps, back");
+        expect_step(&b, core, RELEASE, 3, 0, 5, "48 steps, all released");
+        free_buffers(&b);
+    }
+}
+
+/* Task, soft and hard handler of a core, all full; each is released in turn. */
+static void test_depth_three(void)
+{
+    static const unsigned enter[] = { HARD_ON, ENTER_SOFT, ENTER_HARD };
+    static const unsigned leave[] = { HARD_ON, EXIT_SOFT, EXIT_HARD };
+    struct buffers b;
+    unsigned core, level, i;
+
+    for (core = 0; core < 8; core += 7) {
+        open_buffers(&b, 64, 0);
+        for (level = 0; level < 3; level++) {
+            expect_step(&b, core, enter[level], 0, 0, 0, "three, enter");
+            for (i = 0; i < 48; i++)
+                expect_step(&b, core, ACQUIRE, i + 8 * level,
+                            i % 2 == 0 ? R : TRY + R, 0, "three, fill");
+            for (i = 0; i < MODES; i++)
+                expect_step(&b, core, ACQUIRE, 1, i, 8, "three, full");
+        }
+        for (level = 0; level < 3; level++)
+            check_byte(&b, 10 + 3 * core + level, 48, "three, depths");
+        for (i = 0; i < 144; i++) {
+            check_byte(&b, 98 + 144 * core + i, 128 + i % 48 + 8 * (i / 48),
+                       "three, held");
+            check_byte(&b, 1250 + i, i / 18 == core ? 0xAA : 0,
+                       "three, origin bits");
+        }
+        expect_no_reach(&b, 63, 0, "three, ask");
+        for (level = 3; level-- > 0;) {
+            expect_step(&b, core, ACQUIRE, 1, TRY + E, 8, "three, full again");
+            for (i = 0; i < 47; i++)
+                release_at(&b, core, i % 2 == 0 ? 0 : 47 - i,
+                           "three, release");
+            if (level > 0)
+                expect_step(&b, core, leave[level], 0, 0, 7, "three, one left");
+            release_at(&b, core, 0, "three, the last");
+            expect_step(&b, core, leave[level], 0, 0, 0, "three, leave");
+        }
+        free_buffers(&b);
+    }
+}
+
+/* A full frame of locks of class 0 shared by recursive reads, but for one of
+ * class 1 at the place. */
+static void put_one(struct buffers *b, unsigned frame, unsigned depth,
+                    unsigned place, unsigned mode)
+{
+    unsigned i;
+
+    put_frame(b, frame, depth, NO_TRIES);
+    for (i = 0; i < depth; i++)
+        put_desk(b, 98 + 48 * frame + i, i == place ? 1 + 64 * (mode % TRY)
+                                                    : 64 * R);
+    put_origin(b, frame, place, mode >= TRY);
+}
+
+/* A fault that needs the dependency from one place: from each up to 46, drawn
+ * by the lock that comes next and by the 48th. None is drawn from place 47, for
+ * the 49th lock is refused. */
+static void test_depth_faults(void)
+{
+    static const uint8_t slip[] = { 2, 1, 2, 0, 0, 0, 0, 0, 2, 2, 0 };
+    static const uint8_t frames[] = { 0, 13, 23 };
+    static const uint8_t states[] = { 3, 5, 8 };
+    struct buffers b;
+    unsigned i, place, last, tried;
+
+    for (i = 0; i < 3 * 47 * 2; i++) {
+        unsigned frame = frames[i % 3], core = frame / 3;
+
+        place = i / 3 % 47;
+        last = i / 3 / 47;
+        for (tried = 0; tried < 2; tried++) {
+            uint8_t due[sizeof slip];
+
+            open_buffers(&b, 8, 0);
+            put_desk(&b, STATES_AT + core, states[i % 3]);
+            put_sheet(&b, 2, 1, PLUNGEROWL_EN);
+            put_one(&b, frame, last ? 47 : place + 1, place,
+                    tried ? TRY + E : E);
+            put_count(&b, 0x40000000);
+            expect_step(&b, core, ACQUIRE, 2, TRY + E, 0, "a try draws none");
+            expect_step(&b, core, RELEASE, 2, 0, 0, "a try released");
+            expect_step(&b, core, ACQUIRE, 2, E, 1, "from one place");
+            memcpy(due, slip, sizeof due);
+            set_low_first(due + 4, 0x40000003);
+            check(memcmp(b.slip.bytes, due, sizeof due) == 0,
+                  "from place %u: slip", place);
+            free_buffers(&b);
+        }
+    }
+    /* And from none: the frame is full. */
+    open_buffers(&b, 8, 0);
+    put_desk(&b, STATES_AT, 3);
+    put_sheet(&b, 2, 1, PLUNGEROWL_EN);
+    put_one(&b, 0, 48, 47, E);
+    expect_step(&b, 0, ACQUIRE, 2, E, 8, "from place 47");
+    free_buffers(&b);
+}
+
+/* The lock at each place of a full frame is marked when hard and soft
+ * interrupts come on, and is a fault where its class is safe. */
+static void test_depth_marks(void)
+{
+    struct buffers b;
+    unsigned frame, place, mode;
+
+    open_buffers(&b, 8, 0);
+    for (frame = 0; frame < 24; frame++) {
+        unsigned core = frame / 3, soft = frame % 3 == 1;
+
+        if (frame % 3 == 2)
+            continue; /* no event comes in a hard handler */
+        for (place = 0; place < 48; place++) {
+            for (mode = 0; mode < MODES; mode++) {
+                unsigned unsafe = mode % TRY == E ? 4 : 8;
+                unsigned safe = soft && mode < TRY ? mode == R ? 32 : 16 : 0;
+
+                if (frame > 1 && (frame + place) % MODES != mode)
+                    continue;
+                put_desk(&b, STATES_AT + core, soft ? 5 : 3);
+                put_desk(&b, MARKS_AT, 0);
+                put_desk(&b, MARKS_AT + 1, 0);
+                put_one(&b, frame, 48, place, mode);
+                expect_step(&b, core, HARD_ON, 0, 0, 0, "hard on, 48 locks");
+                check_byte(&b, MARKS_AT + 1, unsafe + safe, "hard on, place");
+                if (soft)
+                    continue;
+                expect_step(&b, core, SOFT_ON, 0, 0, 0, "soft on, 48 locks");
+                check_byte(&b, MARKS_AT + 1, 17 * unsafe, "soft on, place");
+            }
+        }
+        put_frame(&b, frame, 0, NO_TRIES);
+        put_desk(&b, STATES_AT + core, 0);
+    }
+    free_buffers(&b);
+
+    for (place = 0; place < 48; place++) {
+        for (mode = 0; mode < 2; mode++) { /* at hard, at soft */
+            open_buffers(&b, 8, 0);
+            put_desk(&b, STATES_AT + 2, 3 - mode * 2);
+            put_desk(&b, MARKS_AT + 1, 1 + 15 * mode);
+            put_one(&b, 6, 48, place, place % 2 == 0 ? E : TRY + E);
+            expect_step(&b, 2, SOFT_OFF, 0, 0, 0, "still off, 48 locks");
+            expect_step(&b, 2, mode == 0 ? HARD_ON : SOFT_ON, 0, 0, 1,
+                        "on, and a fault by one of 48");
+            free_buffers(&b);
+        }
+    }
+
+    /* And in a hard handler, by the next acquire, or by a release. */
+    open_buffers(&b, 8, 0);
+    for (place = 0; place < 47; place++) {
+        for (mode = 0; mode < MODES; mode++) {
+            unsigned safe = mode >= TRY ? 0 : mode == R ? 2 : 1;
+
+            put_desk(&b, STATES_AT + 7, 8);
+            put_desk(&b, MARKS_AT + 1, 0);
+            put_one(&b, 23, 47, place, mode);
+            expect_step(&b, 7, ACQUIRE, 2, R, 0, "the 48th in a handler");
+            check_byte(&b, MARKS_AT + 1, safe, "the 48th in a handler");
+            put_desk(&b, MARKS_AT + 1, 0);
+            expect_step(&b, 7, RELEASE, 2, 0, 0, "47 in a handler");
+            check_byte(&b, MARKS_AT + 1, safe, "47 in a handler");
+        }
+    }
+    free_buffers(&b);
+}
+
+/* Of two locks of a class, at any two places, the newer is released; one alone
+ * is found at every place, and none is found where there is none. */
+static void test_depth_newest(void)
+{
+    static const unsigned frames[] = { 0, 22 };
+    struct buffers b;
+    unsigned i, older, newer;
+
+    open_buffers(&b, 8, 0);
+    put_desk(&b, STATES_AT + 7, 5);
+    for (i = 0; i < 2; i++) {
+        for (newer = 0; newer < 48; newer++) {
+            for (older = 0; older <= newer; older++) {
+                size_t at = 98 + 48 * (size_t)frames[i];
+
+                if (older != newer && older + 1 != newer && older % 5 != 0)
+                    continue;
+                put_one(&b, frames[i], 48, newer, TRY + r);
+                put_desk(&b, at + older, 1 + 64 * (older == newer ? r : R));
+                expect_step(&b, frames[i] / 3, RELEASE, 1, 0, 0, "the newer");
+                check_byte(&b, at + older, older != newer ? 1 + 64 * R
+                           : older < 47 ? 64 * R : 0, "the older stays");
+                check_byte(&b, at + newer, newer < 47 ? 64 * R : 0,
+                           "the newer goes");
+                expect_step(&b, frames[i] / 3, RELEASE, 2, 0, 5, "no lock");
+                if (older == newer)
+                    expect_step(&b, frames[i] / 3, RELEASE, 1, 0, 5,
+                                "no lock any more");
+            }
+        }
+        put_frame(&b, frames[i], 0, NO_TRIES);
+    }
+    free_buffers(&b);
+}
+
+/* The answer to a record that is not malformed, by the copies: no fault. */
+static unsigned deep_answer(const struct buffers *b, unsigned core,
+                            unsigned kind, unsigned class_)
+{
+    const uint8_t *desk = b->want_desk.bytes;
+    unsigned frame = current_frame(desk, core), i = 0;
+    unsigned depth = desk[10 + frame];
+
+    if (kind >= HARD_ON)
+        return next_state[desk[STATES_AT + core]][kind - HARD_ON] < 0 ? 6
+               : depth > 0 && (kind == EXIT_SOFT || kind == EXIT_HARD) ? 7 : 0;
+    if (kind == ACQUIRE)
+        return depth < 48 ? 0 : 8;
+    while (i < depth && desk[98 + 48 * frame + i] % 64 != class_)
+        i++;
+    return i < depth ? 0 : 5;
+}
+
+/* Random records over deep frames, read locks and tries only: none is a fault.
+ * There are times of many acquires and times of many releases. */
+static void test_depth_random(void)
+{
+    static const unsigned modes[] = { R, R, TRY + r, TRY + R };
+    struct buffers b;
+    unsigned met[9] = { 0 }, i;
+
+    seed = 20261117 + sides;
+    open_buffers(&b, 40, 0);
+    for (i = 0; i < 6000; i++) {
+        unsigned core = below(3) == 0 ? 7 : 4 * below(2);
+        unsigned class_ = below(40), kind, answer;
+        unsigned frame = current_frame(b.desk.bytes, core);
+        unsigned depth = b.desk.bytes[10 + frame];
+
+        kind = (below(6) == 0) == (i / 700 % 2 == 0) ? RELEASE : ACQUIRE;
+        if (below(25) == 0 || (depth == 0 && below(4) == 0))
+            kind = HARD_ON + below(8);
+        if (kind == RELEASE && depth > 0 && below(20) != 0)
+            class_ = b.desk.bytes[98 + 48 * frame + below(depth)] % 64;
+        answer = deep_answer(&b, core, kind, class_);
+        met[answer]++;
+        expect_step(&b, core, kind, kind >= HARD_ON ? 0 : class_,
+                    kind == ACQUIRE ? modes[below(4)] : 0, answer,
+                    "deep and random");
+    }
+    for (i = 0; i < 9; i++)
+        check(met[i] > 5 || (i >= 1 && i <= 4),
+              "deep and random: %u times %u", met[i], i);
+    free_buffers(&b);
+}
+
+/* A log with 48 locks in a frame, and one more; in one piece and cut anywhere.
+ * Tries, and a soft handler that is full over a full task. */
+static void test_depth_fed(void)
+{
+    static struct log log;
+    struct feeding f;
+    unsigned i, size;
+
+    log_header(&log, 8);
+    for (i = 0; i < 48; i++)
+        log_record(&log, 5, ACQUIRE, i % 8, i % 3 == 1 ? TRY + R : R);
+    log_record(&log, 5, ENTER_SOFT, 0, 0);
+    for (i = 0; i < 48; i++)
+        log_record(&log, 5, ACQUIRE, i % 8, i % 5 == 1 ? TRY + R : R);
+    start_feed(&f, 8, 0);
+    expect_feed(&f, log.bytes, log.size, 0, 97, "fed, 48 and 48");
+    check_byte(&f.b, 10 + 15, 48, "fed, 48 in the task");
+    check_byte(&f.b, 10 + 16, 48, "fed, 48 in the handler");
+    expect_end(&f, 0, 97, "fed, 48 and 48, end");
+    log_record(&log, 5, ACQUIRE, 1, TRY + R);
+    log_record(&log, 5, RELEASE, 1, 0);
+    expect_feed(&f, log.bytes + log.size - 12, 12, 8, 98, "fed, the 49th");
+    expect_end(&f, 8, 98, "fed, the 49th, end");
+    for (size = 1; size < 300; size += 37) {
+        size_t at = 0;
+
+        start_again(&f);
+        for (; at + size < log.size - 12; at += size)
+            feed_or_end(&f, log.bytes + at, size, "fed in pieces");
+        expect_feed(&f, log.bytes + at, log.size - at, 8, 98,
+                    "fed in pieces, the 49th");
+    }
+    free_feed(&f);
+}
+
+/* --------------------------------------------- desks as they were before */
+
+/* Lengths of desks: those of before, and on both sides of what is now. */
+static const size_t old_lengths[] = { 577, 578, 579, 637, 638, 639, 641, 642,
+                                      643, 1249, 1250, 1393, 1394, 1396, 1397 };
+
+#define OLD_LENGTHS (sizeof old_lengths / sizeof old_lengths[0])
+
+/* A desk of the length, with K = 8 and nothing else in it, and sheets of
+ * zeros. */
+static void put_old_desk(struct buffers *b, size_t length)
+{
+    memset(b->desk.bytes, 0, length);
+    memset(b->want_desk.bytes, 0, length);
+    memset(b->sheet.bytes, 0, 64);
+    memset(b->want_sheet.bytes, 0, 64);
+    memset(b->seen.bytes, 0, 256);
+    memset(b->want_seen.bytes, 0, 256);
+    put_desk(b, 0, 8);
+}
+
+/* In buffers of its own length a desk of before is unfit, and cannot be opened:
+ * in a buffer that ends there, and in a longer one of which so much is lent. */
+static void test_old_lengths(void)
+{
+    struct buffers b;
+    size_t i;
+
+    open_buffers(&b, 8, 0);
+    for (i = 0; i < OLD_LENGTHS; i++) {
+        size_t length = old_lengths[i];
+
+        expect_open_lengths(&b, 8, length, 64, 256, 2, "an old length");
+        expect_step_lengths(&b, length, 64, 256, 57, 11, "an old length");
+        expect_ask_lengths(&b, length, 64, 256, 0, 11, 0, 0, "an old length");
+        expect_ask_lengths(&b, length, 64, 256, 8, 11, 0, 0, "an old length");
+    }
+    expect_step_lengths(&b, 1398, 64, 256, 57, 0, "the length that is due");
+    expect_ask_lengths(&b, 1398, 64, 256, 0, 0, 0, 0, "the length that is due");
+    free_buffers(&b);
+
+    for (i = 0; i < OLD_LENGTHS; i++) {
+        make_sized(&b, 8, old_lengths[i], 64, 256, 57);
+        expect_open(&b, 8, 2, "an old desk, opening");
+        expect_open(&b, 1, 2, "an old desk, opening with 1");
+        put_old_desk(&b, old_lengths[i]);
+        expect_step(&b, 0, HARD_ON, 0, 0, 11, "an old desk, hard on");
+        expect_step(&b, 0, ACQUIRE, 1, E, 11, "an old desk, acquire");
+        expect_step(&b, 9, ACQUIRE, 9, E, 11, "an old desk, 11 before 3");
+        expect_no_reach(&b, 0, 11, "an old desk, ask");
+        put_desk(&b, 1, 1);
+        expect_step(&b, 0, HARD_ON, 0, 0, 11, "an old desk, 11 before 10");
+        put_desk(&b, 1, 0);
+        put_desk(&b, 10, 1);
+        put_desk(&b, 98, 3);
+        expect_step(&b, 0, RELEASE, 3, 0, 11, "an old desk, release");
+        expect_no_reach(&b, 3, 11, "an old desk, a held lock, ask");
+        free_buffers(&b);
+    }
+    for (i = 0; i < 4; i++) {
+        static const size_t tails[] = { 0, 1, 602, 5000 };
+
+        make_sized(&b, 8, 1398 + tails[i], 64, 256, 57);
+        expect_open(&b, 8, 0, "1398 bytes or more");
+        expect_step(&b, 7, ENTER_HARD, 0, 0, 0, "1398 bytes or more");
+        expect_step(&b, 7, ACQUIRE, 1, TRY + R, 0, "1398 bytes or more");
+        expect_reach(&b, 1, 0, 0, "1398 bytes or more");
+        free_buffers(&b);
+    }
+}
+
+/* The same through a feed: 2 with the header, 11 with a record. */
+static void test_old_lengths_fed(void)
+{
+    static struct log log;
+    struct feeding f;
+    size_t i;
+
+    log_header(&log, 8);
+    log_record(&log, 0, ACQUIRE, 1, E);
+    log_record(&log, 0, RELEASE, 1, 0);
+    for (i = 0; i < OLD_LENGTHS; i++) {
+        start_sized(&f, 8, FEED_SIZE, old_lengths[i], 64, 256, 57);
+        expect_feed(&f, log.bytes, 3, 0, 0, "an old desk, a feed");
+        expect_feed(&f, log.bytes + 3, 7, 2, 0, "an old desk, its header");
+        expect_end(&f, 2, 0, "an old desk, the end");
+        start_again(&f);
+        put_whole_feed(&f, 0, 1, 0, 0);
+        put_old_desk(&f.b, old_lengths[i]);
+        expect_feed(&f, log.bytes + 4, 5, 0, 0, "an old desk, loose bytes");
+        expect_feed(&f, log.bytes + 9, 7, 11, 1, "an old desk, a record");
+        start_again(&f);
+        put_whole_feed(&f, 0, 1, 0, 5);
+        put_old_desk(&f.b, old_lengths[i]);
+        expect_feed(&f, log.bytes + 4, 5, 0, 5, "an old desk, loose bytes");
+        expect_end(&f, 11, 6, "an old desk, the end in a record");
+        free_feed(&f);
+    }
+    start_sized(&f, 8, FEED_SIZE, 1398, 64, 256, 57);
+    expect_feed(&f, log.bytes, log.size, 0, 2, "1398 bytes, a feed");
+    expect_end(&f, 0, 2, "1398 bytes, the end");
+    free_feed(&f);
+}
+
+/* A held lock as a desk of 642 bytes had it, in a longer buffer: at 98 + 20 f +
+ * p, with its origin bit from 578 on, 20 to a frame; and the state that it
+ * needs. The count was at 638. */
+static void put_old_held(struct buffers *b, unsigned frame, unsigned place,
+                         unsigned held, int tried)
+{
+    unsigned index = 20 * frame + place;
+
+    put_desk(b, 2 + frame / 3, state_for(frame));
+    put_desk(b, 10 + frame, place + 1);
+    put_desk(b, 98 + index, held);
+    if (tried)
+        put_desk(b, 578 + index / 8,
+                 b->desk.bytes[578 + index / 8] | 1u << index % 8);
+}
+
+static void expect_old_unfit(struct buffers *b, unsigned core, const char *what)
+{
+    expect_unfit(b, what);
+    expect_step(b, core, ACQUIRE, 1, R, 11, what);
+    expect_step(b, core, RELEASE, 1, 0, 11, what);
+}
+
+/* A desk of before in a longer buffer is read by the places of now. */
+static void test_old_desks(void)
+{
+    static struct log log;
+    static const size_t tails[] = { 0, 1, 700 };
+    struct buffers b;
+    struct feeding f;
+    unsigned frame, place, i;
+
+    for (i = 0; i < 4 * 255; i += i < 40 ? 1 : 17) { /* a count */
+        open_buffers(&b, 8, tails[i % 3]);
+        put_desk(&b, 638 + i % 4, 1 + i / 4);
+        expect_old_unfit(&b, i % 8, "an old count");
+        free_buffers(&b);
+    }
+    for (frame = 1; frame < 24; frame++) { /* beyond core 0's task */
+        for (place = 0; place < 20; place++) {
+            open_buffers(&b, 8, tails[place % 3]);
+            for (i = 0; i <= place; i++)
+                put_old_held(&b, frame, i, 1 + 64 * (i % 3), i % 4 == 3);
+            expect_old_unfit(&b, frame / 3, "old held locks");
+            put_desk(&b, 638, place + 1);
+            expect_old_unfit(&b, frame / 3, "old held locks and a count");
+            free_buffers(&b);
+        }
+    }
+    for (frame = 0; frame < 24; frame++) { /* a try */
+        open_buffers(&b, 8, 0);
+        put_old_held(&b, frame, 0, 0, 1);
+        expect_old_unfit(&b, frame / 3, "an old origin bit");
+        free_buffers(&b);
+    }
+    open_buffers(&b, 8, 0); /* all frames, as full as they were */
+    for (i = 0; i < 480; i++)
+        put_old_held(&b, i / 20, i % 20, 2 + 64 * R, 1);
+    for (i = 0; i < 8; i++)
+        put_desk(&b, 2 + i, 8);
+    expect_old_unfit(&b, 7, "an old desk, full");
+    put_desk(&b, 638, 255);
+    expect_old_unfit(&b, 7, "an old desk, full, and a count");
+    free_buffers(&b);
+
+    /* The count is 0, and core 0's task alone has locks, none by a try: the
+     * same bytes as now, and read so. What was the 21st lock is accepted. */
+    for (place = 0; place < 20; place++) {
+        open_buffers(&b, 8, tails[place % 3]);
+        for (i = 0; i <= place; i++)
+            put_old_held(&b, 0, i, 1 + i % 7 + 64 * R, 0);
+        expect_no_reach(&b, 1, 0, "core 0's task alone, ask");
+        expect_step(&b, 0, RELEASE, 0, 0, 5, "core 0's task alone, none held");
+        expect_step(&b, 0, ACQUIRE, 0, R, 0, "core 0's task alone, acquire");
+        check_byte(&b, 98 + place + 1, 64 * R, "core 0's task alone");
+        check_byte(&b, 638, 0, "core 0's task alone, where a count was");
+        check_byte(&b, 1394, 1, "core 0's task alone, the count");
+        expect_step(&b, 0, RELEASE, 1, 0, 0, "core 0's task alone, release");
+        free_buffers(&b);
+    }
+    /* A lock of class 0, exclusive, is the byte 0. */
+    open_buffers(&b, 8, 0);
+    put_old_held(&b, 3, 0, 0, 0);
+    expect_step(&b, 1, RELEASE, 0, 0, 0, "class 0 is read the same");
+    free_buffers(&b);
+
+    /* Behind the old desk whatever is there. */
+    make_sized(&b, 8, 1398, 64, 256, 57);
+    put_old_desk(&b, 642);
+    expect_old_unfit(&b, 0, "an old desk, and other bytes behind it");
+    free_buffers(&b);
+
+    /* A feed goes on with it as a step would. */
+    log_header(&log, 8);
+    log_record(&log, 0, ACQUIRE, 1, E);
+    start_feed(&f, 8, 0);
+    for (i = 0; i < 2; i++) {
+        start_again(&f);
+        expect_feed(&f, log.bytes, log.size, 0, 1, "an old desk to be fed");
+        put_count(&f.b, 0);
+        put_desk(&f.b, 638, 1 - i);
+        expect_feed(&f, log.bytes + 4, 5, 0, 1, "an old desk, loose bytes");
+        if (i == 0)
+            expect_end(&f, 11, 2, "an old desk, the end");
+        else
+            expect_end(&f, 3, 2, "the same without an old count");
+    }
+    free_feed(&f);
+}
+
 /* ------------------------------------------------------------ the balance */
 
 /* Room for the balances, with the byte in it before a call. */
@@ -5977,9 +6741,9 @@ static void test_balance_malformed_long(void)
 static void test_balance_numbers(void)
 {
     static const unsigned numbers[] = {
-        1, 2, 3, 19, 20, 21, 63, 64, 65, 126, 127, 128, 129, 254, 255, 256,
-        257, 511, 512, 1023, 1024, 2047, 2048, 2049, 4094, 4095, 4096, 4097,
-        8190, 8191, 8192, 8193, 9998, 9999, 10000 };
+        1, 2, 3, 19, 20, 21, 47, 48, 49, 63, 64, 65, 126, 127, 128, 129, 254,
+        255, 256, 257, 511, 512, 1023, 1024, 2047, 2048, 2049, 4094, 4095, 4096,
+        4097, 8190, 8191, 8192, 8193, 9998, 9999, 10000 };
     static const unsigned classes[] = { 0, 17, 63 };
     static struct log piece;
     unsigned i, c;
@@ -6074,7 +6838,7 @@ static void test_balance_not_accepted(void)
     static struct log piece;
     unsigned i;
 
-    for (i = 19; i <= 23; i++) { /* 8 from the 21st on */
+    for (i = 19; i <= 51; i++) { /* 8 from the 49th on */
         no_records(&piece);
         while (piece.size < 6 * i)
             log_record(&piece, 0, ACQUIRE, 4, R);
@@ -6339,7 +7103,8 @@ static const struct test tests[] = {
     TEST(refusal_7), TEST(refusal_8), TEST(order), TEST(closed),
     TEST(closed_by_hand),
     TEST(try_example), TEST(try_held_byte), TEST(origin_acquires),
-    TEST(origin_releases), TEST(origin_shared), TEST(origin_last),
+    TEST(origin_releases), TEST(origin_bytes), TEST(origin_edges),
+    TEST(origin_moves), TEST(origin_last),
     TEST(try_dependencies), TEST(try_crosswise), TEST(try_marks),
     TEST(try_in_handlers), TEST(try_over_hard_on), TEST(try_same_class),
     TEST(try_other_frame), TEST(try_release), TEST(try_full),
@@ -6367,6 +7132,9 @@ static const struct test tests[] = {
     TEST(seen_older_not_shown), TEST(seen_past),
     TEST(unfit_numbers), TEST(unfit_counts), TEST(unfit_last_pair),
     TEST(feed_seen), TEST(feed_count_full),
+    TEST(depth_limit), TEST(depth_steps), TEST(depth_three), TEST(depth_faults),
+    TEST(depth_marks), TEST(depth_newest), TEST(depth_random), TEST(depth_fed),
+    TEST(old_lengths), TEST(old_lengths_fed), TEST(old_desks),
     TEST(balance_example), TEST(balance_written), TEST(balance_lengths),
     TEST(balance_longer), TEST(balance_huge), TEST(balance_header),
     TEST(balance_bytes), TEST(balance_pairs), TEST(balance_as_step),

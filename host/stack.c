@@ -404,8 +404,8 @@ static void put_hard_on(struct input *in)
     memcpy(in->record, hard_on, sizeof hard_on);
 }
 
-/* An acquire of the last class over all other places with held locks of class
- * 0, every other one acquired by a try. */
+/* An acquire of the last class, the 48th lock of its frame, over all other
+ * places with held locks of class 0, every other one acquired by a try. */
 static void put_acquire(struct input *in)
 {
     const unsigned others = PLUNGEROWL_MAX_DEPTH - 1;
@@ -420,6 +420,42 @@ static void put_acquire(struct input *in)
            others);
     for (i = 0; i < others; i += 2)
         in->desk[PLUNGEROWL_ORIGINS_AT + i / 8] |= (uint8_t)(1 << i % 8);
+}
+
+/* The same with all other frames that may have locks full, each of 48: cores 1
+ * to 7 are in hard handlers over soft ones. */
+static void put_full_frames(struct input *in)
+{
+    unsigned core, place;
+
+    put_acquire(in);
+    for (core = 1; core < PLUNGEROWL_CORES; core++)
+        in->desk[PLUNGEROWL_STATES_AT + core] = 8;
+    memset(in->desk + PLUNGEROWL_DEPTHS_AT + 3, PLUNGEROWL_MAX_DEPTH,
+           PLUNGEROWL_FRAMES - 3);
+    for (place = 3 * PLUNGEROWL_MAX_DEPTH; place < PLUNGEROWL_PLACES; place++) {
+        in->desk[PLUNGEROWL_HELD_AT + place] = 64 * PLUNGEROWL_RECURSIVE_READ;
+        if (place % 2 == 0)
+            in->desk[PLUNGEROWL_ORIGINS_AT + place / 8]
+                |= (uint8_t)(1 << place % 8);
+    }
+}
+
+/* All full, core 0's task too: its oldest lock, of the last class, is released,
+ * which moves 47 and their origin bits; or hard interrupts come on, which marks
+ * 48. */
+static void put_fullest(struct input *in, unsigned kind)
+{
+    const uint8_t record[] = { 0x4C, 0x4B, 0, (uint8_t)kind,
+                               (uint8_t)(kind == PLUNGEROWL_RELEASE ? in->k - 1
+                                                                    : 0), 0 };
+
+    put_full_frames(in);
+    memcpy(in->record, record, sizeof record);
+    in->desk[PLUNGEROWL_DEPTHS_AT] = PLUNGEROWL_MAX_DEPTH;
+    in->desk[PLUNGEROWL_HELD_AT] += (uint8_t)(in->k - 1);
+    in->desk[PLUNGEROWL_HELD_AT + PLUNGEROWL_MAX_DEPTH - 1]
+        = 64 * PLUNGEROWL_RECURSIVE_READ;
 }
 
 /* A chain through all classes in order, its kinds in turn. */
@@ -513,6 +549,10 @@ static void put_random(struct input *in)
         put_marks(in, 5 * below(16) & 12); /* hard-unsafe ones */
     if (below(4) == 0)
         put_acquire(in);
+    else if (below(4) == 0)
+        put_full_frames(in);
+    else if (below(4) == 0)
+        put_fullest(in, PLUNGEROWL_RELEASE + below(2));
 }
 
 /* Records of all kinds, every fourth of any bytes: each input balances the
@@ -548,7 +588,7 @@ static unsigned piece_of(unsigned shape)
 }
 
 enum { RINGS = 13, DIAGONALS = RINGS + 4, DEEPEST = DIAGONALS + 4,
-       SHAPES = DEEPEST + 9 };
+       SHAPES = DEEPEST + 13 };
 
 static void make_input(struct input *in, unsigned k, unsigned shape)
 {
@@ -599,6 +639,18 @@ static void make_input(struct input *in, unsigned k, unsigned shape)
     case DEEPEST + 7: put_layers(in); put_acquire(in); break;
     case DEEPEST + 8: put_ring(in, 15); put_diagonal(in, 15);
                       put_order(in, 15); put_marks(in, 255); break;
+    case DEEPEST + 9: case DEEPEST + 10: case DEEPEST + 11: case DEEPEST + 12:
+        put_chain(in, PLUNGEROWL_SN | PLUNGEROWL_ER,
+                  PLUNGEROWL_SN | PLUNGEROWL_ER);
+        put(in, k - 1, 0, PLUNGEROWL_SR);
+        if (shape == DEEPEST + 9)
+            put_full_frames(in);
+        else if (shape < DEEPEST + 12)
+            put_fullest(in, shape == DEEPEST + 10 ? PLUNGEROWL_RELEASE
+                                                  : PLUNGEROWL_HARD_ON);
+        else
+            put_full_frames(in), put_hard_on(in);
+        break;
     default: put_random(in); break;
     }
     put_numbers(in);

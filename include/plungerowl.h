@@ -67,7 +67,7 @@ extern "C" {
 /* Limits. */
 #define PLUNGEROWL_MAX_CLASSES 64
 #define PLUNGEROWL_CORES 8
-#define PLUNGEROWL_MAX_DEPTH 20 /* held locks in a frame */
+#define PLUNGEROWL_MAX_DEPTH 48 /* held locks in a frame */
 
 /*
  * Where the parts of a desk begin; docs/FORMATS.md says what they have. A core
@@ -88,7 +88,7 @@ extern "C" {
 /*
  * Sizes in bytes; k is the number of classes, 1 to 64. A number is that of an
  * accepted record, low byte first. An entry is one dependency in a slip: class,
- * kind, source, number. A desk has 642 bytes.
+ * kind, source, number. A desk has 1,398 bytes.
  */
 #define PLUNGEROWL_NUMBER_SIZE 4
 #define PLUNGEROWL_ENTRY_SIZE (3 + PLUNGEROWL_NUMBER_SIZE)

@@ -428,7 +428,8 @@ fn log_records(rng: &mut Rng, all_accepted: bool) -> (usize, Vec<Rec>) {
     if rng.mille(500) {
         style = Style { random: rng.pick(&[0, 100, 300]), ..if rng.mille(500) { clean_style(k) } else { try_style(k) } };
     }
-    if !all_accepted && rng.mille(200) {
+    let full = !all_accepted && rng.mille(350);
+    if full {
         // Frames get full.
         (style.weights, style.modes, style.unordered) = ([30, 1, 1], [0, 0, 1, 0, 0, 1], 1000);
         style.cores.truncate(1);
@@ -443,7 +444,7 @@ fn log_records(rng: &mut Rng, all_accepted: bool) -> (usize, Vec<Rec>) {
         style.cores.truncate(2);
     }
     let (mut shadow, mut records) = (Buffers::opened(k), Vec::new());
-    for _ in 0..rng.pick(&[5, 30, 80, 150]) {
+    for _ in 0..if full { rng.pick(&[80, 150]) } else { rng.pick(&[5, 30, 80, 150]) } {
         let (record, answer) = shadow.next(rng, &style);
         if record.slice().len() == 6 && (answer < 2 || !all_accepted) {
             records.push(record);
@@ -573,7 +574,11 @@ const HAND_PIECES: [(&str, &[(usize, i32)]); 22] = [
     ("? ? 2E ?", &[(2, 1)]),
     ("? ?", &[]),
     // More than a frame takes, and a release in another frame.
-    ("0:5R 5R 5R 5R 5R 5R 5R 5R 5R 5R 5R 5R 5R 5R 5R 5R 5R 5R 5R 5R 5R 5R", &[(5, 22)]),
+    (
+        "0:5R 5R 5R 5R 5R 5R 5R 5R 5R 5R 5R 5R 5R 5R 5R 5R 5R 5R 5R 5R 5R 5R 5R 5R 5R 5R 5R 5R 5R 5R 5R 5R 5R 5R 5R 5R 5R 5R 5R 5R \
+         5R 5R 5R 5R 5R 5R 5R 5R 5R 5R",
+        &[(5, 50)],
+    ),
     ("0:1E H+ -1", &[]),
     // After a fault.
     ("0:1E 2E -2 -1 1:2E 1E 3E 4E -4", &[(1, 1), (2, 1), (3, 1)]),
@@ -625,8 +630,8 @@ fn each_class(_: &mut Rng, each: &mut dyn FnMut(Case) -> bool) -> bool {
 /// So many acquires or releases of a class, up to 10,000; what is to come of them is known.
 fn many(_: &mut Rng, each: &mut dyn FnMut(Case) -> bool) -> bool {
     let numbers = [
-        1, 2, 127, 128, 129, 255, 256, 257, 511, 512, 1023, 1024, 2047, 2048, 2049, 4095, 4096, 4097, 8191, 8192, 8193, 9998,
-        9999, 10_000,
+        1, 2, 20, 21, 48, 49, 127, 128, 129, 255, 256, 257, 511, 512, 1023, 1024, 2047, 2048, 2049, 4095, 4096, 4097, 8191,
+        8192, 8193, 9998, 9999, 10_000,
     ];
     let classes = [0, 31, 63].into_iter().flat_map(|class| [0, 1].map(|kind| (class, kind)));
     let mut all = classes.flat_map(|(class, kind)| numbers.map(|n| (class, kind, n)));

@@ -19,6 +19,7 @@ type StepFn = fn(&mut [u8], &mut [u8], &mut [u8], &mut [u8], &[u8]) -> u8;
 type AskFn = fn(&[u8], &[u8], &[u8], u64, &mut u64, &mut u32) -> u8;
 
 const ROUNDS: usize = 15;
+const DEEP: &str = "step that fills a frame, or makes room";
 
 /// A clean drawing: arrows only upwards, unsafe marks below and safe marks above.
 /// Sparse: each class to the next, no marks. Dense: each class to all higher ones by
@@ -53,6 +54,16 @@ fn drawing(k: usize, dense: bool) -> Buffers {
         }
     }
     numbers::usual(&mut s);
+    s
+}
+
+/// The same with core 0's frame one lock short of full.
+fn deep(k: usize, dense: bool) -> Buffers {
+    let mut s = drawing(k, dense);
+    s.desk[DEPTHS] = DEEPEST as u8 - 1;
+    for i in 0..DEEPEST - 1 {
+        s.desk[HOLDS + i] = (i % (k - 1)) as u8;
+    }
     s
 }
 
@@ -275,13 +286,13 @@ pub fn run() -> bool {
     let mut well = true;
     println!("{:54} {:>9} {:>9} {:>7} {:>12} {:>12}", "", "lib us", "fast us", "lib/fast", "lib /s", "fast /s");
     // A take and a release in turn, so that the desk comes back to where it was.
-    for k in [8usize, 16, 64] {
+    for (k, what) in [(8usize, "step"), (16, "step"), (64, "step"), (8, DEEP), (64, DEEP)] {
         for dense in [false, true] {
             let pair = [Rec::new(0, 0, k as u8 - 1, 0), Rec::new(0, 1, k as u8 - 1, 0)];
             let n = 20_000;
             let mut results = [0u64; 2];
             let time = |step: StepFn, result: &mut u64| {
-                let mut s = drawing(k, dense);
+                let mut s = if what == DEEP { deep(k, dense) } else { drawing(k, dense) };
                 let mut sum = 0u64;
                 let started = Instant::now();
                 for i in 0..n {
@@ -300,7 +311,7 @@ pub fn run() -> bool {
                 println!("the two differ, or not clean: {results:?}");
                 well = false;
             }
-            row(&format!("step, K = {k}, {}", if dense { "dense" } else { "sparse" }), times, n);
+            row(&format!("{what}, K = {k}, {}", if dense { "dense" } else { "sparse" }), times, n);
             let [r0, r1] = &mut results;
             let plain = best(|| time(library::step, r0), || time(fast::step_plain, r1), ROUNDS);
             well &= results[0] == results[1];

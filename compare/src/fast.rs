@@ -100,29 +100,26 @@ fn numbers_fit(sheet: &[u8], seen: &[u8], count: u32) -> bool {
     wrong == [0; 16] && last.all(|(&kinds, n)| (kinds == 0) == (n == 0) && n <= count)
 }
 
-/// Where a frame's origin bits lie: the start of eight bytes within the region that hold all of them, and the first
-/// bit's place there.
+/// Where a frame's origin bits begin: they are whole bytes, and eight bytes from there on lie within the desk.
 #[inline]
-fn origins_at(frame: usize) -> (usize, usize) {
-    const { assert!(DEEPEST + 7 <= 64) };
-    let bit = DEEPEST * frame;
-    let start = (bit / 8).min(COUNT - ORIGINS - 8);
-    (ORIGINS + start, bit - 8 * start)
+fn origins_at(frame: usize) -> usize {
+    const { assert!(DEEPEST % 8 == 0 && DEEPEST <= 64 && ORIGINS + 23 * DEEPEST / 8 + 8 <= DESK) };
+    ORIGINS + DEEPEST / 8 * frame
 }
 
 /// A frame's origin bits, the oldest lock's lowest.
 #[inline]
 fn origins(desk: &[u8; DESK], frame: usize) -> u64 {
-    let (start, shift) = origins_at(frame);
+    let start = origins_at(frame);
     let eight = u64::from_le_bytes(desk[start..start + 8].try_into().unwrap());
-    eight >> shift & ((1 << DEEPEST) - 1)
+    eight & u64::MAX >> (64 - DEEPEST)
 }
 
 #[inline]
 fn flip_origins(desk: &mut [u8; DESK], frame: usize, bits: u64) {
-    let (start, shift) = origins_at(frame);
+    let start = origins_at(frame);
     let eight: &mut [u8; 8] = (&mut desk[start..start + 8]).try_into().unwrap();
-    *eight = (u64::from_le_bytes(*eight) ^ bits << shift).to_le_bytes();
+    *eight = (u64::from_le_bytes(*eight) ^ bits).to_le_bytes();
 }
 
 /// All of "Unfit" but the buffers' sizes and K.

@@ -1,10 +1,12 @@
 //! Logs in pieces: the promise that a feed keeps, and the cases with feeds.
 
+use crate::depths;
 use crate::gen::{
     any_buffers, any_k, any_style, case, clean_style, damaged, fit_desk, hand_logs, sizes, try_style, violate, Buffers, Kind,
     BIG,
 };
 use crate::numbers;
+use crate::older;
 use crate::rng::Rng;
 use crate::run::{Call, Case, Meant, Rec};
 use crate::ties;
@@ -118,18 +120,28 @@ fn any_log(rng: &mut Rng) -> (Vec<u8>, Buffers) {
         let (records, k) = ties::closing(rng);
         return (log_of(k as u8, &records), any_buffers(rng, k));
     }
-    let faults = rng.mille(350);
+    // Full frames, and what they refuse.
+    let full = rng.mille(120);
+    let faults = !full && rng.mille(350);
     let k = if faults && rng.mille(700) { rng.pick(&[1, 1, 2, 4]) } else { any_k(rng) };
-    let mut style = any_style(rng, k);
+    let mut style = if full { depths::filling(rng, k) } else { any_style(rng, k) };
     style.damaged = rng.pick(&[0, 0, 10, 100]);
+    if full {
+        (style.damaged, style.random) = (0, 0);
+        style.cores.truncate(1);
+    }
     if faults {
         // Over tries of one class in several modes there are several cycles.
         (style.avoid, style.unordered, style.modes) = (0, 1000, rng.pick(&[[1, 1, 1, 0, 0, 0], [1, 0, 0, 2, 1, 2]]));
         style.weights = [6, 1, 1];
         style.cores.truncate(2);
     }
-    let refused = rng.pick(&[0, 0, 300, 1000]);
-    let most = rng.pick(if faults { &[5, 20, 30] } else { &[0, 1, 2, 5, 20, 50][..] });
+    let refused = if full { 1000 } else { rng.pick(&[0, 0, 300, 1000]) };
+    let most = rng.pick(match (full, faults) {
+        (true, _) => &[60, 80],
+        (_, true) => &[5, 20, 30],
+        _ => &[0, 1, 2, 5, 20, 50][..],
+    });
     let (mut shadow, mut records, mut behind) = (Buffers::opened(k), Vec::new(), 0);
     for _ in 0..most {
         let (record, answer) = shadow.next(rng, &style);
@@ -154,7 +166,7 @@ fn any_log(rng: &mut Rng) -> (Vec<u8>, Buffers) {
     if rng.mille(300) {
         let Buffers { desk, sheet, seen, slip } = &mut buffers;
         match rng.under(5) {
-            0 => desk.truncate(rng.pick(&[0, 1, COUNT, DESK - 1])),
+            0 => desk.truncate(rng.pick(&[0, 1, COUNT, DESK - 1, older::ORIGINS, older::COUNT, older::DESK])),
             1 => sheet.truncate(rng.pick(&[0, k * k - 1])),
             2 => seen.truncate(rng.pick(&[0, k * k, 4 * k * k - 1, 4 * k * k - 1])),
             _ => slip.truncate(rng.pick(&[0, 3 * k, 1 + 3 * k, 7 * k])),
@@ -328,8 +340,9 @@ fn any_calls(rng: &mut Rng) -> Case {
     feed.extend(rng.bytes(extra));
     // An opened desk, one that no opening leads to, a closed one, or an unfit one.
     let mut buffers = fit_desk(rng, k);
-    match rng.under(7) {
+    match rng.under(9) {
         0 => buffers = Buffers::opened(k),
+        7 | 8 => buffers = older::any(rng, k),
         1 | 2 => buffers.desk[1] = 1,
         // At the last count, or a few before it.
         3 | 4 => {
@@ -630,7 +643,9 @@ pub fn fixed(each: &mut dyn FnMut(Case) -> bool) {
     // Hand logs cut at each place, with an end between records, and one behind.
     for log in hand_logs() {
         let bytes = log_of(log.k as u8, &log.records);
-        for at in 0..=bytes.len() {
+        let n = bytes.len();
+        // A long one at fewer places within it.
+        for at in (0..=n).filter(|&at| n < 200 || at < 12 || at % 7 == 0 || at + 14 > n) {
             let between = at >= 4 && (at - 4) % 6 == 0;
             let mut calls = vec![Call::FeedStart, Call::Feed(bytes[..at].to_vec())];
             calls.extend(between.then_some(Call::FeedEnd));

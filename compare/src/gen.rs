@@ -2,10 +2,12 @@
 
 use crate::balances;
 use crate::clashes;
+use crate::depths;
 use crate::drawing::{FRAME, NEXT, X};
 use crate::fast;
 use crate::feeds;
 use crate::numbers;
+use crate::older;
 use crate::rng::Rng;
 use crate::run::{Call, Case, Rec};
 use crate::sights::ORIGIN;
@@ -68,12 +70,12 @@ pub fn any_buffers(rng: &mut Rng, k: usize) -> Buffers {
 }
 
 /// A place's hold byte.
-fn hold_at(frame: usize, place: usize) -> usize {
+pub fn hold_at(frame: usize, place: usize) -> usize {
     HOLDS + DEEPEST * frame + place
 }
 
 /// A place's origin: its byte and its bit.
-fn origin_at(frame: usize, place: usize) -> (usize, u8) {
+pub fn origin_at(frame: usize, place: usize) -> (usize, u8) {
     let bit = DEEPEST * frame + place;
     (ORIGINS + bit / 8, 1 << (bit % 8))
 }
@@ -119,6 +121,8 @@ pub struct Style {
     pub weights: [usize; 3],
     /// Weights of the six modes.
     pub modes: [usize; 6],
+    /// Whether a frame has all classes, each acquire one or two above the last: so it gets full in that order too.
+    pub packed: bool,
     /// In 1000: records with anything in them, damaged records, questions, acquires that
     /// heed no order of classes, and proposals that fault and are then proposed anew.
     pub random: usize,
@@ -150,6 +154,7 @@ pub fn any_style(rng: &mut Rng, k: usize) -> Style {
         cores,
         weights: rng.pick(&[[5, 3, 3], [6, 1, 1], [9, 1, 0], [4, 4, 4], [2, 2, 6], [5, 5, 1]]),
         modes: any_modes(rng),
+        packed: false,
         random: rng.pick(&[0, 10, 30, 30, 200]),
         damaged: rng.pick(&[0, 5, 10, 20, 100]),
         asks: rng.pick(&[0, 10, 30, 100]),
@@ -160,7 +165,7 @@ pub fn any_style(rng: &mut Rng, k: usize) -> Style {
 
 pub fn clean_style(k: usize) -> Style {
     Style {
-        k, cores: (0..8).collect(), weights: [4, 4, 2], modes: [2, 1, 1, 0, 0, 0],
+        k, cores: (0..8).collect(), weights: [4, 4, 2], modes: [2, 1, 1, 0, 0, 0], packed: false,
         random: 0, damaged: 0, asks: 0, unordered: 0, avoid: 1000,
     }
 }
@@ -271,13 +276,14 @@ fn propose(rng: &mut Rng, s: &Style, desk: &[u8]) -> Rec {
         }
         // Task classes lowest, then those of soft handlers, then those of hard ones, and
         // within a frame ever higher ones: never a cycle. No dependency leads to a try.
-        let (low, high) = classes_of(s.k, frame);
+        let (low, high) = if s.packed { (0, s.k) } else { classes_of(s.k, frame) };
         if mode >= 3 && rng.mille(500) {
             return Rec::new(core, 0, rng.between(low, high - 1) as u8, mode);
         }
         let low = held.iter().map(|h| usize::from(h % 64) + 1).max().unwrap_or(0).max(low);
         if low < high {
-            let far = if rng.mille(700) { (low + 3).min(high) } else { high };
+            let near = if s.packed { low + 1 + usize::from(rng.mille(200)) } else { low + 3 };
+            let far = if s.packed || rng.mille(700) { near.min(high) } else { high };
             return Rec::new(core, 0, rng.between(low, far - 1) as u8, mode);
         }
         what = 1;
@@ -371,24 +377,6 @@ pub fn log(rng: &mut Rng) -> Case {
     case(any_buffers(rng, k), calls)
 }
 
-/// Acquires mostly, until frames are full and refuse.
-fn deep_log(rng: &mut Rng) -> Case {
-    let k = rng.pick(&[1, 2, 3, 8, 64, 64, 33]);
-    let mut style = any_style(rng, k);
-    style.weights = [30, 1, 1];
-    style.cores.truncate(2);
-    style.damaged = 0;
-    if k < 40 || rng.mille(500) {
-        style.modes = rng.pick(&[[0, 0, 1, 0, 0, 0], [0, 0, 1, 0, 0, 1], [0, 0, 0, 1, 1, 1]]);
-        style.unordered = 1000;
-    } else {
-        style.unordered = 0;
-    }
-    let mut calls = vec![Call::Open(k as u64)];
-    steps(rng, &style, &mut Buffers::opened(k), 120, &mut calls);
-    case(any_buffers(rng, k), calls)
-}
-
 fn long_log(rng: &mut Rng) -> Case {
     let k = rng.pick(&[4, 8, 17, 64]);
     let mut style = if rng.mille(500) { clean_style(k) } else { try_style(k) };
@@ -419,7 +407,7 @@ pub fn fit_desk(rng: &mut Rng, k: usize) -> Buffers {
                 0 => 0,
                 1 => rng.under(3),
                 2 => rng.under(DEEPEST + 1),
-                _ => rng.pick(&[0, 1, DEEPEST - 1, DEEPEST, DEEPEST]),
+                _ => rng.pick(&[0, 1, older::DEEPEST, older::DEEPEST + 1, DEEPEST - 1, DEEPEST, DEEPEST]),
             };
             for _ in 0..depth {
                 let lock = (rng.under(k) + 64 * rng.under(3)) as u8;
@@ -582,7 +570,11 @@ pub fn violate(rng: &mut Rng, clause: usize, b: &mut Buffers) -> bool {
     let Buffers { desk, sheet, seen, slip } = b;
     if clause == 0 {
         let part = rng.clone().between(ORIGINS, COUNT - 1);
-        let n = rng.pick(&[DESK - 1, DESK - 1, DESK - 1, COUNT, COUNT, COUNT + 2, part, part, ORIGINS, ORIGINS - 1, ORIGINS - 1, rng.clone().under(ORIGINS)]);
+        let [a, b, c] = older::SIZES;
+        let n = rng.pick(&[
+            DESK - 1, DESK - 1, DESK - 1, COUNT, COUNT, COUNT + 2, part, part, ORIGINS, ORIGINS - 1, ORIGINS - 1,
+            rng.clone().under(ORIGINS), a, b, c, a, b, c,
+        ]);
         desk.truncate(n);
         rng.next();
         return true;
@@ -614,7 +606,8 @@ pub fn violate(rng: &mut Rng, clause: usize, b: &mut Buffers) -> bool {
         "state over 8" => desk[STATES + core] = rng.pick(&[9, 10, 16, 255, rng.clone().between(9, 255) as u8]),
         "depth over the limit" => {
             let over = DEEPEST as u8 + 1;
-            desk[DEPTHS + frame] = rng.pick(&[over, over + 1, 64 + over, 255, rng.clone().between(DEEPEST + 1, 255) as u8]);
+            let six_bits = rng.clone().between(64, 63 + DEEPEST) as u8;
+            desk[DEPTHS + frame] = rng.pick(&[over, over, over + 1, 64 + over, six_bits, 255, rng.clone().between(DEEPEST + 1, 255) as u8]);
         }
         name @ ("hold class K or more" | "hold mode 3") => {
             // In a task frame, where a lock may always be held.
@@ -625,7 +618,8 @@ pub fn violate(rng: &mut Rng, clause: usize, b: &mut Buffers) -> bool {
             if desk[DEPTHS + frame] == 0 {
                 push(desk, frame, 0, rng.mille(500));
             }
-            let place = rng.under(usize::from(desk[DEPTHS + frame]));
+            let depth = usize::from(desk[DEPTHS + frame]);
+            let place = rng.pick(&[depth - 1, rng.clone().under(depth), rng.clone().under(depth)]);
             if name == "hold mode 3" {
                 desk[hold_at(frame, place)] = 192 + rng.under(k) as u8;
                 let (byte, bit) = origin_at(frame, place);
@@ -642,7 +636,8 @@ pub fn violate(rng: &mut Rng, clause: usize, b: &mut Buffers) -> bool {
             if depth >= DEEPEST {
                 return false;
             }
-            let place = rng.pick(&[depth, DEEPEST - 1, rng.clone().between(depth, DEEPEST - 1)]);
+            let any = rng.clone().between(depth, DEEPEST - 1);
+            let place = rng.pick(&[depth, DEEPEST - 1, depth.max(older::DEEPEST), depth.max(32), any]);
             desk[hold_at(frame, place)] = rng.pick(&[1, 64, 128, 255, rng.clone().between(1, 255) as u8]);
         }
         ORIGIN => {
@@ -651,7 +646,7 @@ pub fn violate(rng: &mut Rng, clause: usize, b: &mut Buffers) -> bool {
             if depth >= DEEPEST {
                 return false;
             }
-            // The frame's last place, which may share a byte with the next frame, the first past the depth, or any.
+            // The frame's last place, the first past the depth, or any.
             let place = [DEEPEST - 1, depth, depth, rng.clone().between(depth, DEEPEST - 1)][rng.under(last)];
             let (byte, bit) = origin_at(frame, place);
             desk[byte] |= bit;
@@ -703,7 +698,7 @@ pub fn violate(rng: &mut Rng, clause: usize, b: &mut Buffers) -> bool {
     true
 }
 
-fn some_calls(rng: &mut Rng, k: usize, n: usize) -> Vec<Call> {
+pub fn some_calls(rng: &mut Rng, k: usize, n: usize) -> Vec<Call> {
     let mut style = clean_style(k);
     style.random = 500;
     style.damaged = 150;
@@ -759,9 +754,10 @@ fn changed_desk(rng: &mut Rng) -> Case {
             4 => rng.between(DESK + k * k, DESK + 5 * k * k - 1),
             _ => rng.under(DESK + k * k),
         };
-        let value = match rng.under(3) {
+        let value = match rng.under(4) {
             0 => rng.byte(),
             1 => rng.under(24) as u8,
+            2 => rng.pick(&[19, 20, 21, 47, 48, 49, 50, 255]),
             _ => 1 << rng.under(8),
         };
         let Buffers { desk, sheet, seen, .. } = &mut buffers;
@@ -796,9 +792,12 @@ fn opening(rng: &mut Rng) -> Case {
     if by_length {
         lengths = sizes(size);
         let (part, kk) = (rng.clone().between(ORIGINS, COUNT - 1), size * size);
-        match rng.under(3) {
+        match rng.under(4) {
             0 => lengths[0] = rng.pick(&[ORIGINS - 1, ORIGINS, part, COUNT - 1, COUNT, COUNT, COUNT + 2, DESK - 1, DESK + 1]),
-            1 => lengths[0] = rng.pick(&[ORIGINS - 1, ORIGINS, part, part, DESK - 1, DESK + 1]),
+            1 | 2 => {
+                let [a, b, c] = older::SIZES;
+                lengths[0] = rng.pick(&[ORIGINS - 1, ORIGINS, part, part, DESK - 1, DESK + 1, a, b, c, a, b, c]);
+            }
             _ => lengths[2] = rng.pick(&[4 * kk - 1, 4 * kk - 1, 4 * kk - 1, kk, 4 * kk - 4, 4 * kk + 1]),
         }
     }
@@ -887,9 +886,8 @@ pub struct Kind {
 }
 
 pub const PAIRS: &str = "pair of lists";
-const KINDS: [Kind; 11] = [
+const KINDS: [Kind; 10] = [
     Kind { name: "log from opening", weight: 180, make: log },
-    Kind { name: "deep log", weight: 60, make: deep_log },
     Kind { name: "long log", weight: 5, make: long_log },
     Kind { name: "fit desk", weight: 200, make: drawn_desk },
     Kind { name: "desk with tries", weight: 80, make: tries },
@@ -901,8 +899,8 @@ const KINDS: [Kind; 11] = [
     Kind { name: "log that closes several", weight: 60, make: ties::closing_log },
 ];
 
-/// A part of the random cases: those with feeds, those with balances, the others, and of the others those with clashes and
-/// those about numbers.
+/// A part of the random cases: those with feeds, those with balances, the others, and of the others those with clashes,
+/// those about numbers and those about depths.
 #[derive(Clone, Copy, PartialEq, Eq)]
 pub enum Part {
     Feeds,
@@ -910,6 +908,7 @@ pub enum Part {
     Others,
     Clashes,
     Numbers,
+    Depths,
 }
 
 /// A random case, or None if it is not of the part that is wanted.
@@ -918,6 +917,7 @@ pub fn random(rng: &mut Rng, only: Option<Part>) -> Option<Case> {
         (&KINDS[..], Part::Others),
         (&numbers::KINDS, Part::Numbers),
         (&clashes::KINDS, Part::Clashes),
+        (&depths::KINDS, Part::Depths),
         (&feeds::KINDS, Part::Feeds),
         (&balances::KINDS, Part::Balances),
     ];
@@ -973,9 +973,15 @@ pub struct HandLog {
 
 pub fn hand_logs() -> Vec<HandLog> {
     let full = "0R ".repeat(DEEPEST);
-    let over_full = "0R ".repeat(DEEPEST + 1);
     let full_of_tries = "t0E ".repeat(DEEPEST);
-    let over_full_of_tries = "t0E ".repeat(DEEPEST + 1);
+    let one_over_20 = "0R ".repeat(21);
+    let over_full = full.clone() + "0R";
+    let over_full_of_tries = full_of_tries.clone() + "t0E";
+    let try_over_full = full.clone() + "t0E";
+    let over_full_by_a_wait = full_of_tries.clone() + "0R";
+    let full_again = full.clone() + "-0 0R t0E";
+    let full_in_a_handler = "H+ ".to_string() + &full + "0R";
+    let full_twice = full.clone() + "S+ " + &full + "t0r";
     let rows: Vec<(&'static str, usize, &str, u8)> = vec![
         ("P1", 8, "", 0),
         ("P2", 8, "0:1E 2E -2 -1 1:2E 1E", 1),
@@ -992,8 +998,6 @@ pub fn hand_logs() -> Vec<HandLog> {
         ("P11", 8, "0:H+ 4E -4 H- h- 4E 5E -5 -4 h+ 5E", 1),
         ("P12", 8, "0:s- 6E -6 s+ S+ 6E", 0),
         ("P12 without", 8, "0:6E -6 S+ 6E", 1),
-        ("full frame", 8, &full, 0),
-        ("over a full frame", 8, &over_full, 8),
         ("exit hard with a held lock", 8, "0:H+ 1E H-", 7),
         ("exit soft with a held lock", 8, "0:S+ 1E S-", 7),
         ("exit hard in state 0", 8, "0:H-", 6),
@@ -1051,8 +1055,6 @@ pub fn hand_logs() -> Vec<HandLog> {
         ("one class both ways in a handler, same letter", 8, "0:S+ 3E t3r h- h+", 0),
         ("one class both ways in a handler, the try first", 8, "0:H+ t3R 3R -3 4R", 0),
         ("class tried in the handler, waited in the task", 8, "0:h- 3E 1:H+ t3E 4R", 0),
-        ("full of tries", 8, &full_of_tries, 0),
-        ("over full of tries", 8, &over_full_of_tries, 8),
         ("newest whatever its origin", 8, "0:1E t1r 2R t1R t3E -1 -1 -1 -2 -3", 0),
         ("newest a wait over a try", 8, "0:t1R 1R t2E -1 -1 -2", 0),
         ("try of class 8 of 8", 8, "0:t8E", 4),
@@ -1066,20 +1068,30 @@ pub fn hand_logs() -> Vec<HandLog> {
         ("S with safe R at soft", 8, "0:3R -3 S+ 3R", 0),
         ("S with safe N at soft", 8, "0:3R -3 S+ 3r", 1),
         ("clash of class 63", 64, "0:63E -63 H+ 63E", 1),
+        // Deep frames.
+        ("21 held locks", 8, &one_over_20, 0),
+        ("full frame", 8, &full, 0),
+        ("over a full frame", 8, &over_full, 8),
+        ("full of tries", 8, &full_of_tries, 0),
+        ("over full of tries", 8, &over_full_of_tries, 8),
+        ("over a full frame by a try", 8, &try_over_full, 8),
+        ("over full of tries by a wait", 8, &over_full_by_a_wait, 8),
+        ("full, and full again", 8, &full_again, 8),
+        ("over a full frame of a handler", 8, &full_in_a_handler, 8),
+        ("over a full frame above a full one", 8, &full_twice, 8),
     ];
     rows.into_iter().map(|(name, k, text, last)| HandLog { name, k, records: read(text), last }).collect()
 }
 
 /// The kinds of fixed cases, and how many there are of each.
-pub const FIXED: [(&str, u64); 41] = [
-    (HAND_LOGS, 84),
+pub const FIXED: [(&str, u64); 47] = [
+    (HAND_LOGS, 90),
     (HAND_DRAWINGS, 48),
     (EACH_RING, 64 * ties::RINGS_OF_EACH),
     (SOME_TIES, 1200),
-    (EACH_PLACE, 5040),
-    (EACH_OPENING, 5706),
+    (EACH_OPENING, 6657),
     (EACH_CLAUSE, 3000),
-    (EACH_DESK_BYTE, 29_805),
+    (EACH_DESK_BYTE, 33_174),
     (EACH_STATE, 21_600),
     (ALL_OF_1, 4352),
     (ALL_OF_2, 65_536),
@@ -1096,11 +1108,18 @@ pub const FIXED: [(&str, u64); 41] = [
     (clashes::BESIDE_LOCK, 6624),
     (clashes::BESIDE_TWO, 8064),
     (clashes::OF_TWO, 1440),
+    (depths::FILLED, 72),
+    (depths::OVER_EACH, 1176),
+    (depths::EACH_PLACE, 2841),
+    (depths::EACH_DEPTH, 2040),
+    (depths::PAST_DEPTH, 8064),
+    (depths::EACH_SIZE, 426),
+    (older::OLD_DESKS, 1818),
     (feeds::EACH_FEED_SIZE, 160),
     (feeds::EACH_STAND, 2160),
     (feeds::EACH_COUNT, 900),
     (feeds::EACH_FEED_BYTE, 5922),
-    (feeds::HAND_LOGS, 3636),
+    (feeds::HAND_LOGS, 3883),
     (feeds::EACH_CUT, 39_956),
     (feeds::LONG_PIECES, 7),
     (balances::BY_HAND, 22),
@@ -1109,16 +1128,15 @@ pub const FIXED: [(&str, u64); 41] = [
     (balances::EACH_BYTE, 16_896),
     (balances::HEADERS, 96),
     (balances::EACH_CUT, 1770),
-    (balances::HAND_LOGS, 84),
+    (balances::HAND_LOGS, 90),
     (balances::EACH_LENGTH, 612),
-    (balances::MANY, 144),
+    (balances::MANY, 168),
     (balances::ALONE, 64),
 ];
 const HAND_LOGS: &str = "hand logs";
 const HAND_DRAWINGS: &str = "hand drawings";
 const EACH_RING: &str = "rings of 1 to 64";
 const SOME_TIES: &str = "ties and closing logs";
-const EACH_PLACE: &str = "each place released";
 const EACH_OPENING: &str = "each opening";
 const EACH_CLAUSE: &str = "each clause alone";
 const EACH_DESK_BYTE: &str = "each desk byte";
@@ -1131,7 +1149,7 @@ const ALL_MARKS_OF_2: &str = "all marks of K = 2";
 /// feeds and with balances come last.
 pub fn fixed(each: &mut dyn FnMut(Case) -> bool) {
     let mut going = true;
-    for fixed in [fixed_calls, numbers::fixed, clashes::fixed, feeds::fixed, balances::fixed] {
+    for fixed in [fixed_calls, numbers::fixed, clashes::fixed, depths::fixed, feeds::fixed, balances::fixed] {
         if going {
             fixed(&mut |case| {
                 going = each(case);
@@ -1148,9 +1166,12 @@ fn fixed_calls(each: &mut dyn FnMut(Case) -> bool) {
     for log in hand_logs() {
         let mut calls = vec![Call::Open(log.k as u64)];
         ask_all(log.k, &mut calls);
-        for r in &log.records {
+        for (at, r) in log.records.iter().enumerate() {
             calls.push(Call::Step(*r));
-            ask_all(log.k, &mut calls);
+            // In a long one after every eighth.
+            if log.records.len() < 30 || at % 8 == 7 {
+                ask_all(log.k, &mut calls);
+            }
         }
         calls.extend(some_calls(rng, log.k, 6));
         if !each(HAND_LOGS, case(any_buffers(rng, log.k), calls)) {
@@ -1178,30 +1199,6 @@ fn fixed_calls(each: &mut dyn FnMut(Case) -> bool) {
             return;
         }
     }
-    // Each place of each frame released at each depth, all frames that may hold locks full of tries and waits.
-    for frame in 0..FRAMES {
-        let core = frame / 3;
-        for depth in 1..=DEEPEST {
-            for place in 0..depth {
-                let mut buffers = Buffers::opened(DEEPEST);
-                let desk = &mut buffers.desk;
-                desk[STATES..STATES + 8].fill(8);
-                desk[STATES + core] = rng.pick([&[1, 2, 3][..], &[4, 5], &[6, 7, 8]][frame % 3]);
-                for other in 0..FRAMES {
-                    let most = if other == frame { depth } else { DEEPEST };
-                    for i in 0..if may_hold(desk[STATES + other / 3], other % 3) { most } else { 0 } {
-                        // Recursive reads: whatever is drawn is clean.
-                        push(desk, other, i as u8 + 64 * 2, rng.mille(600));
-                    }
-                }
-                let calls = vec![Call::Step(Rec::new(core as u8, 1, place as u8, 0)), Call::Ask(0)];
-                buffers.slip.fill(9);
-                if !each(EACH_PLACE, case(buffers, calls)) {
-                    return;
-                }
-            }
-        }
-    }
     // Opening with each K from 0 to 300 and big ones, with buffers just long enough,
     // one byte short, and empty.
     for k in (0..=300).chain(BIG) {
@@ -1213,6 +1210,7 @@ fn fixed_calls(each: &mut dyn FnMut(Case) -> bool) {
             (0, 0, 0), (DESK + 22, 5000, 17_000), (DESK, 0, seen), (ORIGINS, sheet, seen), (ORIGINS - 1, sheet, seen),
             (DESK + 1, sheet, seen), (COUNT, sheet, seen), (COUNT - 1, sheet, seen), (DESK, sheet, seen_short),
             (DESK, sheet, sheet), (DESK, sheet, 0), (DESK, sheet, seen + 1), (DESK, short, seen_short),
+            (older::ORIGINS, sheet, seen), (older::COUNT, sheet, seen), (older::DESK, sheet, seen),
         ] {
             let mut calls = vec![Call::Open(k)];
             calls.extend(some_calls(rng, size.max(1), 2));
@@ -1273,7 +1271,9 @@ fn fixed_calls(each: &mut dyn FnMut(Case) -> bool) {
             shadow.next(rng, &style);
         }
         for value in 0..=255u8 {
-            if at >= MARKS && value > 4 && !value.is_power_of_two() && !rng.mille(100) {
+            // Of the many places for held locks fewer values.
+            let some = if (HOLDS..ORIGINS).contains(&at) { 20 } else { 100 };
+            if at >= MARKS && value > 4 && !value.is_power_of_two() && !rng.mille(some) {
                 continue;
             }
             let mut buffers = shadow.clone();

@@ -58,9 +58,11 @@ const SOURCES: [&str; 3] = ["hold", "hard", "soft"];
 const SHOWN: [[u64; 3]; 4] = [[2100, 180, 84], [3300, 140, 74], [550, 32, 13], [3700, 120, 68]];
 
 /// The kinds of random cases; named here too, so that one is missed that is no longer made.
-const RANDOM: [(&str, u64); 32] = [
+const RANDOM: [(&str, u64); 34] = [
     ("log from opening", 740),
     ("deep log", 250),
+    ("deep frame", 490),
+    ("desk of an earlier version", 200),
     ("long log", 20),
     ("fit desk", 830),
     ("desk with tries", 330),
@@ -104,7 +106,7 @@ pub fn all() -> Vec<(Need, u64)> {
         (
             Step,
             &[
-                (0, 210_000), (1, 2500), (3, 4700), (4, 1300), (5, 340), (6, 4900), (7, 600), (8, 2400), (9, 4200),
+                (0, 210_000), (1, 2500), (3, 4700), (4, 1300), (5, 340), (6, 4900), (7, 600), (8, 1000), (9, 4200),
                 (10, 10_000), (11, 5600),
             ],
         ),
@@ -113,7 +115,7 @@ pub fn all() -> Vec<(Need, u64)> {
         (
             Piece,
             &[
-                (0, 14_000), (1, 410), (2, 6400), (3, 2800), (4, 100), (5, 61), (6, 220), (7, 61), (8, 60), (9, 870),
+                (0, 14_000), (1, 410), (2, 6400), (3, 2800), (4, 100), (5, 61), (6, 220), (7, 61), (8, 83), (9, 870),
                 (10, 440), (11, 4700),
             ],
         ),
@@ -140,7 +142,7 @@ pub fn all() -> Vec<(Need, u64)> {
     }
     all.extend([2300, 1000, 2300].into_iter().enumerate().map(|(part, least)| (Need::Promise(part), least)));
     all.extend([(Need::FaultInSecond, 80), (Need::FaultInBoth, 66), (Need::OtherNumbers, 180)]);
-    all.extend([(Need::Filled, 5700), (Need::OverFull, 2200)]);
+    all.extend([(Need::Filled, 2300), (Need::OverFull, 870)]);
     for (kind, by_source) in SHOWN.iter().enumerate() {
         all.extend(by_source.iter().enumerate().map(|(source, &least)| (Need::Shown(kind, source), least)));
     }

@@ -17,6 +17,8 @@ pub struct Plant {
     pub of_clash: bool,
     /// Whether it is wrong about the count or first-seen numbers, and the cases about these come first.
     pub of_numbers: bool,
+    /// Whether it is wrong about deep frames or old desks, and the cases about these come first.
+    pub of_depth: bool,
     pub judge: Judge,
 }
 

@@ -6,6 +6,7 @@ use crate::cycles::{Choice, Drawing, Shown};
 use crate::drawing::FRAME;
 use crate::feeds::{self, ANSWER, KEEP, KEPT, OPENED};
 use crate::numbers::{self, ABOVE, FULL, NO_KINDS, NO_NUMBER};
+use crate::older;
 use crate::run::{Call, History};
 use reference::{CLAUSES, COUNT, DEEPEST, DEPTHS, DESK, FEED, FRAMES, HOLDS, MARKS, ORIGINS, STATES};
 use std::cell::OnceCell;
@@ -170,6 +171,95 @@ impl Look<'_> {
     }
 }
 
+/// Deep frames, and desks of earlier versions.
+impl Look<'_> {
+    /// An accepted acquire over so many held locks.
+    fn acquires_over(&self, depths: RangeInclusive<usize>) -> bool {
+        self.accepted(0).is_some() && depths.contains(&depth(self.before, self.frame()))
+    }
+    /// A pair drawn first by a held lock at this place or a later one, and by none before it.
+    fn drew_from(&self, place: usize) -> bool {
+        self.waits() && depth(self.before, self.frame()) > place && {
+            let draws = self.draws();
+            let before = |pair: usize| draws[..place].iter().any(|d| d.0 == pair);
+            draws[place..].iter().any(|d| self.sheet[d.0] == 0 && !before(d.0))
+        }
+    }
+    /// A kind of a pair likewise.
+    fn drew_kind_from(&self, place: usize) -> bool {
+        self.waits() && depth(self.before, self.frame()) > place && {
+            let draws = self.draws();
+            draws[place..].iter().any(|d| self.sheet[d.0] & d.1 == 0 && !draws[..place].contains(d))
+        }
+    }
+    /// A class that is marked, held at this place or a later one, and not in the same mode and by the same sort before it.
+    fn marked_from(&self, place: usize) -> bool {
+        self.record().is_some() && self.answer < 2 && depth(self.after, self.frame_after()) > place && {
+            let (desk, frame) = (self.after, self.frame_after());
+            let lock = |place: usize| (hold(desk, frame, place), is_try(desk, frame, place));
+            let marked = |class: usize| self.before[MARKS + class] != desk[MARKS + class];
+            let at = |p: usize| marked(usize::from(lock(p).0 % 64)) && !(0..place).any(|q| lock(q) == lock(p));
+            (place..depth(desk, frame)).any(at)
+        }
+    }
+    fn releases_at(&self, places: RangeInclusive<usize>) -> bool {
+        self.release(|_, _, place| places.contains(&place))
+    }
+    /// A release by which something changes at a place from this one on that still has a lock.
+    fn moves_from(&self, from: usize, differ: impl Fn(&[u8], usize, usize) -> bool) -> bool {
+        self.release(|desk, f, place| (place.max(from)..depth(desk, f) - 1).any(|to| differ(desk, f, to)))
+    }
+    fn moves_lock(&self, from: usize) -> bool {
+        self.moves_from(from, |desk, f, to| hold(desk, f, to) != hold(desk, f, to + 1))
+    }
+    fn moves_origin(&self, from: usize) -> bool {
+        self.moves_from(from, |desk, f, to| is_try(desk, f, to) != is_try(desk, f, to + 1))
+    }
+    /// A step or a question on a fit desk with such a depth.
+    fn fit_depth(&self, depths: RangeInclusive<u8>) -> bool {
+        self.fit_pairs().is_some() && self.before[DEPTHS..MARKS].iter().any(|depth| depths.contains(depth))
+    }
+    /// Refused for nothing but depths, and each that is over the limit is such.
+    fn over_limit(&self, such: impl Fn(u8) -> bool) -> bool {
+        let over = |depth: u8| usize::from(depth) > DEEPEST;
+        self.clause("depth over the limit") && self.before[DEPTHS..MARKS].iter().all(|&d| !over(d) || such(d)) && {
+            let mut desk = self.before.to_vec();
+            desk[DEPTHS..MARKS].iter_mut().for_each(|depth| *depth = (*depth).min(DEEPEST as u8));
+            reference::unfit(&desk, self.sheet, self.seen, None).is_none()
+        }
+    }
+    /// Refused for the locks at places from this one on alone: by this clause, of which this is the test, of a lock and K.
+    fn standing_from(&self, place: usize, clause: &str, wrong: impl Fn(u8, u8) -> bool) -> bool {
+        let (desk, k) = (self.before, self.classes());
+        self.clause(clause) && (0..FRAMES).all(|f| (0..depth(desk, f).min(place)).all(|p| !wrong(hold(desk, f, p), k)))
+    }
+    /// Refused for bytes that are not 0 at unused places from this one on alone.
+    fn unused_from(&self, place: usize) -> bool {
+        let desk = self.before;
+        self.clause("unused hold not 0") && (0..FRAMES).all(|f| (depth(desk, f)..place).all(|p| hold(desk, f, p) == 0))
+    }
+    /// Refused for origins at such frames and places alone.
+    fn origins_only(&self, such: impl Fn(usize, usize) -> bool) -> bool {
+        let desk = self.before;
+        self.clause(ORIGIN)
+            && (0..FRAMES).all(|f| (depth(desk, f)..DEEPEST).all(|p| !is_try(desk, f, p) || such(f, p)))
+    }
+    /// Refused on a desk that an earlier version takes, in a buffer with such bytes behind the old ones.
+    fn old(&self, such: impl Fn(&[u8]) -> bool) -> bool {
+        let clauses = [CLAUSES[0], "hold class K or more", "hold mode 3", "unused hold not 0", ORIGIN];
+        let refused = matches!(self.call, Call::Step(_) | Call::Ask(_)) && clauses.iter().any(|clause| self.clause(clause));
+        let fit = |desk: &[u8]| reference::unfit(desk, self.sheet, self.seen, None).is_none();
+        refused
+            && self.before.get(older::DESK..).is_some_and(such)
+            && older::read_as_old(self.before).is_some_and(|desk| fit(&desk))
+    }
+    /// The same in a buffer that is long enough today.
+    fn old_in_longer(&self, zeros: bool) -> bool {
+        let today = DESK - older::DESK;
+        self.old(|behind| behind.len() >= today && zeros == behind[..today].iter().all(|&byte| byte == 0))
+    }
+}
+
 /// A piece or an end over a fit feed.
 impl Look<'_> {
     fn fit_feed(&self) -> bool {
@@ -237,6 +327,13 @@ impl Look<'_> {
     }
     fn stops(&self, answer: u8) -> bool {
         self.piece(|_| true) && self.answer == answer
+    }
+    /// A record refused on a desk that an earlier version takes, in a buffer that is long enough today.
+    fn fed_old(&self) -> bool {
+        let (sheet, seen) = (self.sheet, self.seen);
+        let fit = |desk: &[u8]| reference::unfit(desk, sheet, seen, None).is_none();
+        let longer = self.stops(11) && self.records() == 1 && self.before.len() >= DESK && !self.short_slip(self.before);
+        longer && !fit(self.before) && older::read_as_old(self.before).is_some_and(|desk| fit(&desk))
     }
     /// An end over a feed that stands at no answer.
     fn end(&self, opened: bool, kept: usize, answer: u8) -> bool {
@@ -577,7 +674,7 @@ pub const SIGHTS: &[Sight] = &[
         l.release(|desk, f, p| tries(desk, f).any(|t| t > p && (DEEPEST * f + t) % 8 == 0))
     }),
     sight("release with a try on top", 23_000, |l| l.release(|desk, f, _| is_try(desk, f, depth(desk, f) - 1))),
-    sight("release in a full frame, a try first in the next", 140, |l| {
+    sight("release in a full frame, a try first in the next", 81, |l| {
         l.release(|desk, f, _| depth(desk, f) == DEEPEST && f + 1 < FRAMES && is_try(desk, f + 1, 0))
     }),
     sight("release in a frame not full, a try first in the next", 1500, |l| {
@@ -602,6 +699,33 @@ pub const SIGHTS: &[Sight] = &[
             (0..p).any(|q| hold(desk, f, q) % 64 == lock % 64 && hold(desk, f, q) != lock)
         })
     }),
+    // Deep frames.
+    sight("acquire over 20 held locks", 430, |l| l.acquires_over(20..=20)),
+    sight("acquire over 21 to 46 held locks", 7500, |l| l.acquires_over(21..=46)),
+    sight("acquire that fills a frame", 2400, |l| l.acquires_over(DEEPEST - 1..=DEEPEST - 1)),
+    sight("try over 20 to 31 held locks", 2100, |l| l.tries() && l.acquires_over(20..=31)),
+    sight("try over 32 to 46 held locks", 1800, |l| l.tries() && l.acquires_over(32..=46)),
+    sight("try that fills a frame", 1200, |l| l.tries() && l.acquires_over(DEEPEST - 1..=DEEPEST - 1)),
+    sight("pair drawn first from place 20 on alone", 2400, |l| l.drew_from(20)),
+    sight("pair drawn first from place 32 on alone", 1300, |l| l.drew_from(32)),
+    sight("pair drawn first from place 46 alone", 240, |l| l.drew_from(DEEPEST - 2)),
+    sight("kind drawn first from place 20 on alone", 2500, |l| l.drew_kind_from(20)),
+    sight("kind drawn first from place 32 on alone", 1300, |l| l.drew_kind_from(32)),
+    sight("mark from place 20 on alone", 2100, |l| l.marked_from(20)),
+    sight("mark from place 32 on alone", 1000, |l| l.marked_from(32)),
+    sight("mark from place 47 alone", 240, |l| l.marked_from(DEEPEST - 1)),
+    sight("release at place 20 to 31", 1300, |l| l.releases_at(20..=31)),
+    sight("release at place 32 to 46", 3000, |l| l.releases_at(32..=46)),
+    sight("release at place 47", 790, |l| l.releases_at(DEEPEST - 1..=DEEPEST - 1)),
+    sight("release at the first place of a full frame", 30, |l| l.release(|desk, f, p| p == 0 && depth(desk, f) == DEEPEST)),
+    sight("release that moves a lock to place 20 or more", 4600, |l| l.moves_lock(20)),
+    sight("release that moves a lock to place 32 or more", 3600, |l| l.moves_lock(32)),
+    sight("release that moves an origin to place 20 or more", 1700, |l| l.moves_origin(20)),
+    sight("release that moves an origin to place 32 or more", 1400, |l| l.moves_origin(32)),
+    sight("release in a frame with tries in all six bytes", 3000, |l| {
+        l.release(|desk, f, _| (0..DEEPEST / 8).all(|byte| tries(desk, f).any(|t| t / 8 == byte)))
+    }),
+    sight("try in a frame but the first", 26_000, |l| l.tries() && l.frame() > 0),
     // The cycle shown.
     sight("cycle of 1 dependency", 990, |l| l.of_length(1..=1)),
     sight("cycle of 2 dependencies", 820, |l| l.of_length(2..=2)),
@@ -683,7 +807,9 @@ pub const SIGHTS: &[Sight] = &[
     sight("refused record over a clash", 390, |l| l.record().is_some() && (3..9).contains(&l.answer) && l.clashes()[0] != 0),
     sight("closed desk with a clash", 7900, |l| l.record().is_some() && l.answer == 10 && l.clashes()[0] != 0),
     // Refusals.
-    sight("try in a full frame", 1200, |l| l.refused(8, |_, _, mode| TRIES.contains(&mode))),
+    sight("try in a full frame", 490, |l| l.refused(8, |_, _, mode| TRIES.contains(&mode))),
+    sight("wait in a full frame", 540, |l| l.refused(8, |_, _, mode| mode < 3)),
+    sight("class K or more in a full frame", 25, |l| l.refused(4, |kind, _, _| kind == 0) && depth(l.before, l.frame()) == DEEPEST),
     sight("try of class K or more", 300, |l| l.refused(4, |_, _, mode| TRIES.contains(&mode))),
     sight("acquire with mode 6", 200, |l| l.refused(3, |kind, class, mode| kind == 0 && mode == 6 && class < l.classes())),
     sight("acquire with a mode over 6", 150, |l| l.refused(3, |kind, _, mode| kind == 0 && mode > 6)),
@@ -803,30 +929,59 @@ pub const SIGHTS: &[Sight] = &[
     sight("call on a fit desk with a try", 130_000, |l| l.answer < 10 && has_origins(l.before)),
     sight("origin right past the depth", 270, |l| l.origin(|f, p| p == depth(l.before, f))),
     sight("origin in an empty frame", 690, |l| l.origin(|f, _| depth(l.before, f) == 0)),
-    sight("origin in a byte of two frames", 160, |l| {
-        l.origin(|f, p| {
-            let byte = (DEEPEST * f + p) / 8;
-            byte != DEEPEST * f / 8 && byte == DEEPEST * (f + 1) / 8
-        })
-    }),
+    sight("origin in the last byte of a frame alone", 370, |l| l.origins_only(|_, p| p >= DEEPEST - 8)),
+    sight("origin from place 20 on alone", 550, |l| l.origins_only(|_, p| p >= 20)),
+    sight("origin from place 32 on alone", 460, |l| l.origins_only(|_, p| p >= 32)),
+    sight("origin behind the first 60 bytes alone", 530, |l| l.origins_only(|f, p| DEEPEST * f + p >= 480)),
     sight("origin at the last place of the last frame", 220, |l| l.origin(|f, p| (f, p) == (FRAMES - 1, DEEPEST - 1))),
     sight("hold byte of 192 or more with an origin", 420, |l| {
         let mut places = (0..FRAMES).flat_map(|f| (0..depth(l.before, f)).map(move |p| (f, p)));
         l.clause("hold mode 3") && places.any(|(f, p)| hold(l.before, f, p) > 191 && is_try(l.before, f, p))
     }),
-    sight("call on a desk a byte short of the origins", 340, |l| l.short(ORIGINS - 1..ORIGINS)),
-    sight("call on a desk without the origins", 120, |l| l.short(ORIGINS..ORIGINS + 1)),
+    sight("call on a fit desk with a depth of 20", 5400, |l| l.fit_depth(20..=20)),
+    sight("call on a fit desk with a depth of 21 to 47", 28_000, |l| l.fit_depth(21..=47)),
+    sight("call on a fit desk with a full frame", 12_000, |l| l.fit_depth(48..=48)),
+    sight("depth of 49", 41, |l| l.over_limit(|depth| depth == 49)),
+    sight("depth of 50 to 254", 83, |l| l.over_limit(|depth| (50..255).contains(&depth))),
+    sight("depth of 255", 26, |l| l.over_limit(|depth| depth == 255)),
+    sight("depth of 64 to 112", 41, |l| l.over_limit(|depth| (64..=112).contains(&depth))),
+    sight("held class of K or more from place 20 on alone", 41, |l| {
+        l.standing_from(20, "hold class K or more", |lock, k| lock % 64 >= k)
+    }),
+    sight("held class of K or more from place 32 on alone", 25, |l| {
+        l.standing_from(32, "hold class K or more", |lock, k| lock % 64 >= k)
+    }),
+    sight("hold byte of 192 or more from place 20 on alone", 100, |l| l.standing_from(20, "hold mode 3", |lock, _| lock > 191)),
+    sight("hold byte of 192 or more from place 32 on alone", 61, |l| l.standing_from(32, "hold mode 3", |lock, _| lock > 191)),
+    sight("unused byte not 0 from place 20 on alone", 380, |l| l.unused_from(20)),
+    sight("unused byte not 0 from place 32 on alone", 220, |l| l.unused_from(32)),
+    sight("unused byte not 0 at the last place alone", 32, |l| l.unused_from(DEEPEST - 1)),
+    sight("old desk, zeros behind", 130, |l| l.old_in_longer(true)),
+    sight("old desk, other bytes behind", 260, |l| l.old_in_longer(false)),
+    sight("old desk in a buffer too short today", 170, |l| l.old(|behind| behind.len() < DESK - older::DESK)),
+    sight("old desk that reads the same", 35, |l| l.fit_pairs().is_some() && older::reads_the_same(l.before)),
+    sight("call on a desk of 578 bytes", 130, |l| l.short(older::ORIGINS..older::ORIGINS + 1)),
+    sight("call on a desk of 638 bytes", 110, |l| l.short(older::COUNT..older::COUNT + 1)),
+    sight("call on a desk of 642 bytes", 120, |l| l.short(older::DESK..older::DESK + 1)),
+    sight("call on a desk a byte short of the origins", 76, |l| l.short(ORIGINS - 1..ORIGINS)),
+    sight("call on a desk without the origins", 40, |l| l.short(ORIGINS..ORIGINS + 1)),
     sight("call on a desk with part of the origins", 100, |l| l.short(ORIGINS + 1..COUNT)),
     sight("call on a desk without the count", 93, |l| l.short(COUNT..COUNT + 1)),
-    sight("call on a desk with part of the count", 300, |l| l.short(COUNT + 1..DESK)),
+    sight("call on a desk with part of the count", 140, |l| l.short(COUNT + 1..DESK)),
     sight("call on a desk a byte short", 92, |l| l.short(DESK - 1..DESK)),
     sight("call on a desk a byte longer", 21_000, |l| l.answer < 10 && l.before.len() == DESK + 1),
     // Opening.
+    sight("opening of a desk of 578 bytes", 27, |l| l.opens(older::ORIGINS..older::ORIGINS + 1)),
+    sight("opening of a desk of 638 bytes", 25, |l| l.opens(older::COUNT..older::COUNT + 1)),
+    sight("opening of a desk of 642 bytes", 30, |l| l.opens(older::DESK..older::DESK + 1)),
+    sight("opening over held locks behind byte 642", 2200, |l| {
+        l.opened_over(|_| l.before[older::DESK..ORIGINS].iter().any(|&byte| byte != 0))
+    }),
     sight("opening of a desk a byte short of the origins", 31, |l| l.opens(ORIGINS - 1..ORIGINS)),
     sight("opening of a desk without the origins", 28, |l| l.opens(ORIGINS..ORIGINS + 1)),
     sight("opening of a desk with part of the origins", 56, |l| l.opens(ORIGINS + 1..COUNT)),
     sight("opening of a desk without the count", 23, |l| l.opens(COUNT..COUNT + 1)),
-    sight("opening of a desk with part of the count", 100, |l| l.opens(COUNT + 1..DESK)),
+    sight("opening of a desk with part of the count", 42, |l| l.opens(COUNT + 1..DESK)),
     sight("opening of a desk a byte short", 44, |l| l.opens(DESK - 1..DESK)),
     sight("opening of a desk a byte longer", 130, |l| {
         matches!(l.call, Call::Open(_)) && l.answer == 0 && l.before.len() == DESK + 1
@@ -887,6 +1042,7 @@ pub const SIGHTS: &[Sight] = &[
     at_feed("header with K = 0", 39, |l| l.bad_header(|h| h == [0x4C, 0x48, 1, 0])),
     at_feed("header with K over 64", 38, |l| l.bad_header(|h| h[..3] == [0x4C, 0x48, 1] && h[3] > 64)),
     at_feed("header with a short desk", 40, |l| l.short_for_header(0)),
+    at_feed("header with a desk of 578, 638 or 642 bytes", 8, |l| l.short_for_header(0) && older::SIZES.contains(&l.before.len())),
     at_feed("header with a short sheet", 41, |l| l.short_for_header(1)),
     at_feed("header with a short second sheet", 40, |l| l.short_for_header(2)),
     at_feed("header that opens", 750, |l| l.header(false).is_some()),
@@ -909,6 +1065,8 @@ pub const SIGHTS: &[Sight] = &[
     at_feed("piece after a stop", 10_000, |l| l.piece_at(true).is_some_and(|p| !p.is_empty())),
     at_feed("empty piece after a stop", 1300, |l| l.piece_at(true).is_some_and(|p| p.is_empty())),
     at_feed("piece after a fault", 77, |l| l.answer == 1 && l.piece_at(true).is_some_and(|p| p.len() > 5)),
+    at_feed("record that stops with 8", 10, |l| l.stops(8)),
+    at_feed("record over an old desk in a longer buffer", 9, |l| l.fed_old()),
     at_feed("record that stops with 9", 130, |l| l.stops(9)),
     at_feed("record that stops with 9 over a cut", 100, |l| l.stops(9) && l.opened() && l.kept() > 0 && l.records() == 1),
     at_feed("record that stops with 9 after others of the piece", 10, |l| l.stops(9) && l.records() > 1),
@@ -1039,6 +1197,7 @@ pub const SIGHTS: &[Sight] = &[
     at_balance("balance that comes back from below 0", 260, |l| {
         l.weighs(|t| (0..64).any(|class| t.lowest[class] < 0 && t.balances[class] > t.lowest[class]))
     }),
+    at_balance("balance over 48", 100, |l| l.some_balance(|b| b > 48)),
     at_balance("balance over 127", 96, |l| l.some_balance(|b| b > 127)),
     at_balance("balance below -128", 90, |l| l.some_balance(|b| b < -128)),
     at_balance("balance over 255", 73, |l| l.some_balance(|b| b > 255)),

@@ -2,9 +2,10 @@
 //!
 //! Written from the documents alone (01, "What will be built, and the rules", and
 //! of 02 "A try never waits", "Logs arrive in pieces", "Show the shortest circle",
-//! "Clash of one class by table", "Where was this arrow first seen?" and "Balance of a
-//! piece", with the feed's layout and fit test as they were handed over), to be compared
-//! byte for byte with the proved library. Sentences in quotation marks are the documents'.
+//! "Clash of one class by table", "Where was this arrow first seen?", "Balance of a piece"
+//! and "Deeper nesting", with the feed's layout and fit test as they were handed over), to be
+//! compared byte for byte with the proved library. Sentences in quotation marks are the
+//! documents'.
 //!
 //! How closed strong paths are decided: a path is a walk over *arrivals*, an
 //! arrival being a class together with the second letter (N or R) of the arrow
@@ -50,17 +51,17 @@ pub const ENTRY: usize = 3 + WORD; // "Each slip arrow grows to seven bytes"
 const MAX_K: usize = 64; // "K is the number of classes, 1 to 64"
 pub const CORES: usize = 8; // "There are 8 cores."
 pub const FRAMES: usize = 3 * CORES; // task, soft, hard of each core
-pub const DEEPEST: usize = 20; // "20 per frame"
+pub const DEEPEST: usize = 48; // 02 g: "Raise the limit to 48 per frame."
 const PLACES: usize = FRAMES * DEEPEST;
 
 // Where things lie on the desk.
 pub const STATES: usize = 2; // "bytes 2-9 each core's state 0-8"
 pub const DEPTHS: usize = STATES + CORES; // "bytes 10-33 hold depths (core 0 task, soft, hard, then core 1 and so on)"
 pub const MARKS: usize = DEPTHS + FRAMES; // "bytes 34-97 marks by class"
-pub const HOLDS: usize = MARKS + MAX_K; // "bytes 98-577 the holds"
-pub const ORIGINS: usize = HOLDS + PLACES; // "60 more desk bytes from 578 on, one bit per hold place in order"
-pub const COUNT: usize = ORIGINS + PLACES.div_ceil(8); // "a four-byte count of accepted records after its other bytes"
-pub const DESK: usize = COUNT + WORD;
+pub const HOLDS: usize = MARKS + MAX_K; // from 98 on; 02 g: "The holds take 1,152 bytes"
+pub const ORIGINS: usize = HOLDS + PLACES; // from 1,250 on, "one bit per hold place in order"; 02 g: "and the origin bits 144"
+pub const COUNT: usize = ORIGINS + PLACES.div_ceil(8); // from 1,394 on, "a four-byte count of accepted records after its other bytes"
+pub const DESK: usize = COUNT + WORD; // 02 g: "so the desk is 1,398 bytes"
 
 // "Kinds: 0 take, 1 release, .. 7 exit soft, .. 9 exit hard."
 const TAKE: u8 = 0;
@@ -91,8 +92,8 @@ fn ends_with_r(kind: u8) -> bool {
 
 // ------------------------------------------------------------------ opening
 
-/// Opening writes K, zero in the other 641 desk bytes, in the sheet's K x K bytes and in
-/// the second sheet's 4 x K x K bytes. Answers 0, or 2: K not 1-64, desk under 642, sheet
+/// Opening writes K, zero in the other 1,397 desk bytes, in the sheet's K x K bytes and in
+/// the second sheet's 4 x K x K bytes. Answers 0, or 2: K not 1-64, desk under 1,398, sheet
 /// under K x K, or second sheet under 4 x K x K, "nothing changed".
 pub fn open(k: u64, desk: &mut [u8], sheet: &mut [u8], seen: &mut [u8]) -> u8 {
     if k < 1 || k > MAX_K as u64 {
@@ -136,7 +137,9 @@ pub const CLAUSES: [&str; 20] = [
 ];
 
 /// The first clause of "Unfit" that is violated, in the order of [`CLAUSES`].
-/// A slip is looked at only where there is one (the question has none).
+/// A slip is looked at only where there is one (the question has none). "Old desks in
+/// shorter buffers get 11; in longer ones they are read in the new layout.": nothing here
+/// tells an old desk from any other.
 pub fn unfit(desk: &[u8], sheet: &[u8], seen: &[u8], slip: Option<&[u8]>) -> Option<&'static str> {
     // "any buffer too short; K not 1-64"
     if desk.len() < DESK {
@@ -165,7 +168,7 @@ pub fn unfit(desk: &[u8], sheet: &[u8], seen: &[u8], slip: Option<&[u8]>) -> Opt
     if states.iter().any(|&s| s > 8) {
         return Some(CLAUSES[5]);
     }
-    // "a depth over 20"
+    // "a depth over" 48; 02 g: "Answer 8 and the fit test read depth 48 for 20"
     if depths.iter().any(|&d| usize::from(d) > DEEPEST) {
         return Some(CLAUSES[6]);
     }
@@ -180,12 +183,15 @@ pub fn unfit(desk: &[u8], sheet: &[u8], seen: &[u8], slip: Option<&[u8]>) -> Opt
     if standing(|hold, _| hold / 64 == 3) {
         return Some(CLAUSES[8]);
     }
-    if frames().any(|(holds, &depth)| holds[usize::from(depth)..].iter().any(|&h| h != 0)) {
+    let empty = [0; DEEPEST];
+    if frames().any(|(holds, &depth)| holds[usize::from(depth)..] != empty[usize::from(depth)..]) {
         return Some(CLAUSES[9]);
     }
     // "zero where no hold stands, else the desk is unfit"
     let stands = |place: usize| place % DEEPEST < usize::from(depths[place / DEEPEST]);
-    if (0..PLACES).any(|place| !stands(place) && is_try(desk, HOLDS + place)) {
+    let stray = |place: usize| is_try(desk, HOLDS + place) && !stands(place);
+    let eight = |byte: usize| 8 * byte..PLACES.min(8 * byte + 8);
+    if (ORIGINS..COUNT).any(|at| desk[at] != 0 && eight(at - ORIGINS).any(stray)) {
         return Some(CLAUSES[10]);
     }
     // "soft holds outside states 4, 5, 8"
@@ -386,7 +392,7 @@ pub fn step(
     if kind == RELEASE && newest.is_none() {
         return 5;
     }
-    // 8: "take, frame holds 20"
+    // 8: "take, frame holds" 48; 02 g: "Answer 8 and the fit test read depth 48 for 20"
     if kind == TAKE && depth == DEEPEST {
         return 8;
     }

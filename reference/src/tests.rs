@@ -87,17 +87,17 @@ impl Bench {
         );
         (answer, word, count)
     }
-    /// The count of accepted records, bytes 638 to 641, low byte first.
+    /// The count of accepted records, bytes 1,394 to 1,397, low byte first.
     fn count(&self) -> u32 {
         u32::from_le_bytes([
-            self.desk[638],
-            self.desk[639],
-            self.desk[640],
-            self.desk[641],
+            self.desk[1394],
+            self.desk[1395],
+            self.desk[1396],
+            self.desk[1397],
         ])
     }
     fn set_count(&mut self, count: u32) {
-        self.desk[638..642].copy_from_slice(&count.to_le_bytes());
+        self.desk[1394..1398].copy_from_slice(&count.to_le_bytes());
     }
     /// The number of a pair on the second sheet, at 4 x (from x K + to).
     fn number(&self, from: usize, to: usize) -> u32 {
@@ -136,8 +136,8 @@ impl Bench {
     }
     /// The places whose origin bit is 1, lowest bit first over the whole region.
     fn origins(&self) -> Vec<usize> {
-        (0..480)
-            .filter(|&place| self.desk[578 + place / 8] >> (place % 8) & 1 == 1)
+        (0..1152)
+            .filter(|&place| self.desk[1250 + place / 8] >> (place % 8) & 1 == 1)
             .collect()
     }
     fn unfit(&self) -> Option<&'static str> {
@@ -532,16 +532,26 @@ fn p12() {
 
 #[test]
 fn refusal_logs() {
-    let mut twenty = vec![take(0, 0, R); 20];
-    assert_clean(&twenty);
-    twenty.push(take(0, 0, R));
-    assert_eq!(judge(8, &twenty), (21, 8));
+    // "document 01's case of twenty changes with it": 0R forty-eight times, then 0R.
+    let mut full = vec![take(0, 0, R); 48];
+    assert_clean(&full);
+    full.push(take(0, 0, R));
+    assert_eq!(judge(8, &full), (49, 8));
+    assert_eq!(program(&log(8, &full)), "refused 8 at record 49\n");
+    // By a try too.
+    for mode in MODES {
+        full[48] = take(0, 0, mode);
+        assert_eq!(judge(8, &full), (49, 8));
+    }
+    // Twenty, and then one, is nothing special any more.
+    assert_clean(&full[..20]);
+    assert_clean(&full[..21]);
     // A full frame is full for itself alone: not for another core, nor for a handler.
-    twenty[20] = take(1, 0, R);
-    assert_clean(&twenty);
-    twenty[20] = event(0, ENTER_SOFT);
-    twenty.push(take(0, 0, R));
-    assert_clean(&twenty);
+    full[48] = take(1, 0, R);
+    assert_clean(&full);
+    full[48] = event(0, ENTER_SOFT);
+    full.push(take(0, 0, R));
+    assert_clean(&full);
     assert_eq!(
         judge(
             8,
@@ -674,7 +684,7 @@ fn refusal_order() {
     // 4 before 5: nothing of class 8 can be held.
     b.refused(&release(0, 8), 4);
     // 4 and 3 before 8: the frame is full.
-    let full = b.clean(&[take(0, 0, R); 20]);
+    let full = b.clean(&[take(0, 0, R); 48]);
     full.refused(&take(0, 0, 6), 3);
     for mode in MODES {
         full.refused(&take(0, 8, mode), 4);
@@ -708,19 +718,22 @@ fn opening() {
     for k in 1..=64 {
         let size = k * k;
         for (desk, sheet, seen, answer) in [
-            (642, size, 4 * size, 0),
-            (645, size + 5, 4 * size, 0),
-            (642, size, 4 * size + 1, 0),
-            (642, size, 4 * size + 70, 0),
-            (641, size, 4 * size, 2),
+            (1398, size, 4 * size, 0),
+            (1401, size + 5, 4 * size, 0),
+            (1398, size, 4 * size + 1, 0),
+            (1398, size, 4 * size + 70, 0),
+            (1397, size, 4 * size, 2),
+            (1394, size, 4 * size, 2),
+            (1250, size, 4 * size, 2),
+            (642, size, 4 * size, 2),
             (638, size, 4 * size, 2),
             (578, size, 4 * size, 2),
             (577, size, 4 * size, 2),
-            (642, size - 1, 4 * size, 2),
-            (642, size, 4 * size - 1, 2),
-            (642, size, 4 * size - 4, 2),
-            (642, size, size, 2),
-            (642, size, 0, 2),
+            (1398, size - 1, 4 * size, 2),
+            (1398, size, 4 * size - 1, 2),
+            (1398, size, 4 * size - 4, 2),
+            (1398, size, size, 2),
+            (1398, size, 0, 2),
             (0, 0, 0, 2),
         ] {
             // The slip isn't looked at.
@@ -731,12 +744,12 @@ fn opening() {
                 continue;
             }
             assert_eq!(b.desk[0], k as u8);
-            assert!(b.desk[1..642]
+            assert!(b.desk[1..1398]
                 .iter()
                 .chain(&b.sheet[..size])
                 .all(|&x| x == 0));
             assert!(b.seen[..4 * size].iter().all(|&x| x == 0));
-            assert!(b.desk[642..]
+            assert!(b.desk[1398..]
                 .iter()
                 .chain(&b.sheet[size..])
                 .all(|&x| x == 0xA5));
@@ -750,13 +763,14 @@ fn opening() {
 fn bytes_past_the_sizes_stay() {
     let mut b = lent(DESK + 9, 9 + 9, 36 + 9, 22 + 9);
     assert_eq!(b.open(3), 0);
-    // The last place of the last frame, whose origin is the highest bit of byte 637.
+    // The last place of the last frame, whose origin is the highest bit of byte 1,393.
     b.desk[9] = 8;
-    b.desk[33] = 19;
-    b.desk[558..577].fill(128);
+    b.desk[33] = 47;
+    b.desk[1202..1249].fill(128);
     let last = [take(7, 0, TRR), release(7, 0), take(7, 0, TRR)];
     assert_eq!(last.map(|r| b.step(&r)), [0, 0, 0]);
-    assert_eq!(b.desk[637..642], [128, 3, 0, 0, 0]);
+    assert_eq!((b.desk[33], b.desk[1249]), (48, 128));
+    assert_eq!(b.desk[1393..1398], [128, 3, 0, 0, 0]);
     assert!(b.slip.iter().all(|&b| b == 0xA5));
     // The last pair's number is in the last four of 36 bytes.
     assert_eq!([take(1, 2, R), take(1, 2, R)].map(|r| b.step(&r)), [0, 0]);
@@ -769,7 +783,7 @@ fn bytes_past_the_sizes_stay() {
         [2, 1, EN, 0, 9, 0, 0, 0, 2, EN, 0, 13, 0, 0, 0]
     );
     assert_eq!(b.desk[1], 1);
-    for tail in [&b.desk[642..], &b.sheet[9..], &b.seen[36..], &b.slip[15..]] {
+    for tail in [&b.desk[1398..], &b.sheet[9..], &b.seen[36..], &b.slip[15..]] {
         assert!(!tail.is_empty() && tail.iter().all(|&b| b == 0xA5));
     }
     assert!(b.true_circle(&b.slip));
@@ -806,11 +820,9 @@ fn each_clause_of_unfit() {
             met.push(clause);
         }
     };
-    violate(CLAUSES[0], &|b| b.desk.truncate(641));
-    violate(CLAUSES[0], &|b| b.desk.truncate(638));
-    violate(CLAUSES[0], &|b| b.desk.truncate(637));
-    violate(CLAUSES[0], &|b| b.desk.truncate(578));
-    violate(CLAUSES[0], &|b| b.desk.truncate(577));
+    for length in [1397, 1394, 1393, 1250, 1249, 642, 641, 638, 637, 578, 577] {
+        violate(CLAUSES[0], &|b| b.desk.truncate(length));
+    }
     violate(CLAUSES[0], &|b| b.desk.clear());
     violate(CLAUSES[1], &|b| b.desk[0] = 0);
     violate(CLAUSES[1], &|b| b.desk[0] = 65);
@@ -822,32 +834,33 @@ fn each_clause_of_unfit() {
     violate(CLAUSES[4], &|b| b.desk[1] = 2);
     violate(CLAUSES[5], &|b| b.desk[2] = 9);
     violate(CLAUSES[5], &|b| b.desk[9] = 255);
-    violate(CLAUSES[6], &|b| b.desk[10] = 21);
+    violate(CLAUSES[6], &|b| b.desk[10] = 49);
     violate(CLAUSES[6], &|b| b.desk[33] = 255);
     violate(CLAUSES[7], &|b| {
         b.desk[10] = 1;
         b.desk[98] = 8;
     });
     violate(CLAUSES[7], &|b| {
-        b.desk[10] = 20;
-        b.desk[117] = 63 + 128;
+        b.desk[10] = 48;
+        b.desk[145] = 63 + 128;
     });
     // The origin doesn't excuse a mode of 3.
     for origin in 0..2 {
         violate(CLAUSES[8], &|b| {
             b.desk[10] = 1;
             b.desk[98] = 192;
-            b.desk[578] = origin;
+            b.desk[1250] = origin;
         });
     }
     violate(CLAUSES[9], &|b| b.desk[98] = 1);
-    violate(CLAUSES[9], &|b| b.desk[577] = 64);
-    violate(CLAUSES[9], &|b| b.desk[98 + 120 + 1] = 7);
+    violate(CLAUSES[9], &|b| b.desk[1249] = 64);
+    violate(CLAUSES[9], &|b| b.desk[98 + 288 + 1] = 7);
+    violate(CLAUSES[9], &|b| (b.desk[10], b.desk[145]) = (47, 7));
     // Every origin bit where no hold stands: core 2's frames have one hold each.
-    let standing = [6 * 20, 7 * 20, 8 * 20];
-    for place in (0..480).filter(|place| !standing.contains(place)) {
+    let standing = [6 * 48, 7 * 48, 8 * 48];
+    for place in (0..1152).filter(|place| !standing.contains(place)) {
         violate(CLAUSES[10], &|b| {
-            b.desk[578 + place / 8] |= 1 << (place % 8)
+            b.desk[1250 + place / 8] |= 1 << (place % 8)
         });
     }
     for state in [0, 1, 2, 3, 6, 7] {
@@ -907,12 +920,12 @@ fn each_clause_of_unfit() {
     };
     fit(&|b| b.desk[1] = 1);
     for place in standing {
-        fit(&|b| b.desk[578 + place / 8] |= 1 << (place % 8));
+        fit(&|b| b.desk[1250 + place / 8] |= 1 << (place % 8));
     }
-    // Frame 0 has bits 0-19: bytes 578, 579 and the low half of 580.
+    // Frame 0 has bits 0-47: bytes 1,250 to 1,255.
     fit(&|b| {
-        b.desk[10] = 20;
-        b.desk[578..581].copy_from_slice(&[255, 255, 15]);
+        b.desk[10] = 48;
+        b.desk[1250..1256].fill(255);
     });
     fit(&|b| b.desk.push(255));
     fit(&|b| b.desk[34] = 0b1100_1100);
@@ -932,18 +945,18 @@ fn each_clause_of_unfit() {
     }
     fit(&|b| {
         b.desk[10..34]
-            .copy_from_slice(&[[20, 0, 0].repeat(2), vec![1, 1, 1], [20, 0, 0].repeat(5)].concat())
+            .copy_from_slice(&[[48, 0, 0].repeat(2), vec![1, 1, 1], [48, 0, 0].repeat(5)].concat())
     });
     for state in [4, 5, 8] {
         fit(&|b| {
             b.desk[2] = state;
-            b.desk[11] = 20;
+            b.desk[11] = 48;
         });
     }
     for state in [6, 7, 8] {
         fit(&|b| {
             b.desk[9] = state;
-            b.desk[33] = 20;
+            b.desk[33] = 48;
         });
     }
 }
@@ -1016,7 +1029,7 @@ fn next_states_follow_the_names() {
                 None => b.refused(&event(6, kind), 6),
                 Some(next) => {
                     after.desk[2 + 6] = next;
-                    after.desk[638] = 1;
+                    after.desk[1394] = 1;
                     assert_eq!(b.step(&event(6, kind)), 0);
                     assert_eq!(b, after);
                 }
@@ -1049,8 +1062,8 @@ fn marks_by_state_and_mode() {
             assert_eq!(b.desk[MARKS..HOLDS], marks);
             let at = frame(7, state);
             assert_eq!(b.desk[DEPTHS + at], 1);
-            assert_eq!(b.desk[HOLDS + 20 * at], 3 + 64 * (mode % 3));
-            assert_eq!(b.origins(), if mode < 3 { vec![] } else { vec![20 * at] });
+            assert_eq!(b.desk[98 + 48 * at], 3 + 64 * (mode % 3));
+            assert_eq!(b.origins(), if mode < 3 { vec![] } else { vec![48 * at] });
             // "then or later": records of the core that leave it in this state add none.
             let after = b.counted();
             if let Some(kind) = (2..10).find(|&kind| next_state(state, kind) == Some(state)) {
@@ -1105,8 +1118,8 @@ fn desk_and_sheet_byte_by_byte() {
     desk[0] = 4;
     desk[10 + 3] = 3;
     desk[34..38].copy_from_slice(&[68, 136, 136, 68]);
-    desk[98 + 60..98 + 63].copy_from_slice(&[0, 2 + 128, 3]);
-    desk[638] = 5;
+    desk[98 + 144..98 + 147].copy_from_slice(&[0, 2 + 128, 3]);
+    desk[1394] = 5;
     assert_eq!(b.desk, desk);
     // To 1 by record 2, to 2 by record 3, to 3 by record 4.
     let mut seen = vec![0; 64];
@@ -1621,7 +1634,7 @@ fn whichever_record_closed_it() {
     let after = |held: u8, taken: u8| {
         let mut b = standing.clone();
         b.desk[DEPTHS + 9] = 1; // core 3's task
-        b.desk[HOLDS + 9 * 20] = held;
+        b.desk[98 + 9 * 48] = held;
         b.set_count(0xA0B0_C0D0);
         assert_eq!(b.unfit(), None);
         assert_eq!(b.step(&take(3, taken, E)), 1);
@@ -2493,7 +2506,7 @@ fn no_circle_and_unfit() {
     let circle = made(8, &[(0, EN, 0)], &[]);
     assert_shows(&circle, &[(0, EN, 0)]);
     let changes: [&dyn Fn(&mut Bench); 9] = [
-        &|b| b.desk.truncate(641),
+        &|b| b.desk.truncate(1397),
         &|b| b.desk[0] = 65,
         &|b| b.sheet.truncate(63),
         &|b| (b.sheet[63], b.seen[252]) = (16, 1),
@@ -2848,7 +2861,11 @@ impl Naive {
                 for &(older, older_mode) in self.holds[at].iter().filter(|_| mode < 3) {
                     let kind =
                         [[2, 2, 1], [8, 8, 4], [8, 8, 4]][older_mode as usize % 3][mode as usize];
-                    self.arrows.push((older, kind, class, self.accepted));
+                    // The first of a kind between the two is enough.
+                    let there = |a: &(u8, u8, u8, u32)| (a.0, a.1, a.2) == (older, kind, class);
+                    if !self.arrows.iter().any(there) {
+                        self.arrows.push((older, kind, class, self.accepted));
+                    }
                 }
                 self.holds[at].push((class, mode));
             }
@@ -2879,8 +2896,9 @@ impl Naive {
                 (6..=8, _, _) => vec!["hard R"],
                 _ => vec![],
             };
-            self.marks
-                .extend(names.into_iter().map(|name| (class, name)));
+            for name in names {
+                note(&mut self.marks, (class, name));
+            }
         }
     }
     /// The desk and both sheets as they should lie.
@@ -2897,14 +2915,14 @@ impl Naive {
         }
         for holds in &self.holds {
             let mut bytes: Vec<u8> = holds.iter().map(|&(c, m)| c + 64 * (m % 3)).collect();
-            bytes.resize(20, 0);
+            bytes.resize(48, 0);
             desk.extend(bytes);
         }
-        // The origins of all 480 places in a row, then eight to a byte.
+        // The origins of all 1,152 places in a row, then eight to a byte.
         let mut origins = Vec::new();
         for holds in &self.holds {
             origins.extend(holds.iter().map(|h| u8::from(h.1 >= 3)));
-            origins.resize(origins.len() + 20 - holds.len(), 0);
+            origins.resize(origins.len() + 48 - holds.len(), 0);
         }
         desk.extend(
             origins
@@ -2947,13 +2965,23 @@ fn random_record(dice: &mut Dice, k: u64, modes: &[u8]) -> Rec {
     }
 }
 
+/// Two in three are takes of core 0, so that its frames get full.
+fn deep_record(dice: &mut Dice, k: u64, modes: &[u8]) -> Rec {
+    if dice.under(3) == 0 {
+        return random_record(dice, k, modes);
+    }
+    let mode = modes[dice.under(modes.len() as u64) as usize];
+    take(0, dice.under(k) as u8, mode)
+}
+
 #[test]
 fn random_logs_byte_by_byte() {
     let mut dice = Dice(0xFEED_BEEF_0BAD_F00D);
     let mut seen = [0u64; 12];
-    let (mut tries_moved, mut later_kinds) = (0, 0);
+    let (mut tries_moved, mut later_kinds, mut beside_full) = (0, 0, 0);
     for round in 0..7_000u64 {
         let k = 1 + dice.under(if round % 10 == 0 { 64 } else { 6 });
+        let deep = round % 50 == 49;
         let modes: &[u8] = [
             &[E, NR, R][..],
             &[R],
@@ -2966,11 +2994,16 @@ fn random_logs_byte_by_byte() {
         let mut b = Bench::new(k as usize);
         let mut naive = Naive::new(k as u8);
         let mut books = Books::open(k).unwrap();
-        for _ in 0..60 {
-            let r = random_record(&mut dice, k, modes);
+        for _ in 0..if deep { 200 } else { 60 } {
+            let r = if deep {
+                deep_record(&mut dice, k, modes)
+            } else {
+                random_record(&mut dice, k, modes)
+            };
             let before = b.clone();
             let answer = b.step(&r);
             seen[answer as usize] += 1;
+            beside_full += u64::from(before.desk[10..34].contains(&48) && answer == 0);
             assert_eq!(books.enter(&r), answer < 2);
             if answer > 1 {
                 assert_eq!(b, before);
@@ -3006,7 +3039,11 @@ fn random_logs_byte_by_byte() {
         later_kinds > 1000,
         "{later_kinds} kinds came later to a pair"
     );
-    for answer in [0, 1, 3, 4, 5, 6, 7] {
+    assert!(
+        beside_full > 500,
+        "{beside_full} accepted beside a full frame"
+    );
+    for answer in [0, 1, 3, 4, 5, 6, 7, 8] {
         assert!(
             seen[answer] > 100,
             "answer {answer} came {} times",
@@ -3047,7 +3084,7 @@ fn balance_of_holds() {
             }
             for at in 0..24 {
                 let depth = b.desk[DEPTHS + at] as usize;
-                let holds = &b.desk[HOLDS + 20 * at..HOLDS + 20 * at + depth];
+                let holds = &b.desk[98 + 48 * at..98 + 48 * at + depth];
                 let mut counts = [0i64; 64];
                 for &hold in holds {
                     counts[hold as usize % 64] += 1;
@@ -3069,11 +3106,17 @@ fn other_cores_records_never_undo_a_fault() {
     // Demand 3 in small: a fault of the shorter list comes in the longer one at the
     // same record or before.
     let mut dice = Dice(0xC0DE_CAFE_1357_9BDF);
-    for _ in 0..2_000 {
+    let mut full = 0;
+    for round in 0..2_000 {
         let k = 1 + dice.under(5);
         let (mut short, mut long) = (Bench::new(k as usize), Bench::new(k as usize));
-        for _ in 0..40 {
-            let mut r = random_record(&mut dice, k, &[E, NR, R, R, R, TE, TR, TRR]);
+        let deep = round % 40 == 0;
+        for _ in 0..if deep { 250 } else { 40 } {
+            let mut r = if deep {
+                deep_record(&mut dice, k, &[R, TRR])
+            } else {
+                random_record(&mut dice, k, &[E, NR, R, R, R, TE, TR, TRR])
+            };
             if read_record(&r).is_some() && dice.under(2) == 0 {
                 r[2] = 5;
                 long.step(&r);
@@ -3082,14 +3125,16 @@ fn other_cores_records_never_undo_a_fault() {
             if r[2] == 5 {
                 continue;
             }
-            short.step(&r);
-            long.step(&r);
+            let (answer, with_more) = (short.step(&r), long.step(&r));
+            assert_eq!(answer == 8, with_more == 8);
+            full += u64::from(answer == 8);
             assert!(short.desk[1] <= long.desk[1]);
             if long.desk[1] == 1 {
                 break;
             }
         }
     }
+    assert!(full > 100, "{full} met a full frame");
 }
 
 // ---------------------------------------------------------------------- tries
@@ -3098,8 +3143,9 @@ fn other_cores_records_never_undo_a_fault() {
 fn sizes() {
     assert_eq!(
         (STATES, DEPTHS, MARKS, HOLDS, ORIGINS, COUNT, DESK),
-        (2, 10, 34, 98, 578, 638, 642)
+        (2, 10, 34, 98, 1250, 1394, 1398)
     );
+    assert_eq!((CORES, FRAMES, DEEPEST), (8, 24, 48));
     assert_eq!(ENTRY, 7);
     assert_eq!([1, 2, 8, 64].map(sheet_len), [1, 4, 64, 4096]);
     assert_eq!([1, 2, 8, 64].map(seen_len), [4, 16, 256, 16384]);
@@ -3108,13 +3154,17 @@ fn sizes() {
 
 #[test]
 fn a_try_byte_by_byte() {
-    // Core 1's task frame is frame 3, its places 60 to 79: bit 4 of byte 585 is the first.
+    // Core 1's task frame is frame 3, its places 144 to 191: bytes 1,268 to 1,273.
     let b = Bench::new(4).clean(&[
         take(1, 0, E),
         take(1, 1, TR),
         take(1, 2, R),
         take(1, 3, TE),
         take(1, 3, TRR),
+        take(1, 3, TE),
+        take(1, 3, TRR),
+        take(1, 3, TE),
+        take(1, 2, TR),
     ]);
     let mut sheet = vec![0; 16];
     // To the tries of 1 and 3 nothing, from the try of 1 as from a read.
@@ -3125,22 +3175,42 @@ fn a_try_byte_by_byte() {
     let mut seen = vec![0; 64];
     (seen[4 * 2], seen[4 * (4 + 2)]) = (3, 3);
     assert_eq!(b.seen, seen);
-    let mut desk = vec![0; 642];
+    let mut desk = vec![0; 1398];
     desk[0] = 4;
-    desk[638] = 5;
-    desk[10 + 3] = 5;
+    desk[1394] = 9;
+    desk[10 + 3] = 9;
     desk[34..38].copy_from_slice(&[68, 136, 136, 68 + 136]);
-    desk[98 + 60..98 + 65].copy_from_slice(&[0, 1 + 64, 2 + 128, 3, 3 + 128]);
-    desk[585] = 0b1010_0000;
-    desk[586] = 1;
+    desk[98 + 144..98 + 153].copy_from_slice(&[
+        0,
+        1 + 64,
+        2 + 128,
+        3,
+        3 + 128,
+        3,
+        3 + 128,
+        3,
+        2 + 64,
+    ]);
+    desk[1268] = 0b1111_1010;
+    desk[1269] = 1;
     assert_eq!(b.desk, desk);
-    // The oldest goes: 61, 63 and 64 move to 60, 62 and 63, the last out of byte 586.
+    // The oldest goes: 145 and 147 to 152 move down one, the last out of byte 1,269.
     let b = b.clean(&[release(1, 0)]);
-    desk[10 + 3] = 4;
-    desk[98 + 60..98 + 65].copy_from_slice(&[1 + 64, 2 + 128, 3, 3 + 128, 0]);
-    desk[585] = 0b1101_0000;
-    desk[586] = 0;
-    desk[638] = 6;
+    desk[10 + 3] = 8;
+    desk[98 + 144..98 + 153].copy_from_slice(&[
+        1 + 64,
+        2 + 128,
+        3,
+        3 + 128,
+        3,
+        3 + 128,
+        3,
+        2 + 64,
+        0,
+    ]);
+    desk[1268] = 0b1111_1101;
+    desk[1269] = 0;
+    desk[1394] = 10;
     assert_eq!((b.desk, b.sheet, b.seen), (desk, sheet, seen));
 }
 
@@ -3167,7 +3237,10 @@ fn only_arrows_to_a_try_go() {
                 b.desk[98..100],
                 [1 + 64 * (older % 3), 2 + 64 * (newer % 3)]
             );
-            assert_eq!(b.desk[578], u8::from(older >= 3) + 2 * u8::from(newer >= 3));
+            assert_eq!(
+                b.desk[1250..1252],
+                [u8::from(older >= 3) + 2 * u8::from(newer >= 3), 0]
+            );
         }
     }
 }
@@ -3252,66 +3325,171 @@ fn the_newest_goes_whatever_its_origin() {
     assert_eq!((&b.desk[98..100], b.origins()), (&[129, 0][..], vec![]));
 }
 
+/// The bytes of these bits, lowest first.
+fn packed(bits: &[bool]) -> Vec<u8> {
+    bits.chunks(8)
+        .map(|eight| (0..8).map(|i| u8::from(eight[i]) << i).sum())
+        .collect()
+}
+
 #[test]
 fn a_release_moves_origins_within_its_frame() {
-    // Full task frame of core 0 (places 0 to 19), tries at odd ones, and its neighbour in
-    // byte 580, the soft frame (20 to 39), full of tries; state 5 marks no try.
-    let mut full = Bench::new(32);
-    full.desk[10..12].copy_from_slice(&[20, 20]);
-    for place in 0..20 {
+    // By hand. The task frame of core 0 (places 0 to 47, bytes 1,250 to 1,255) with tries at
+    // odd places, and its neighbour, the soft frame (48 to 95, bytes 1,256 to 1,261), full of
+    // tries; state 5 marks no try.
+    let mut full = Bench::new(64);
+    full.desk[10..12].copy_from_slice(&[48, 48]);
+    for place in 0..48 {
         full.desk[98 + place] = place as u8;
-        full.desk[118 + place] = place as u8;
+        full.desk[146 + place] = place as u8;
     }
-    full.desk[578..583].copy_from_slice(&[0xAA, 0xAA, 0xFA, 0xFF, 0xFF]);
+    full.desk[1250..1256].fill(0xAA);
+    full.desk[1256..1262].fill(0xFF);
     full.desk[2] = 5;
     assert_eq!(full.unfit(), None);
-    for released in 0..20usize {
-        // In the soft frame: 20 to 38 stay tries, 39 gets 0, the task frame keeps its own.
+    for released in 0..48usize {
+        // In the soft frame: 48 to 94 stay tries, 95 gets 0, the task frame keeps its own.
         let b = full.clone().clean(&[release(0, released as u8)]);
-        assert_eq!(b.desk[578..584], [0xAA, 0xAA, 0xFA, 0xFF, 0x7F, 0]);
-        assert_eq!(b.desk[11], 19);
+        assert_eq!(b.desk[1250..1256], [0xAA; 6]);
+        assert_eq!(
+            b.desk[1256..1263],
+            [0xFF, 0xFF, 0xFF, 0xFF, 0xFF, 0x7F, 0],
+            "release of {released}"
+        );
+        assert_eq!(b.desk[10..12], [48, 47]);
+        assert_eq!(b.desk[98..146], full.desk[98..146]);
         // In the task frame: state 3, the soft frame empty.
         let mut task = full.clone();
         task.desk[2] = 3;
         task.desk[11] = 0;
-        task.desk[118..138].fill(0);
-        task.desk[580..583].copy_from_slice(&[0x0A, 0, 0]);
-        // The next core's task frame begins in byte 585, where the hard frame ends.
-        task.desk[13] = 20;
-        task.desk[585..588].copy_from_slice(&[0xF0, 0xFF, 0xFF]);
+        task.desk[146..194].fill(0);
+        task.desk[1256..1262].fill(0);
+        // The next core's task frame begins in byte 1,268, after the hard frame.
+        task.desk[13] = 48;
+        task.desk[1268..1274].fill(0xFF);
         let b = task.clone().clean(&[release(0, released as u8)]);
-        let expected: Vec<usize> = (0..20)
+        let expected: Vec<usize> = (0..48)
             .filter(|p| p % 2 == 1 && *p != released)
             .map(|p| if p > released { p - 1 } else { p })
-            .chain(60..80)
+            .chain(144..192)
             .collect();
         assert_eq!(b.origins(), expected, "release of {released}");
-        assert_eq!(b.desk[98 + 19], 0);
+        let holds: Vec<u8> = (0..48).filter(|&c| c != released as u8).collect();
+        assert_eq!((&b.desk[98..145], b.desk[145]), (&holds[..], 0));
     }
-    // The hard frame of core 0 (40 to 59) next to the task frame of core 1 (60 to 79).
-    let mut hard = Bench::new(32);
+    // At place 0 all 47 move over six bytes, at the byte edges some.
+    for (released, bytes) in [
+        (0, [0x55, 0x55, 0x55, 0x55, 0x55, 0x55]),
+        (7, [0x2A, 0x55, 0x55, 0x55, 0x55, 0x55]),
+        (8, [0xAA, 0x55, 0x55, 0x55, 0x55, 0x55]),
+        (15, [0xAA, 0x2A, 0x55, 0x55, 0x55, 0x55]),
+        (16, [0xAA, 0xAA, 0x55, 0x55, 0x55, 0x55]),
+        (23, [0xAA, 0xAA, 0x2A, 0x55, 0x55, 0x55]),
+        (24, [0xAA, 0xAA, 0xAA, 0x55, 0x55, 0x55]),
+        (31, [0xAA, 0xAA, 0xAA, 0x2A, 0x55, 0x55]),
+        (32, [0xAA, 0xAA, 0xAA, 0xAA, 0x55, 0x55]),
+        (39, [0xAA, 0xAA, 0xAA, 0xAA, 0x2A, 0x55]),
+        (40, [0xAA, 0xAA, 0xAA, 0xAA, 0xAA, 0x55]),
+        (46, [0xAA, 0xAA, 0xAA, 0xAA, 0xAA, 0x6A]),
+        (47, [0xAA, 0xAA, 0xAA, 0xAA, 0xAA, 0x2A]),
+    ] {
+        let mut task = full.clone();
+        task.desk[2] = 3;
+        task.desk[11] = 0;
+        task.desk[146..194].fill(0);
+        task.desk[1256..1262].fill(0);
+        let b = task.clean(&[release(0, released)]);
+        assert_eq!(b.desk[1250..1256], bytes, "release of {released}");
+        assert_eq!(b.desk[1256..1394], [0; 138]);
+    }
+    // The hard frame of core 0 (96 to 143) next to the task frame of core 1 (144 to 191).
+    let mut hard = Bench::new(64);
     hard.desk[2] = 6;
-    hard.desk[12] = 20;
+    hard.desk[12] = 48;
     hard.desk[13] = 1;
-    for place in 40..60 {
-        hard.desk[98 + place] = place as u8 - 40;
+    for place in 96..144 {
+        hard.desk[98 + place] = place as u8 - 96;
     }
-    hard.desk[583..586].copy_from_slice(&[0xFF, 0xFF, 0x1F]);
+    hard.desk[1262..1268].fill(0xFF);
+    hard.desk[1268] = 1;
     let b = hard.clean(&[release(0, 0)]);
-    assert_eq!(b.desk[583..586], [0xFF, 0xFF, 0x17]);
+    assert_eq!(b.desk[1262..1269], [0xFF, 0xFF, 0xFF, 0xFF, 0xFF, 0x7F, 1]);
+}
+
+#[test]
+fn a_release_in_every_frame() {
+    // Each frame with 48 holds, or some fewer, and each place of it, and all neighbours that
+    // may hold something full, of tries or of none: every byte of the desk after.
+    let mut dice = Dice(0x48F1_A3E5_0B17_5EED);
+    for at in 0..24usize {
+        for released in 0..48usize {
+            for (own, others) in [(0, 1), (1, 0), (1, 1), (2, 1), (2, 0), (3, 3)] {
+                let (core, state) = (at / 3, [3, 5, 8][at % 3]);
+                let mut b = Bench::new(48);
+                b.desk[2..10].fill(8);
+                b.desk[2 + core] = state;
+                let depth = match dice.under(3) {
+                    0 => released + 1 + dice.under(48 - released as u64) as usize,
+                    _ => 48,
+                };
+                let mut bits = [false; 1152];
+                for frame in 0..24 {
+                    // The frames above the current one are empty.
+                    if frame / 3 == core && frame > at {
+                        continue;
+                    }
+                    let depth = if frame == at { depth } else { 48 };
+                    b.desk[10 + frame] = depth as u8;
+                    for p in 0..depth {
+                        // All 48 classes in the frame, the other way round in the others.
+                        let class = if frame == at { p } else { 47 - p };
+                        let mode = dice.under(3) as usize;
+                        b.desk[98 + 48 * frame + p] = (class + 64 * mode) as u8;
+                        bits[48 * frame + p] = match if frame == at { own } else { others } {
+                            0 => false,
+                            1 => true,
+                            2 => p % 2 == 0,
+                            _ => dice.under(2) == 0,
+                        };
+                    }
+                }
+                b.desk[1250..1394].copy_from_slice(&packed(&bits));
+                assert_eq!(b.unfit(), None);
+                let mut after = b.desk.clone();
+                let first = 98 + 48 * at;
+                let mut holds = after[first..first + 48].to_vec();
+                holds.remove(released);
+                holds.push(0);
+                after[first..first + 48].copy_from_slice(&holds);
+                let mut own_bits = bits[48 * at..48 * at + 48].to_vec();
+                own_bits.remove(released);
+                own_bits.push(false);
+                for p in 0..depth - 1 {
+                    let safe = [0, 16, 1][at % 3] << (holds[p] / 128);
+                    after[34 + holds[p] as usize % 64] |= if own_bits[p] { 0 } else { safe };
+                }
+                bits[48 * at..48 * at + 48].copy_from_slice(&own_bits);
+                after[1250..1394].copy_from_slice(&packed(&bits));
+                after[10 + at] = depth as u8 - 1;
+                after[1394] = 1;
+                assert_eq!(b.step(&release(core as u8, released as u8)), 0);
+                assert_eq!(b.desk, after, "frame {at}, place {released} of {depth}");
+            }
+        }
+    }
 }
 
 #[test]
 fn every_place_has_its_bit() {
     // A try at each place of each frame sets that bit alone, its release clears it alone.
     for at in 0..24usize {
-        for depth in 0..20usize {
+        for depth in 0..48usize {
             let (core, state) = (at / 3, [3, 5, 6][at % 3]);
             let mut b = Bench::new(2);
             b.desk[2 + core] = state;
             b.desk[10 + at] = depth as u8;
-            b.desk[98 + 20 * at..98 + 20 * at + depth].fill(128);
-            let place = 20 * at + depth;
+            b.desk[98 + 48 * at..98 + 48 * at + depth].fill(128);
+            let place = 48 * at + depth;
             let before = b.desk.clone();
             assert_eq!(b.step(&take(core as u8, 1, TRR)), 0);
             let mut after = before.clone();
@@ -3321,11 +3499,11 @@ fn every_place_has_its_bit() {
             let gone = after.clone();
             after[10 + at] += 1;
             after[98 + place] = 129;
-            after[578 + place / 8] = 1 << (place % 8);
-            after[638] = 1;
+            after[1250 + place / 8] = 1 << (place % 8);
+            after[1394] = 1;
             assert_eq!(b.desk, after);
             assert_eq!(b.step(&release(core as u8, 1)), 0);
-            assert_eq!((&b.desk[..638], b.count()), (&gone[..638], 2));
+            assert_eq!((&b.desk[..1394], b.count()), (&gone[..1394], 2));
         }
     }
 }
@@ -3359,8 +3537,8 @@ fn no_safe_mark_then_or_later() {
     let mut b = Bench::new(8);
     b.desk[2] = 6;
     b.desk[12] = 2;
-    b.desk[98 + 40..98 + 42].copy_from_slice(&[6, 7]);
-    b.desk[583] = 2;
+    b.desk[98 + 96..98 + 98].copy_from_slice(&[6, 7]);
+    b.desk[1262] = 2;
     let b = b.clean(&[take(0, 5, TE)]);
     assert_eq!(b.desk[34..42], [0, 0, 0, 0, 0, 0, 1, 0]);
     // No hard-safe mark, so no fault with a task that holds the class.
@@ -3435,7 +3613,7 @@ fn marks_are_by_class_and_origin_by_hold() {
         assert_eq!(b.desk[37], alone);
         let b = b.clean(&[take(0, 3, second)]);
         assert_eq!(b.desk[37], mark, "{first} and {second}");
-        assert_eq!(b.origins(), [if first < 3 { 41 } else { 40 }]);
+        assert_eq!(b.origins(), [if first < 3 { 97 } else { 96 }]);
     }
     // The wait is in another frame, or on another core: the try has no part in it.
     let b = Bench::new(8).clean(&[
@@ -3456,16 +3634,16 @@ fn marks_are_by_class_and_origin_by_hold() {
 
 #[test]
 fn tries_at_full_depth() {
-    let mut records = vec![take(0, 0, TE); 20];
+    let mut records = vec![take(0, 0, TE); 48];
     let b = Bench::new(8).clean(&records);
-    assert_eq!(b.desk[578..581], [255, 255, 15]);
+    assert_eq!(b.desk[1250..1257], [255, 255, 255, 255, 255, 255, 0]);
     assert!(b.sheet.iter().all(|&x| x == 0));
     records.push(take(0, 0, TE));
-    assert_eq!(judge(8, &records), (21, 8));
-    records[20] = take(0, 0, 6);
-    assert_eq!(judge(8, &records), (21, 3));
-    records[20] = take(0, 8, TE);
-    assert_eq!(judge(8, &records), (21, 4));
+    assert_eq!(judge(8, &records), (49, 8));
+    records[48] = take(0, 0, 6);
+    assert_eq!(judge(8, &records), (49, 3));
+    records[48] = take(0, 8, TE);
+    assert_eq!(judge(8, &records), (49, 4));
     // Exits with a try standing, releases of what a try doesn't hold here.
     assert_eq!(
         judge(
@@ -3858,6 +4036,7 @@ fn all_cuts_of_short_logs() {
     let records = log(2, &[take(0, 0, E), take(0, 1, E)]);
     for (b, answer) in [
         (lent(DESK - 1, 4, 16, 15), (2, 0)),
+        (lent(642, 4, 16, 15), (2, 0)),
         (lent(638, 4, 16, 15), (2, 0)),
         (lent(0, 4, 16, 15), (2, 0)),
         (lent(DESK, 3, 16, 15), (2, 0)),
@@ -3876,13 +4055,13 @@ fn all_cuts_of_short_logs() {
 
 #[test]
 fn cuts_of_a_full_frame() {
-    let mut records = vec![take(0, 0, R); 21];
+    let mut records = vec![take(0, 0, R); 49];
     records.push(take(0, 0, E));
     let (b, log) = (lent_for(1), log(1, &records));
     let mut whole = Whole::new(&b, &log);
-    assert_eq!(whole.all(), [(8, 21); 2]);
+    assert_eq!(whole.all(), [(8, 49); 2]);
     for first in 0..=log.len() {
-        for second in (first..=log.len()).step_by(5) {
+        for second in (first..=log.len()).step_by(29) {
             whole.fed(&[first, second]);
         }
     }
@@ -3904,8 +4083,19 @@ fn random_logs_in_random_pieces() {
             [&MODES[..], &[R], &[R, R, R, NR, TRR], &[TE, TR, TRR]][round as usize % 4];
         let mut bytes = log(k as u8, &[]);
         let mut ahead = Bench::new(k as usize);
+        // Some begin with a frame that is nearly full.
+        let deep = round % 100 == 99;
+        for _ in 0..if deep { 45 + dice.under(4) } else { 0 } {
+            let r = take(0, dice.under(k) as u8, [R, TRR][dice.under(2) as usize]);
+            assert_eq!(ahead.step(&r), 0);
+            bytes.extend(r);
+        }
         for _ in 0..dice.under(80) {
-            let r = random_record(&mut dice, k, modes);
+            let r = if deep {
+                deep_record(&mut dice, k, &[R, TRR])
+            } else {
+                random_record(&mut dice, k, modes)
+            };
             let mut next = ahead.clone();
             // Seldom one that gets an answer but 0, so that logs get long.
             if next.step(&r) == 0 || dice.under(20) == 0 {
@@ -3929,7 +4119,7 @@ fn random_logs_in_random_pieces() {
         }
         let mut b = lent_for(k as usize);
         match dice.under(40) {
-            0 => b.desk.truncate(641),
+            0 => b.desk.truncate(1397),
             1 => b.sheet.truncate(b.sheet.len() - 1),
             2 => b.slip.truncate(b.slip.len() - 1),
             3 => b.seen.truncate(b.seen.len() - 1),
@@ -3965,7 +4155,7 @@ fn random_logs_in_random_pieces() {
             );
         }
     }
-    for answer in [0, 1, 2, 3, 4, 5, 6, 7, 11] {
+    for answer in [0, 1, 2, 3, 4, 5, 6, 7, 8, 11] {
         assert!(
             seen[0][answer] > 10 && seen[1][answer] > 10,
             "answer {answer}: {seen:?}"
@@ -4198,7 +4388,7 @@ fn an_end_with_loose_bytes() {
         (changed(&|b| b.desk[1] = 1), 10),
         (changed(&|b| b.desk[1] = 2), 11),
         (changed(&|b| b.desk[0] = 0), 11),
-        (changed(&|b| b.desk.truncate(641)), 11),
+        (changed(&|b| b.desk.truncate(1397)), 11),
         (changed(&|b| b.sheet.truncate(63)), 11),
         (changed(&|b| b.seen.truncate(255)), 11),
         (changed(&|b| b.slip.truncate(56)), 11),
@@ -4475,7 +4665,7 @@ fn any_bytes_at_all() {
     for _ in 0..60_000 {
         let mut b = match dice.under(4) {
             0 => {
-                let [desk, sheet, seen, slip] = [700, 30, 100, 40].map(|n| dice.under(n) as usize);
+                let [desk, sheet, seen, slip] = [1520, 30, 100, 40].map(|n| dice.under(n) as usize);
                 lent(desk, sheet, seen, slip)
             }
             1 => lent_for(3),
@@ -4496,7 +4686,7 @@ fn any_bytes_at_all() {
             }
             if dice.under(2) == 0
                 && b.desk.get(0) == Some(&3)
-                && b.desk.len() >= 642
+                && b.desk.len() >= 1398
                 && b.seen.len() >= 36
             {
                 b.set_count([1, 2, 3, 0x0403_0201, u32::MAX - 1, u32::MAX][dice.under(6) as usize]);
@@ -4620,7 +4810,7 @@ fn a_bench_written_meanwhile() {
         (&(|_: &mut Bench| ()) as &dyn Fn(&mut Bench), 0),
         (&|b| b.desk[1] = 1, 10),
         (&|b| b.desk[1] = 2, 11),
-        (&|b| b.desk.truncate(641), 11),
+        (&|b| b.desk.truncate(1397), 11),
         (&|b| b.sheet.truncate(63), 11),
         (&|b| b.seen.truncate(255), 11),
         (&|b| b.slip.truncate(56), 11),
@@ -4665,7 +4855,7 @@ fn at_count(k: usize, count: u32) -> Bench {
 #[test]
 fn accepted_records_are_counted_and_no_others() {
     let mut b = Bench::new(3);
-    assert_eq!((b.count(), &b.desk[638..]), (0, &[0, 0, 0, 0][..]));
+    assert_eq!((b.count(), &b.desk[1394..]), (0, &[0, 0, 0, 0][..]));
     let mut accepted = 0;
     let mut place = 0;
     let mut next = |record: &[u8], answer: u8| {
@@ -4677,7 +4867,7 @@ fn accepted_records_are_counted_and_no_others() {
         } else {
             accepted += 1;
         }
-        assert_eq!(b.desk[638..642], [accepted, 0, 0, 0], "record {place}");
+        assert_eq!(b.desk[1394..1398], [accepted, 0, 0, 0], "record {place}");
         (b.number(1, 2), b.number(2, 1))
     };
     assert_eq!(next(&[], 3), (0, 0));
@@ -4701,20 +4891,20 @@ fn accepted_records_are_counted_and_no_others() {
     next(&release(1, 0), 0);
     next(&event(1, EXIT_HARD), 0);
     next(&event(1, EXIT_SOFT), 0);
-    for _ in 0..20 {
+    for _ in 0..48 {
         next(&take(2, 0, R), 0);
     }
     next(&take(2, 0, R), 8);
     assert_eq!(next(&take(3, 2, R), 0), (2, 0));
     // The record answered 1 is accepted, and has a number.
-    assert_eq!(next(&take(3, 1, R), 1), (2, 36));
+    assert_eq!(next(&take(3, 1, R), 1), (2, 64));
     // On the closed desk no more are.
-    assert_eq!(next(&take(4, 1, E), 10), (2, 36));
-    assert_eq!(next(&[], 10), (2, 36));
-    assert_eq!(b.count(), 36);
+    assert_eq!(next(&take(4, 1, E), 10), (2, 64));
+    assert_eq!(next(&[], 10), (2, 64));
+    assert_eq!(b.count(), 64);
     assert_eq!(
         b.slip[..15],
-        [2, 1, EN, 0, 2, 0, 0, 0, 2, SR, 0, 36, 0, 0, 0]
+        [2, 1, EN, 0, 2, 0, 0, 0, 2, SR, 0, 64, 0, 0, 0]
     );
 }
 
@@ -5030,11 +5220,11 @@ fn the_fault_records_own_number() {
 #[test]
 fn low_byte_first() {
     let mut b = at_count(2, 0);
-    b.desk[638..642].copy_from_slice(&[0xFF, 1, 3, 4]);
+    b.desk[1394..1398].copy_from_slice(&[0xFF, 1, 3, 4]);
     assert_eq!(b.step(&take(0, 0, E)), 0);
-    assert_eq!(b.desk[638..642], [0, 2, 3, 4]);
+    assert_eq!(b.desk[1394..1398], [0, 2, 3, 4]);
     assert_eq!(b.step(&take(0, 1, R)), 0);
-    assert_eq!(b.desk[638..642], [1, 2, 3, 4]);
+    assert_eq!(b.desk[1394..1398], [1, 2, 3, 4]);
     assert_eq!(b.seen, [0, 0, 0, 0, 1, 2, 3, 4, 0, 0, 0, 0, 0, 0, 0, 0]);
     assert_eq!([take(1, 1, E), take(1, 0, E)].map(|r| b.step(&r)), [0, 1]);
     assert_eq!(b.seen, [0, 0, 0, 0, 1, 2, 3, 4, 3, 2, 3, 4, 0, 0, 0, 0]);
@@ -5050,11 +5240,11 @@ fn low_byte_first() {
         ([0, 255, 255, 255], [1, 255, 255, 255]),
     ] {
         let mut b = Bench::new(2);
-        b.desk[638..642].copy_from_slice(&before);
+        b.desk[1394..1398].copy_from_slice(&before);
         b.desk[10] = 1;
         b.desk[98] = 1;
         assert_eq!(b.step(&take(0, 0, R)), 0);
-        assert_eq!(b.desk[638..642], after);
+        assert_eq!(b.desk[1394..1398], after);
         assert_eq!(b.seen, [&[0; 8][..], &after, &[0; 4]].concat());
     }
 }
@@ -5132,7 +5322,7 @@ fn refusal_9() {
                 assert_eq!(after.count(), count + 1);
                 if count == u32::MAX - 1 {
                     // One more is accepted, and then none.
-                    assert_eq!(after.desk[638..642], [255; 4]);
+                    assert_eq!(after.desk[1394..1398], [255; 4]);
                     after.refused(&event(7, HARD_ON), if answer == 0 { 9 } else { 10 });
                 }
             }
@@ -5147,7 +5337,7 @@ fn refusal_9() {
 fn the_highest_number() {
     // 4,294,967,294 accepted so far: the next draws 0 ER 1 and has the highest number.
     let mut b = at_count(2, u32::MAX - 2).clean(&[take(0, 0, E), take(0, 1, R)]);
-    assert_eq!(b.desk[638..642], [255; 4]);
+    assert_eq!(b.desk[1394..1398], [255; 4]);
     assert_eq!(b.seen, [[0; 4], [255; 4], [0; 4], [0; 4]].concat());
     assert_eq!(b.unfit(), None);
     for r in [
@@ -5208,7 +5398,7 @@ fn all_other_refusals_before_9() {
     let hard = at_the_limit(Bench::new(8).clean(&[event(0, ENTER_HARD), take(0, 0, TE)]));
     hard.refused(&event(0, EXIT_HARD), 7);
     hard.refused(&event(1, ENTER_HARD), 9);
-    let full = at_the_limit(Bench::new(8).clean(&[take(0, 0, R); 20]));
+    let full = at_the_limit(Bench::new(8).clean(&[take(0, 0, R); 48]));
     for mode in MODES {
         full.refused(&take(0, 1, mode), 8);
         full.refused(&take(1, 1, mode), 9);
@@ -5320,7 +5510,7 @@ fn only_the_pairs_below_k_are_looked_at() {
         b.sheet[size..].copy_from_slice(&[EN, 0, EN, 255]);
         b.seen[4 * size..]
             .copy_from_slice(&[0, 0, 0, 0, 1, 0, 0, 0, 255, 255, 255, 255, 1, 0, 0, 0]);
-        b.desk[642..].fill(255);
+        b.desk[1398..].fill(255);
         assert_eq!(b.unfit(), None, "{k}");
         assert_eq!(b.ask(k as u64 - 1), (0, 0, 0));
         let mut after = b.counted();
@@ -5560,10 +5750,14 @@ fn what_writes_the_second_sheet() {
         let state = dice.under(9) as u8;
         b.desk[STATES] = state;
         let here = frame(0, state);
-        let depth = dice.under(5) as usize + if dice.under(20) == 0 { 16 } else { 0 };
+        let depth = match dice.under(20) {
+            0 => 44 + dice.under(5) as usize,
+            1 => dice.under(49) as usize,
+            _ => dice.under(5) as usize,
+        };
         b.desk[DEPTHS + here] = depth as u8;
         for place in 0..depth {
-            b.desk[HOLDS + 20 * here + place] = (dice.under(k as u64) + 64 * dice.under(3)) as u8;
+            b.desk[98 + 48 * here + place] = (dice.under(k as u64) + 64 * dice.under(3)) as u8;
         }
         b.settle();
         let highest = b.count();
@@ -5780,8 +5974,9 @@ fn first_seen_by_the_records_alone() {
 fn first_seen_against_the_step() {
     // Lists of any records, any length, at all K, past refusals and past the fault.
     let mut dice = Dice(0xF125_75EE_4BAD_5EED);
-    let (mut faults, mut numbers) = (0, 0);
+    let (mut faults, mut numbers, mut full) = (0, 0, 0);
     for round in 0..2_500u64 {
+        let deep = round % 24 == 23;
         let k = if round % 5 == 0 {
             40 + dice.under(25)
         } else {
@@ -5797,8 +5992,12 @@ fn first_seen_against_the_step() {
         let mut b = Bench::new(k as usize);
         let mut books = Books::open(k).unwrap();
         let mut list: Vec<Vec<u8>> = Vec::new();
-        for _ in 0..20 + dice.under(150) {
-            let mut r = random_record(&mut dice, k, modes).to_vec();
+        for _ in 0..20 + dice.under(150) + if deep { 80 } else { 0 } {
+            let mut r = if deep {
+                deep_record(&mut dice, k, modes).to_vec()
+            } else {
+                random_record(&mut dice, k, modes).to_vec()
+            };
             match dice.under(60) {
                 0 => r.truncate(dice.under(6) as usize),
                 1 => r.push(0),
@@ -5808,6 +6007,7 @@ fn first_seen_against_the_step() {
             assert_eq!(books.enter(&r), answer < 2, "{list:?} {r:?}");
             assert_eq!(books.accepted(), b.count());
             faults += u64::from(answer == 1);
+            full += u64::from(answer == 8);
             list.push(r);
         }
         assert_eq!(b.seen, bytes_of(books.numbers()));
@@ -5815,8 +6015,8 @@ fn first_seen_against_the_step() {
         numbers += books.numbers().iter().filter(|&&number| number > 0).count();
     }
     assert!(
-        faults > 500 && numbers > 10_000,
-        "{faults} faults, {numbers} numbers"
+        faults > 500 && numbers > 10_000 && full > 500,
+        "{faults} faults, {numbers} numbers, {full} full"
     );
 }
 
@@ -6211,11 +6411,11 @@ fn what_no_desk_accepts_counts() {
     b.refused(&release(1, 9), 5);
     assert_balance(&[take(0, 9, R), release(0, 3)].concat(), &[(3, -1), (9, 1)]);
     assert_balance(&[take(0, 9, R), release(1, 9)].concat(), &[]);
-    // With 8: the twenty-first in one frame, and what stands after it.
-    let full = Bench::new(1).clean(&[take(0, 0, R); 20]);
+    // With 8: the forty-ninth in one frame, and what stands after it.
+    let full = Bench::new(1).clean(&[take(0, 0, R); 48]);
     full.refused(&take(0, 0, R), 8);
-    assert_balance(&[take(0, 0, R); 21].concat(), &[(0, 21)]);
     assert_balance(&[take(0, 0, R); 49].concat(), &[(0, 49)]);
+    assert_balance(&[take(0, 0, R); 60].concat(), &[(0, 60)]);
     // With 6, and with 7: an exit that isn't allowed, and takes after it.
     let piece = [event(0, EXIT_HARD), take(0, 1, E), event(0, ENTER_HARD)];
     Bench::new(2).refused(&piece[0], 6);
@@ -6407,7 +6607,7 @@ fn a_clean_piece_leaves_its_balances_held() {
             piece.extend(r);
             if piece.len() % 60 == 0 {
                 let mut standing = [0; 64];
-                for (at, holds) in b.desk[HOLDS..ORIGINS].chunks(20).enumerate() {
+                for (at, holds) in b.desk[98..1250].chunks(48).enumerate() {
                     for hold in &holds[..usize::from(b.desk[DEPTHS + at])] {
                         standing[usize::from(hold % 64)] += 1;
                     }
@@ -6654,6 +6854,981 @@ fn the_first_argument() {
         );
         assert_eq!(text(word, &piece), "refused 2 at record 0\n");
     }
+}
+
+// ------------------------------------------------------------- deeper nesting
+
+/// A bench with a core in the task, soft or hard frame of this number, by records.
+fn in_frame(k: usize, at: usize) -> Bench {
+    let ways = [&[][..], &[ENTER_SOFT], &[ENTER_HARD]];
+    let way: Vec<Rec> = ways[at % 3]
+        .iter()
+        .map(|&kind| event(at as u8 / 3, kind))
+        .collect();
+    Bench::new(k).clean(&way)
+}
+
+/// Whether a bench is fit, read by the layout of request g byte by byte.
+fn fit_by_hand(b: &Bench) -> bool {
+    let desk = &b.desk;
+    if desk.len() < 1398 || desk[0] < 1 || desk[0] > 64 || desk[1] > 1 {
+        return false;
+    }
+    let k = desk[0] as usize;
+    if b.sheet.len() < k * k || b.seen.len() < 4 * k * k || b.slip.len() < 1 + 7 * k {
+        return false;
+    }
+    for at in 0..24 {
+        let (state, depth) = (desk[2 + at / 3], desk[10 + at] as usize);
+        let may_hold = match at % 3 {
+            0 => true,
+            1 => [4, 5, 8].contains(&state),
+            _ => state >= 6,
+        };
+        if state > 8 || depth > 48 || (depth > 0 && !may_hold) {
+            return false;
+        }
+        for place in 0..48 {
+            let hold = desk[98 + 48 * at + place];
+            let origin = desk[1250 + 6 * at + place / 8] & 1 << (place % 8);
+            if place >= depth && (hold != 0 || origin != 0) {
+                return false;
+            }
+            if hold >= 192 || usize::from(hold & 63) >= k {
+                return false;
+            }
+        }
+    }
+    for class in 0..64 {
+        let mark = desk[34 + class];
+        let alone = |soft, hard| mark & soft != 0 && mark & hard == 0;
+        if (class >= k && mark != 0) || alone(64, 4) || alone(128, 8) {
+            return false;
+        }
+    }
+    let high_first = |at: usize, bytes: &[u8]| {
+        [bytes[at + 3], bytes[at + 2], bytes[at + 1], bytes[at]]
+            .iter()
+            .fold(0u64, |sum, &byte| 256 * sum + u64::from(byte))
+    };
+    (0..k * k).all(|pair| {
+        let (kinds, number) = (b.sheet[pair], high_first(4 * pair, &b.seen));
+        kinds <= 15 && (kinds == 0) == (number == 0) && number <= high_first(1394, desk)
+    })
+}
+
+/// Every call on a bench with this desk: 11, and no byte changed.
+fn assert_unfit(b: &Bench) {
+    assert!(b.unfit().is_some() && !fit_by_hand(b));
+    for r in [
+        take(0, 0, E),
+        take(3, 0, TRR),
+        release(0, 0),
+        event(0, HARD_OFF),
+        event(7, EXIT_HARD),
+        take(0, 255, E),
+        [0; 6],
+    ] {
+        b.refused(&r, 11);
+    }
+    b.refused(&[], 11);
+    assert_eq!(b.ask(0), (11, 0, 0));
+    assert_eq!(b.ask(u64::MAX), (11, 0, 0));
+    assert_eq!((b.least_circle(), b.all_circles(1)), (None, vec![]));
+    assert!(!b.true_circle(&b.slip));
+    // By an opened feed too, for a whole record and for a short one at the end.
+    let mut fed = Fed::lying(0, 1, 0, [0; 5], 6, b.clone());
+    assert_eq!(fed.feed(&take(0, 0, R)), (11, 7));
+    assert_eq!(&fed.b, b);
+    let mut fed = Fed::lying(0, 1, 0, [0; 5], 6, b.clone());
+    assert_eq!((fed.feed(&[0x4C]), fed.end()), ((0, 6), (11, 7)));
+    assert_eq!(&fed.b, b);
+}
+
+#[test]
+fn forty_eight_in_every_frame() {
+    for at in 0..24usize {
+        let core = at as u8 / 3;
+        for filling in [R, TE, TR, TRR] {
+            let nearly = in_frame(3, at).clean(&[take(core, 0, filling); 47]);
+            assert_eq!(nearly.desk[10 + at], 47);
+            for last in MODES {
+                // The forty-eighth is accepted.
+                let b = nearly.clone().clean(&[take(core, 1, last)]);
+                let mut depths = [0; 24];
+                depths[at] = 48;
+                assert_eq!(b.desk[10..34], depths);
+                let first = 98 + 48 * at;
+                assert_eq!(b.desk[first..first + 47], [64 * (filling % 3); 47]);
+                assert_eq!(b.desk[first + 47], 1 + 64 * (last % 3));
+                let mut bits = [false; 1152];
+                bits[48 * at..48 * at + 47].fill(filling >= 3);
+                bits[48 * at + 47] = last >= 3;
+                assert_eq!(b.desk[1250..1394], packed(&bits));
+                assert_eq!(b.unfit(), None);
+                // The forty-ninth isn't, of whatever class and by whatever mode.
+                for class in 0..3 {
+                    for mode in MODES {
+                        b.refused(&take(core, class, mode), 8);
+                    }
+                }
+                // It is full for itself alone.
+                for other in (0..8).filter(|&other| other != core) {
+                    assert_eq!(b.clone().step(&take(other, 2, TE)), 0);
+                }
+                // And the newest goes again.
+                let mut gone = b.clone().clean(&[release(core, 1)]);
+                gone.desk[34..98].copy_from_slice(&nearly.desk[34..98]);
+                gone.set_count(nearly.count());
+                assert_eq!(gone.desk, nearly.desk);
+            }
+        }
+    }
+}
+
+#[test]
+fn full_in_every_state() {
+    // 48 by hand in the frame of each state, 47 beside it: 8 for the one, 0 for the other.
+    for core in 0..8usize {
+        for state in 0..9u8 {
+            let at = 3 * core + [0, 0, 0, 0, 1, 1, 2, 2, 2][state as usize];
+            for mode in MODES {
+                let mut b = Bench::new(2);
+                b.desk[2 + core] = state;
+                b.desk[10 + at] = 48;
+                b.desk[98 + 48 * at..146 + 48 * at].fill(128);
+                assert_eq!(b.unfit(), None);
+                b.refused(&take(core as u8, 1, mode), 8);
+                b.desk[10 + at] = 47;
+                b.desk[145 + 48 * at] = 0;
+                assert_eq!(b.step(&take(core as u8, 1, mode)), 0);
+                assert_eq!(b.desk[10 + at], 48);
+                assert_eq!(b.desk[145 + 48 * at], 1 + 64 * (mode % 3));
+                b.refused(&take(core as u8, 1, mode), 8);
+            }
+        }
+    }
+}
+
+#[test]
+fn room_for_one_more() {
+    // 48 classes; each goes in turn, and one more comes, by each mode.
+    for at in 0..24usize {
+        let core = at as u8 / 3;
+        let takes: Vec<Rec> = (0..48).map(|c| take(core, c, [R, TRR][at % 2])).collect();
+        let full = in_frame(49, at).clean(&takes);
+        full.refused(&take(core, 48, R), 8);
+        for place in 0..48usize {
+            let mode = MODES[(at / 3 + place) % 6];
+            let room = full.clone().clean(&[release(core, place as u8)]);
+            assert_eq!(room.desk[10 + at], 47);
+            let b = room.clone().clean(&[take(core, 48, mode)]);
+            b.refused(&take(core, 48, TRR), 8);
+            b.refused(&take(core, place as u8, mode), 8);
+            // An arrow from each of the 47, in none but this record's numbers.
+            for from in 0..49 {
+                let drawn = from != place && from != 48 && mode < 3;
+                let (kinds, number) = (b.sheet[49 * from + 48], b.number(from, 48));
+                let kind = if mode == R { SR } else { SN };
+                assert_eq!(kinds, if drawn { kind } else { 0 });
+                assert_eq!(number, if drawn { b.count() } else { 0 });
+            }
+            let mut holds: Vec<u8> = (0..48).filter(|&c| c != place as u8).collect();
+            holds.iter_mut().for_each(|hold| *hold += 128);
+            holds.push(48 + 64 * (mode % 3));
+            assert_eq!(b.desk[98 + 48 * at..146 + 48 * at], holds);
+        }
+    }
+}
+
+#[test]
+fn what_comes_before_8_and_after() {
+    for at in 0..24usize {
+        let core = at as u8 / 3;
+        let full = in_frame(8, at).clean(&[take(core, 0, R); 48]);
+        for mode in 6..=255 {
+            full.refused(&take(core, 0, mode), 3);
+        }
+        for mode in MODES {
+            for class in [8, 47, 48, 49, 63, 64, 128, 255] {
+                full.refused(&take(core, class, mode), 4);
+            }
+            for class in 0..8 {
+                full.refused(&take(core, class, mode), 8);
+            }
+        }
+        // With the count at its limit: 8 and what is before it stay, else 9.
+        let mut limit = full.clone();
+        limit.set_count(u32::MAX);
+        assert_eq!(limit.unfit(), None);
+        for mode in MODES {
+            limit.refused(&take(core, 0, mode), 8);
+            limit.refused(&take(core, 8, mode), 4);
+            limit.refused(&take((core + 1) % 8, 0, mode), 9);
+        }
+        limit.refused(&release(core, 0), 9);
+        limit.refused(&release(core, 1), 5);
+        limit.refused(&event(core, ENTER_SOFT), if at % 3 == 0 { 9 } else { 6 });
+        if at % 3 > 0 {
+            limit.refused(&event(core, [EXIT_SOFT, EXIT_HARD][at % 3 - 1]), 7);
+        }
+        // One less: 8 still, and with room 9.
+        let mut nearly = limit.clone();
+        nearly.desk[10 + at] = 47;
+        nearly.desk[145 + 48 * at] = 0;
+        nearly.refused(&take(core, 0, R), 9);
+        limit.set_count(u32::MAX - 1);
+        limit.refused(&take(core, 0, R), 8);
+        // 11 and 10 before it.
+        let mut closed = full.clone();
+        closed.desk[1] = 1;
+        closed.refused(&take(core, 0, R), 10);
+        closed.desk[10 + at] = 49;
+        closed.refused(&take(core, 0, R), 11);
+        closed.desk[1] = 0;
+        closed.refused(&take(core, 0, R), 11);
+    }
+}
+
+#[test]
+fn depth_bytes() {
+    // Fit up to 48, unfit from 49 on; 20 and 21 are like any other.
+    for at in 0..24usize {
+        let core = at as u8 / 3;
+        for depth in 0..=255u8 {
+            let mut b = Bench::new(1);
+            b.desk[2 + at / 3] = [0, 4, 6][at % 3];
+            b.desk[10 + at] = depth;
+            if depth > 48 {
+                assert_eq!(b.unfit(), Some("depth over the limit"));
+                assert_unfit(&b);
+                continue;
+            }
+            assert_eq!(b.unfit(), None);
+            assert!(fit_by_hand(&b));
+            assert_eq!(b.ask(0), (0, 0, 0));
+            if depth == 48 {
+                b.refused(&take(core, 0, TE), 8);
+            } else {
+                let mut more = b.clone();
+                assert_eq!(more.step(&take(core, 0, TE)), 0);
+                assert_eq!(more.desk[10 + at], depth + 1);
+            }
+            if depth == 0 {
+                b.refused(&release(core, 0), 5);
+            } else {
+                assert_eq!(b.step(&release(core, 0)), 0);
+                assert_eq!(b.desk[10 + at], depth - 1);
+            }
+        }
+    }
+}
+
+#[test]
+fn a_take_at_every_depth() {
+    // Classes 0, 1, 2 .. in the frame, of any mode and origin, tries in the frames before
+    // and after where they may be, and then 63: every byte.
+    let mut dice = Dice(0x0DE9_70F4_8000_0001);
+    for at in [0usize, 1, 2, 9, 10, 11, 12, 21, 22, 23] {
+        for depth in 0..48usize {
+            for mode in MODES {
+                let (core, state) = (at / 3, [3, 5, 8][at % 3]);
+                let mut b = Bench::new(64);
+                let mut bits = [false; 1152];
+                let before = at.checked_sub(1);
+                let after = Some(at + 1).filter(|next| next % 3 == 0 && *next < 24);
+                for frame in before.into_iter().chain(after) {
+                    b.desk[2 + frame / 3] = 8;
+                    b.desk[10 + frame] = 48;
+                    b.desk[98 + 48 * frame..146 + 48 * frame].fill(62);
+                    bits[48 * frame..48 * frame + 48].fill(true);
+                }
+                b.desk[2 + core] = state;
+                b.desk[10 + at] = depth as u8;
+                for place in 0..depth {
+                    let hold = &mut b.desk[98 + 48 * at + place];
+                    *hold = place as u8 + 64 * dice.under(3) as u8;
+                    bits[48 * at + place] = dice.under(2) == 0;
+                }
+                b.desk[1250..1394].copy_from_slice(&packed(&bits));
+                let before = dice.under(1 << 31) as u32;
+                b.set_count(before);
+                assert_eq!(b.unfit(), None);
+                let mut after = b.counted();
+                after.desk[10 + at] += 1;
+                after.desk[98 + 48 * at + depth] = 63 + 64 * (mode % 3);
+                bits[48 * at + depth] = mode >= 3;
+                after.desk[1250..1394].copy_from_slice(&packed(&bits));
+                for place in 0..=depth {
+                    let hold = after.desk[98 + 48 * at + place];
+                    let (class, older) = (usize::from(hold % 64), hold / 64);
+                    let safe = [0, 16, 1][at % 3] * if older == R { 2 } else { 1 };
+                    after.desk[34 + class] = if bits[48 * at + place] { 0 } else { safe };
+                    if place < depth && mode < 3 {
+                        let kind = match (older == E, mode == R) {
+                            (true, true) => ER,
+                            (true, false) => EN,
+                            (false, true) => SR,
+                            (false, false) => SN,
+                        };
+                        after.sheet[64 * class + 63] = kind;
+                        after.set_number(class, 63, before + 1);
+                    }
+                }
+                assert_eq!(b.step(&take(core as u8, 63, mode)), 0);
+                assert_eq!(b, after, "frame {at}, depth {depth}, mode {mode}");
+            }
+        }
+    }
+}
+
+#[test]
+fn all_frames_full_at_once() {
+    // Task, soft and hard of every core, each begun at another class, a third by tries. All
+    // by recursive reads, so that no closed strong path arises.
+    let mut naive = Naive::new(48);
+    let mut b = Bench::new(48);
+    let class = |at: usize, place: usize| ((place + 5 * at) % 48) as u8;
+    let mode = |at: usize, place: usize| [R, R, TRR][(place / 5 + at) % 3];
+    for at in 0..24usize {
+        let core = at as u8 / 3;
+        let mut records: Vec<Rec> = (0..48)
+            .map(|p| take(core, class(at, p), mode(at, p)))
+            .collect();
+        if at % 3 > 0 {
+            records.insert(0, event(core, [ENTER_SOFT, ENTER_HARD][at % 3 - 1]));
+        }
+        for r in &records {
+            assert_eq!(b.step(r), 0);
+            naive.accept(r);
+        }
+        b.refused(&take(core, 0, R), 8);
+        b.refused(&take(core, 0, TRR), 8);
+    }
+    // 8 x (3 x 48 + 2) is 1,168, which is 4 x 256 and 144.
+    let mut desk = vec![48, 0];
+    desk.extend([8; 8]);
+    desk.extend([48; 24]);
+    desk.extend([2 + 8 + 32 + 128; 48]);
+    desk.extend([0; 16]);
+    let places = || (0..24).flat_map(|at| (0..48).map(move |place| (at, place)));
+    desk.extend(places().map(|(at, place)| class(at, place) + 128));
+    let bits: Vec<bool> = places().map(|(at, p)| mode(at, p) == TRR).collect();
+    desk.extend(packed(&bits));
+    desk.extend([144, 4, 0, 0]);
+    assert_eq!(b.desk, desk);
+    let [desk, sheet, seen] = naive.lie(false);
+    assert_eq!((&b.desk, &b.sheet, &b.seen), (&desk, &sheet, &seen));
+    assert_eq!(b.unfit(), None);
+    for core in 0..8 {
+        for mode in MODES {
+            b.refused(&take(core, 47, mode), 8);
+        }
+        b.refused(&event(core, EXIT_HARD), 7);
+    }
+    // And all go again, from the middle, the oldest and the newest in turn.
+    for at in (0..24usize).rev() {
+        let core = at as u8 / 3;
+        let mut held: Vec<u8> = (0..48).map(|place| class(at, place)).collect();
+        while !held.is_empty() {
+            let place = [held.len() / 2, 0, held.len() - 1][held.len() % 3];
+            let r = release(core, held.remove(place));
+            assert_eq!(b.step(&r), 0);
+            naive.accept(&r);
+            let bytes: Vec<u8> = held.iter().map(|class| class + 128).collect();
+            assert_eq!(b.desk[98 + 48 * at..98 + 48 * at + held.len()], bytes);
+        }
+        if at % 10 == 1 {
+            assert_eq!(b.desk, naive.lie(false)[0]);
+        }
+        if at % 3 > 0 {
+            let r = event(core, [EXIT_SOFT, EXIT_HARD][at % 3 - 1]);
+            assert_eq!(b.step(&r), 0);
+            naive.accept(&r);
+        }
+    }
+    // 2 x 1,168 is 9 x 256 and 32.
+    assert_eq!(b.desk[1394..], [32, 9, 0, 0]);
+    assert!(b.desk[98..1394].iter().all(|&x| x == 0));
+}
+
+#[test]
+fn forty_seven_arrows() {
+    // Modes in turn; the arrow from class i to class j is of record j + 1.
+    for at in [0usize, 1, 2, 11, 21, 23] {
+        let core = at as u8 / 3;
+        let mut b = Bench::new(64);
+        b.desk[2 + at / 3] = [3, 5, 6][at % 3];
+        for class in 0..48 {
+            assert_eq!(b.step(&take(core, class, class % 3)), 0);
+        }
+        let kind = |i: usize, j: usize| match (i % 3 == 0, j % 3 == 2) {
+            (true, true) => ER,
+            (true, false) => EN,
+            (false, true) => SR,
+            (false, false) => SN,
+        };
+        let check = |b: &Bench, arrow: &dyn Fn(usize, usize) -> u32| {
+            for i in 0..64 {
+                for j in 0..64 {
+                    let number = arrow(i, j);
+                    let kinds = if number > 0 { kind(i, j) } else { 0 };
+                    assert_eq!((b.sheet[64 * i + j], b.number(i, j)), (kinds, number));
+                }
+            }
+        };
+        let among = |i: usize, j: usize| if i < j && j < 48 { j as u32 + 1 } else { 0 };
+        check(&b, &among);
+        // The forty-ninth class is refused while 48 stand, and draws nothing.
+        b.refused(&take(core, 48, E), 8);
+        // The oldest goes: 47 arrows from 1 to 47 by the fiftieth record.
+        let mut oldest = b.clone().clean(&[release(core, 0), take(core, 48, E)]);
+        check(&oldest, &|i, j| {
+            if j == 48 && i > 0 && i < 48 {
+                50
+            } else {
+                among(i, j)
+            }
+        });
+        // The newest goes: 47 from 0 to 46.
+        let newest = b.clone().clean(&[release(core, 47), take(core, 48, E)]);
+        check(&newest, &|i, j| {
+            if j == 48 && i < 47 {
+                50
+            } else {
+                among(i, j)
+            }
+        });
+        // A try in its place draws none.
+        let by_try = b.clone().clean(&[release(core, 20), take(core, 48, TE)]);
+        check(&by_try, &among);
+        // Again and again, each time with the oldest gone: 47 arrows each.
+        for class in 49..64 {
+            assert_eq!(oldest.step(&release(core, class - 48)), 0);
+            assert_eq!(oldest.step(&take(core, class, class % 3)), 0);
+            oldest.refused(&take(core, class, class % 3), 8);
+        }
+        check(&oldest, &|i, j| match (i < j && j - i < 48, j < 48) {
+            (true, true) => j as u32 + 1,
+            (true, false) => 50 + 2 * (j as u32 - 48),
+            _ => 0,
+        });
+    }
+}
+
+#[test]
+fn first_seen_in_a_full_frame() {
+    // By the records alone: 48 are accepted, the next is refused and has no number; with
+    // room again it is the fiftieth that is accepted, or after a way into a handler the
+    // fifty-first.
+    for at in 0..24usize {
+        let core = at as u8 / 3;
+        for mode in [E, NR, R] {
+            let mut list = vec![take(core, 0, TE); 48];
+            if at % 3 > 0 {
+                list.insert(0, event(core, [ENTER_SOFT, ENTER_HARD][at % 3 - 1]));
+            }
+            let accepted = list.len() as u32;
+            let mut books = Books::open(2).unwrap();
+            assert!(list.iter().all(|r| books.enter(r)));
+            for refused in MODES {
+                list.push(take(core, 1, refused));
+                assert!(!books.enter(&take(core, 1, refused)));
+            }
+            assert_eq!(books.accepted(), accepted);
+            assert_eq!(first_seen(2, &list), Some(vec![0; 4]));
+            list.extend([release(core, 0), take(core, 1, mode), take(core, 0, R)]);
+            assert!(books.enter(&release(core, 0)) && books.enter(&take(core, 1, mode)));
+            assert!(!books.enter(&take(core, 0, R)));
+            assert_eq!(books.numbers(), [0, accepted + 2, 0, 0]);
+            assert_eq!(first_seen(2, &list).as_deref(), Some(books.numbers()));
+            // The same by steps.
+            let mut b = Bench::new(2);
+            for r in &list {
+                b.step(r);
+            }
+            assert_eq!((b.seen, b.desk[1]), (bytes_of(books.numbers()), 0));
+        }
+    }
+}
+
+#[test]
+fn a_fault_through_each_place() {
+    // 47 classes stand in the frame and 63 is taken as the forty-eighth; on core 6 a class
+    // was taken after 63. The circle needs the arrow from that class's place. (None goes
+    // from the forty-eighth: what would draw it is refused.)
+    for at in [0usize, 1, 2, 8, 9, 21, 22, 23] {
+        let core = at as u8 / 3;
+        for mode in [E, R] {
+            let mut held = Bench::new(64);
+            held.desk[2 + at / 3] = [3, 5, 8][at % 3];
+            held.desk[2 + 6] = 3; // no marks
+            let takes: Vec<Rec> = (0..47).map(|class| take(core, class, mode)).collect();
+            let held = held.clean(&takes);
+            let arrow = if mode == E { EN } else { SN };
+            for place in 0..47u8 {
+                let mut b = held.clone().clean(&[take(6, 63, E), take(6, place, E)]);
+                assert_eq!(b.step(&take(core, 63, E)), 1, "frame {at}, place {place}");
+                assert_eq!((b.desk[10 + at], b.number(place.into(), 63)), (48, 50));
+                let circle = entries(&[(place, arrow, 0, 50), (63, EN, 0, 49)]);
+                assert_eq!(b.slip[..15], circle);
+                // By a try there is none.
+                let mut b = held.clone().clean(&[take(6, 63, E), take(6, place, E)]);
+                assert_eq!(b.step(&take(core, 63, TE)), 0);
+            }
+        }
+    }
+    // From opening, by steps and by the program.
+    let mut records = vec![take(1, 63, E), take(1, 46, E)];
+    records.extend((0..47).map(|class| take(0, class, E)));
+    records.push(take(0, 63, E));
+    assert_eq!(judge(64, &records), (50, 1));
+    assert_eq!(
+        program(&log(64, &records)),
+        "fault at record 50\n46 EN 63 hold\n63 EN 46 hold\n"
+    );
+}
+
+#[test]
+fn marks_at_each_place() {
+    // 48 classes held with nothing marked, or soft-safe; then hard on. Another core's hard
+    // handler has one of them: a fault by the mark of that place alone.
+    for at in [0usize, 1, 12, 13, 21, 22] {
+        let core = at as u8 / 3;
+        for mode in [E, NR, TE, TR] {
+            let mut held = Bench::new(64);
+            held.desk[2 + at / 3] = [3, 5][at % 3];
+            let takes: Vec<Rec> = (0..48).map(|class| take(core, class, mode)).collect();
+            let held = held.clean(&takes);
+            let bits = if mode % 3 == E { 4 } else { 8 };
+            let kind = if mode % 3 == E { EN } else { SN };
+            let was = if at % 3 == 1 && mode < 3 { 16 } else { 0 };
+            let on = held.clone().clean(&[event(core, HARD_ON)]);
+            assert_eq!(on.desk[34..82], [was | bits; 48]);
+            assert_eq!(on.desk[82..98], [0; 16]);
+            for place in 0..48u8 {
+                let mut b = held
+                    .clone()
+                    .clean(&[event(2, ENTER_HARD), take(2, place, E)]);
+                assert_eq!(b.step(&event(core, HARD_ON)), 1);
+                assert_eq!(b.slip[..8], entries(&[(place, kind, 1, 0)]));
+            }
+        }
+    }
+    // In a hard handler one place is a try: it alone gets no safe mark, then or later; or
+    // it alone gets one.
+    for at in [2usize, 11, 23] {
+        let core = at as u8 / 3;
+        for place in [0u8, 1, 7, 8, 15, 16, 19, 20, 21, 31, 32, 39, 40, 46, 47] {
+            for (others, one) in [(R, TRR), (TRR, R), (E, TE), (TE, E)] {
+                let mode = |class| if class == place { one } else { others };
+                let takes: Vec<Rec> = (0..48).map(|c| take(core, c, mode(c))).collect();
+                let mut b = Bench::new(48);
+                b.desk[2 + at / 3] = 8;
+                let mut b = b.clean(&takes);
+                let marks: Vec<u8> = (0..48)
+                    .map(|c| [1, 1, 2, 0, 0, 0][mode(c) as usize])
+                    .collect();
+                assert_eq!(b.desk[34..82], marks, "{others}, at {place} {one}");
+                // A release below moves the bit along; marks are as they were.
+                let gone = if place == 0 { 1 } else { 0 };
+                assert_eq!(b.step(&release(core, gone)), 0);
+                assert_eq!(b.desk[34..82], marks);
+            }
+        }
+    }
+}
+
+#[test]
+fn the_newest_of_two_places() {
+    // Class 1 at two of 48 places, as another byte and another origin; class 0 elsewhere.
+    for older in 0..48usize {
+        for newer in older + 1..48 {
+            let at = (older + 7 * newer) % 24;
+            let by_try = (older + newer) % 2 == 0;
+            let mut b = Bench::new(2);
+            b.desk[2 + at / 3] = [3, 5, 6][at % 3];
+            b.desk[10 + at] = 48;
+            let mut holds = vec![128; 48];
+            (holds[older], holds[newer]) = (1, 65);
+            b.desk[98 + 48 * at..146 + 48 * at].copy_from_slice(&holds);
+            let mut bits = vec![false; 1152];
+            bits[48 * at + if by_try { older } else { newer }] = true;
+            b.desk[1250..1394].copy_from_slice(&packed(&bits));
+            for gone in [newer, older] {
+                assert_eq!(b.step(&release(at as u8 / 3, 1)), 0);
+                holds.remove(gone);
+                holds.push(0);
+                bits.insert(48 * at + 48, false);
+                bits.remove(48 * at + gone);
+                assert_eq!(b.desk[98 + 48 * at..146 + 48 * at], holds);
+                assert_eq!(b.desk[1250..1394], packed(&bits));
+            }
+            assert_eq!(b.desk[10 + at], 46);
+            b.refused(&release(at as u8 / 3, 1), 5);
+        }
+    }
+}
+
+#[test]
+fn desks_of_every_length() {
+    let opened = Bench::new(2).clean(&[take(0, 0, R), take(0, 1, TRR)]);
+    for length in 0..=1420 {
+        let mut b = lent(length, 4, 16, 15);
+        if length < 1398 {
+            // "Old desks in shorter buffers get 11"; opening gives 2.
+            let before = b.clone();
+            assert_eq!(b.open(2), 2);
+            assert_eq!(b, before);
+            let mut fed = Fed::new(b.clone());
+            assert_eq!(fed.feed(&log(2, &[take(0, 0, R)])), (2, 0));
+            assert_eq!(fed.b, before);
+            for desk in [&opened.desk, &old_layout(&opened)] {
+                b.desk = desk.clone();
+                b.desk.resize(length, 0);
+                b.refused(&take(0, 0, R), 11);
+                b.refused(&event(0, HARD_OFF), 11);
+                assert_eq!(b.ask(0), (11, 0, 0));
+                assert_eq!(b.unfit(), Some("desk too short"));
+            }
+            continue;
+        }
+        assert_eq!(b.open(2), 0);
+        let mut b = b.clean(&[take(0, 0, R), take(0, 1, TRR)]);
+        assert!(b.desk[1398..].iter().all(|&x| x == 0xA5));
+        b.desk.truncate(1398);
+        assert_eq!(b, opened);
+    }
+    // The old sizes, the next shorter one and some others, with every call.
+    for length in [577, 578, 638, 641, 642, 643, 1250, 1393, 1394, 1397] {
+        for fill in [0, 1, 0xA5, 255] {
+            for desk in [&opened.desk, &old_layout(&opened), &Bench::new(2).desk] {
+                let mut b = opened.clone();
+                b.desk = desk.clone();
+                b.desk.resize(length, fill);
+                assert_unfit(&b);
+                let before = b.clone();
+                assert_eq!(b.open(2), 2);
+                assert_eq!(b, before);
+            }
+        }
+    }
+    for length in [1398, 1399, 1400, 2000, 70_000] {
+        let mut b = opened.clone();
+        b.desk.resize(length, 0xA5);
+        let mut after = b.counted();
+        after.desk[2] = 2;
+        assert_eq!(b.step(&event(0, HARD_OFF)), 0);
+        assert_eq!(b, after);
+        assert_eq!(b.ask(0), (0, 0, 0));
+    }
+}
+
+/// The desk of a bench as it lay before request g, in 642 bytes: 20 holds a frame from 98
+/// on, 20 bits a frame from 578 on, the count from 638 on.
+fn old_layout(b: &Bench) -> Vec<u8> {
+    let mut old = vec![0; 642];
+    old[..98].copy_from_slice(&b.desk[..98]);
+    for at in 0..24 {
+        assert!(b.desk[10 + at] <= 20);
+        for place in 0..20 {
+            old[98 + 20 * at + place] = b.desk[98 + 48 * at + place];
+            let origin = b.desk[1250 + 6 * at + place / 8] >> (place % 8) & 1;
+            old[578 + (20 * at + place) / 8] |= origin << ((20 * at + place) % 8);
+        }
+    }
+    old[638..].copy_from_slice(&b.desk[1394..]);
+    old
+}
+
+/// This bench with an old desk, and these bytes behind up to 1,398.
+fn with_old_desk(b: &Bench, old: &[u8], fill: u8) -> Bench {
+    let mut b = b.clone();
+    b.desk = old.to_vec();
+    b.desk.resize(1398, fill);
+    b
+}
+
+#[test]
+fn old_desks_that_read_the_same() {
+    // Freshly opened: all zero but K.
+    for k in [1, 2, 3, 8, 20, 48, 63, 64] {
+        let b = Bench::new(k);
+        let mut old = vec![0; 642];
+        old[0] = k as u8;
+        assert_eq!(old_layout(&b), old);
+        assert_eq!(with_old_desk(&b, &old, 0), b);
+        // Any other byte behind it is an unused place or origin, or of the count.
+        for at in 642..1398 {
+            let mut b = b.clone();
+            b.desk[at] = 1 + (at % 255) as u8;
+            assert_eq!(b.unfit().is_none(), at >= 1394, "byte {at}");
+            assert_eq!(fit_by_hand(&b), at >= 1394);
+            if k == 3 && at < 1394 {
+                assert_unfit(&b);
+            }
+        }
+        for fill in [1, 64, 128, 192, 0xA5, 255] {
+            let b = with_old_desk(&b, &old, fill);
+            assert_eq!(b.unfit(), Some("unused hold not 0"));
+            if k == 3 {
+                assert_unfit(&b);
+            }
+        }
+        let mut counted = with_old_desk(&b, &old, 0);
+        counted.desk[1394..].copy_from_slice(&[4, 3, 2, 1]);
+        assert_eq!(counted.step(&event(0, HARD_ON)), 0);
+        assert_eq!(counted.count(), 0x0102_0305);
+    }
+    // With a count of 0, waits in core 0's task frame alone: no byte lies elsewhere.
+    for depth in 0..=20u8 {
+        let mut b = Bench::new(32);
+        b.desk[10] = depth;
+        for place in 0..depth {
+            b.desk[98 + place as usize] = place + 64 * (place % 3);
+        }
+        b.desk[34..66].fill(4);
+        let old = old_layout(&b);
+        let mut same = with_old_desk(&b, &old, 0);
+        assert_eq!(same, b);
+        assert_eq!(same.unfit(), None);
+        assert_eq!(same.step(&take(0, 31, E)), 0);
+        assert_eq!(same.count(), 1);
+        assert_eq!(same.desk[10], depth + 1);
+        assert_eq!(same.desk[98 + depth as usize], 31);
+        assert!(same.desk[638..642].iter().all(|&x| x == 0));
+    }
+    // Class 0 held exclusively is a byte of 0, wherever it lies.
+    for at in 0..24usize {
+        let mut b = Bench::new(1);
+        b.desk[2 + at / 3] = [0, 5, 6][at % 3];
+        b.desk[10 + at] = 20;
+        assert_eq!(with_old_desk(&b, &old_layout(&b), 0), b);
+    }
+}
+
+#[test]
+fn old_desks_that_are_unfit() {
+    // After one record, by hand: 1E held by core 0's task. The count's byte 638 is place 12
+    // of core 3's hard frame.
+    let b = Bench::new(3).clean(&[take(0, 1, E)]);
+    let mut old = vec![0; 642];
+    (old[0], old[10], old[35], old[98], old[638]) = (3, 1, 68, 1, 1);
+    assert_eq!(old_layout(&b), old);
+    let mut long = with_old_desk(&b, &old, 0);
+    assert_eq!(long.unfit(), Some("unused hold not 0"));
+    assert_unfit(&long);
+    // Without the count it is as in the new layout; the new one has its own place.
+    long.desk[638] = 0;
+    assert_eq!(long.unfit(), None);
+    long.desk[1394] = 1;
+    assert_eq!(long, b);
+    // A byte in any other frame lies in a frame before it.
+    for at in 1..24usize {
+        for place in 0..20usize {
+            let mut b = Bench::new(8);
+            b.desk[2 + at / 3] = [0, 5, 6][at % 3];
+            b.desk[10 + at] = place as u8 + 1;
+            b.desk[98 + 48 * at + place] = 5 + 128;
+            assert_eq!(b.unfit(), None);
+            let long = with_old_desk(&b, &old_layout(&b), 0);
+            assert_eq!(long.desk[98 + 20 * at + place], 133);
+            assert_eq!(long.unfit(), Some("unused hold not 0"));
+            if place % 8 == 0 {
+                assert_unfit(&long);
+            }
+        }
+    }
+    // So does an origin, and one of core 0's task frame: from 578 on are core 3's soft and
+    // hard frames.
+    for at in 0..24usize {
+        for place in 0..20usize {
+            let mut b = Bench::new(1);
+            b.desk[2 + at / 3] = [0, 5, 6][at % 3];
+            b.desk[10 + at] = place as u8 + 1;
+            b.desk[1250 + 6 * at + place / 8] = 1 << (place % 8);
+            assert_eq!(b.unfit(), None);
+            let old = old_layout(&b);
+            let bit = 20 * at + place;
+            assert_eq!(old[578 + bit / 8], 1 << (bit % 8));
+            let long = with_old_desk(&b, &old, 0);
+            assert_eq!(long.unfit(), Some("unused hold not 0"));
+            if place % 8 == 0 {
+                assert_unfit(&long);
+            }
+        }
+    }
+    // Any bit of the count.
+    for bit in 0..32 {
+        let mut b = Bench::new(64);
+        b.set_count(1 << bit);
+        let long = with_old_desk(&b, &old_layout(&b), 0);
+        assert_eq!(long.unfit(), Some("unused hold not 0"));
+        assert_unfit(&long);
+        // Both counts too.
+        let mut both = long.clone();
+        both.set_count(1 << bit);
+        assert_unfit(&both);
+    }
+    // Sheets with arrows, and the count where it lay or nowhere.
+    let b = Bench::new(3).clean(&p2_records()[..4]);
+    let mut long = with_old_desk(&b, &old_layout(&b), 0);
+    assert_unfit(&long);
+    long.desk[638] = 0;
+    assert_eq!(long.unfit(), Some("number above the count"));
+    assert_unfit(&long);
+    long.set_count(4);
+    assert_eq!(long, b);
+}
+
+#[test]
+fn an_old_count_read_as_a_hold() {
+    // Core 3's hard frame holds 16, in the old layout class 0 by exclusive waits; the count
+    // of 5 is then the class at place 12. "in longer ones they are read in the new layout".
+    let mut b = Bench::new(8);
+    (b.desk[5], b.desk[10 + 11]) = (6, 16);
+    b.set_count(5);
+    assert_eq!(b.unfit(), None);
+    let mut long = with_old_desk(&b, &old_layout(&b), 0);
+    assert_eq!((long.desk[638], long.count()), (5, 0));
+    assert_eq!(long.unfit(), None);
+    assert!(fit_by_hand(&long));
+    long.refused(&release(3, 4), 5);
+    let mut after = long.clone();
+    after.desk[10 + 11] = 15;
+    (after.desk[34], after.desk[34 + 5]) = (1, 0);
+    after.desk[638] = 0;
+    after.set_count(1);
+    assert_eq!(long.step(&release(3, 5)), 0);
+    assert_eq!(long, after);
+    // With 12 it is unused, with 13 it stands; a class of K or more doesn't.
+    for (depth, count, fit) in [
+        (12, 5, false),
+        (13, 5, true),
+        (13, 8, false),
+        (13, 7, true),
+        (13, 64 + 7, true),
+        (13, 128 + 7, true),
+        (13, 192 + 7, false),
+        (13, 256, false),
+        (14, 256, true),
+        (16, 0x0102_0304, true),
+        (15, 0x0102_0304, false),
+        (16, 0x0802_0304, false),
+    ] {
+        b.desk[10 + 11] = depth;
+        b.set_count(count);
+        let long = with_old_desk(&b, &old_layout(&b), 0);
+        assert_eq!(long.unfit().is_none(), fit, "{depth} {count}");
+        assert_eq!(fit_by_hand(&long), fit);
+        if !fit {
+            assert_unfit(&long);
+        }
+    }
+}
+
+#[test]
+fn old_desks_of_runs() {
+    // Runs of any records with up to 20 holds a frame; the desk as it lay before, in longer
+    // buffers: unfit, as the count isn't 0.
+    let mut dice = Dice(0x01DD_E5C5_0F20_0001);
+    let mut deepest = 0;
+    for round in 0..150u64 {
+        let k = 1 + dice.under(8);
+        let mut b = Bench::new(k as usize);
+        for _ in 0..1 + dice.under(120) {
+            let r = if round % 2 == 0 {
+                deep_record(&mut dice, k, &[R, TRR])
+            } else {
+                random_record(&mut dice, k, &MODES)
+            };
+            let mut next = b.clone();
+            let answer = next.step(&r);
+            if answer == 0 && r[2] < 3 && next.desk[10..34].iter().all(|&depth| depth <= 20) {
+                b = next;
+            }
+        }
+        deepest = deepest.max(*b.desk[10..34].iter().max().unwrap());
+        let old = old_layout(&b);
+        if b.count() == 0 {
+            assert_eq!(with_old_desk(&b, &old, 0), b);
+            continue;
+        }
+        // Cores 0 to 2: nothing stands in core 3's hard frame, where the count is now.
+        assert_eq!(b.desk[10 + 11], 0);
+        for fill in [0, 1, 0xA5, dice.next() as u8] {
+            let mut long = with_old_desk(&b, &old, fill);
+            assert_unfit(&long);
+            // Longer still, with anything behind.
+            long.desk.extend([7; 30]);
+            assert_unfit(&long);
+        }
+        let mut long = with_old_desk(&b, &old, 0);
+        for byte in &mut long.desk[642..] {
+            *byte = dice.next() as u8;
+        }
+        assert_unfit(&long);
+        // Opening makes it a new one.
+        assert_eq!(long.open(k), 0);
+        assert_eq!(long.desk, Bench::new(k as usize).desk);
+    }
+    assert_eq!(deepest, 20);
+}
+
+#[test]
+fn fit_or_unfit_by_hand() {
+    // Desks with any depths, and then some bytes changed: the fit test a second way.
+    let mut dice = Dice(0xF17B_4A4D_0048_0001);
+    let (mut fits, mut unfits) = (0, 0);
+    for _ in 0..15_000 {
+        let k = 1 + dice.under(4) as usize;
+        let mut b = Bench::new(k);
+        for at in 0..24 {
+            if at % 3 == 0 {
+                b.desk[2 + at / 3] = dice.under(9) as u8;
+            }
+            let depth = match dice.under(6) {
+                0 => dice.under(49) as usize,
+                1 => [20, 21, 31, 32, 40, 47, 48][dice.under(7) as usize],
+                _ => 0,
+            };
+            let state = b.desk[2 + at / 3];
+            let may_hold = [true, [4, 5, 8].contains(&state), state > 5][at % 3];
+            if !may_hold {
+                continue;
+            }
+            b.desk[10 + at] = depth as u8;
+            for place in 0..depth {
+                let hold = dice.under(k as u64) + 64 * dice.under(3);
+                b.desk[98 + 48 * at + place] = hold as u8;
+                let bit = (dice.under(2) as u8) << (place % 8);
+                b.desk[1250 + 6 * at + place / 8] |= bit;
+            }
+        }
+        assert_eq!(b.unfit(), None);
+        assert!(fit_by_hand(&b));
+        for _ in 0..1 + dice.under(2) {
+            let at = match dice.under(4) {
+                0 => dice.under(34),
+                1 => 1250 + dice.under(148),
+                _ => 98 + dice.under(1152),
+            } as usize;
+            b.desk[at] = match dice.under(4) {
+                0 => b.desk[at] ^ 1 << dice.under(8),
+                1 => 0,
+                2 => dice.under(k as u64) as u8,
+                _ => b.desk[at].wrapping_add([1, 255][dice.under(2) as usize]),
+            };
+        }
+        let fit = fit_by_hand(&b);
+        assert_eq!(b.unfit().is_none(), fit, "{:?}", b.desk);
+        fits += u64::from(fit);
+        unfits += u64::from(!fit);
+        if !fit {
+            b.refused(&take(0, 0, R), 11);
+        }
+    }
+    assert!(fits > 3_000 && unfits > 3_000, "{fits} fit, {unfits} not");
 }
 
 // ----------------------------------------------------------------------- time

@@ -7,7 +7,7 @@ EXCLUSIVE, READ, RECURSIVE_READ = range(3)
 TRY = 3  # added to one of these: a successful try
 MODES = 2 * TRY  # of an acquire
 HEADER, RECORD = 4, 6  # sizes
-MAX_CLASSES, CORES, DEPTH = 64, 8, 20
+MAX_CLASSES, CORES, DEPTH = 64, 8, 48
 
 # A core's next state: a row a state, a column an event from HARD_ON on, x where it is refused.
 NEXT = ["02014x6x", "1301xx7x", "0223xxxx", "1323xxxx", "45xxx08x", "45xxxxxx", "xxxxxxx0", "xxxxxxx1", "xxxxxxx4"]

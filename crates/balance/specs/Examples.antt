@@ -53,8 +53,8 @@ pieceCases =
     ∷ records (frees 0 3 ∷ frees 0 3 ∷ takes 0 3 exclusive ∷ []) (of 3 (negsuc 0) ∷ [])
     -- every mode of an acquire counts, tries too, and every core
     ∷ records (takes 0 1 exclusive ∷ takes 1 1 read ∷ takes 2 1 recursive ∷ takes 3 1 tryExclusive ∷ takes 4 1 tryRead ∷ takes 7 1 tryRecursive ∷ []) (of 1 (pos 6) ∷ [])
-    -- no desk is asked: 21 in one frame, a release of what nobody holds, what follows a fault
-    ∷ records (replicate 21 (takes 0 2 recursive)) (of 2 (pos 21) ∷ [])
+    -- no desk is asked: 49 in one frame, a release of what nobody holds, what follows a fault
+    ∷ records (replicate 49 (takes 0 2 recursive)) (of 2 (pos 49) ∷ [])
     ∷ records (takes 0 1 exclusive ∷ takes 0 1 exclusive ∷ frees 5 1 ∷ takes 0 4 exclusive ∷ []) (of 1 (pos 1) ∷ of 4 (pos 1) ∷ [])
     -- there is no K: 63 counts, 64 and 255 count for nothing, and neither for 0 nor for 63
     ∷ records (takes 0 63 exclusive ∷ takes 0 0 exclusive ∷ takes 0 64 exclusive ∷ frees 0 255 ∷ takes 0 127 exclusive ∷ []) (of 0 (pos 1) ∷ of 63 (pos 1) ∷ [])

@@ -4,3 +4,4 @@ pub mod Held
 pub mod Numbers
 pub mod Slips
 pub mod AllBelow
+pub mod Sizes

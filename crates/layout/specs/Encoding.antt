@@ -51,7 +51,7 @@ abbrev pub EightBits : List ℕ → Type 0
 EightBits desk = (b : ℕ) → b < originBytes → getD desk (originsAt + b) 0 < 256
 
 -- "byte 0 K; byte 1 is 0 open, 1 closed; bytes 2-9 each core's state; bytes 10-33 hold depths; bytes 34-97 marks by class; bytes 98-577 the
--- holds, 20 per frame in the order of the depths, oldest first"; the origins after them, eight to a byte. The count behind them stands in Encodes.
+-- holds, 20 per frame in the order of the depths, oldest first" (02, g: 98-1249, 48 per frame); the origins after them, eight to a byte. The count behind them stands in Encodes.
 pub record DeskBytes (K : ℕ) (is-closed : Bool) (cores : ℕ → Core) (marks : Marks) (desk : List ℕ) : Type 0 where
   pub long : deskSize ≤ length desk
   pub classes : classesOf desk ≡ K

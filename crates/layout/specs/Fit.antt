@@ -31,7 +31,7 @@ abbrev pub heldFits : ℕ → (standing : Bool) → ℕ → Bool
 heldFits K true byte = ltb (byte % 64) K && ltb (byte / 64) heldModes
 heldFits K false byte = eqb byte 0
 
--- "a depth over 20", and the frame's bytes
+-- "a depth over 20" (02, g: 48), and the frame's bytes
 unfoldable pub frameFits : ℕ → List ℕ → ℕ → Bool
 frameFits K desk n =
     leb (depthOf desk n) maxDepth && allBelow maxDepth (λ p. heldFits K (ltb p (depthOf desk n)) (heldOf desk n p))

@@ -4,7 +4,7 @@ pub const CORES: usize = 8;
 
 pub const MAX_CLASSES: usize = 64;
 
-pub const MAX_DEPTH: usize = 20;
+pub const MAX_DEPTH: usize = 48;
 
 // Modes in which a lock is held, and modes of an acquire: the same and by a try.
 pub const HELD_MODES: u8 = 3;

@@ -110,8 +110,8 @@ table =
     -- P12, and without the soft off and on
     ∷ example (does 0 softOff ∷ takes 0 6 exclusive ∷ frees 0 6 ∷ does 0 softOn ∷ does 0 enterSoft ∷ takes 0 6 exclusive ∷ []) (allClean 6)
     ∷ example (takes 0 6 exclusive ∷ frees 0 6 ∷ does 0 enterSoft ∷ takes 0 6 exclusive ∷ []) (faultAt 4)
-    -- 0R twenty times, then 0R, and by a try (and 8R: 4 before 8); exit hard with a lock held; exit hard in state 0
-    ∷ example (replicate 21 (takes 0 0 recursive) ++ (takes 0 0 tryRecursive ∷ takes 0 8 recursive ∷ [])) (endsWith 21 8 ++ (8 ∷ 4 ∷ []))
+    -- 0R forty-eight times, then 0R, and by a try (and 8R: 4 before 8); exit hard with a lock held; exit hard in state 0
+    ∷ example (replicate 49 (takes 0 0 recursive) ++ (takes 0 0 tryRecursive ∷ takes 0 8 recursive ∷ [])) (endsWith 49 8 ++ (8 ∷ 4 ∷ []))
     ∷ example (does 0 enterHard ∷ takes 0 1 exclusive ∷ does 0 exitHard ∷ []) (endsWith 3 7)
     ∷ example (does 0 exitHard ∷ []) (endsWith 1 6)
     -- "a hard on with a hard-safe hold standing": the mark comes with the hard on
@@ -288,7 +288,7 @@ limitCases =
     (takes 0 0 exclusive ∷ takes 0 1 exclusive ∷ frees 0 0 ∷ does 0 hardOff ∷ frees 0 1 ∷ does 0 exitHard ∷ takes 0 3 exclusive ∷ [] ∷ [])
     (0 ∷ 9 ∷ 9 ∷ 9 ∷ 5 ∷ 6 ∷ 4 ∷ 3 ∷ [])
     ∷ limitCase (does 0 enterHard ∷ takes 0 0 exclusive ∷ []) 4294967295 (does 0 exitHard ∷ []) (7 ∷ [])
-    ∷ limitCase (replicate 20 (takes 0 0 recursive)) 4294967295 (takes 0 0 recursive ∷ []) (8 ∷ [])
+    ∷ limitCase (replicate 48 (takes 0 0 tryRecursive)) 4294967295 (takes 0 0 recursive ∷ []) (8 ∷ [])
     -- the last one may be a fault, and then all get 10
     ∷ limitCase (takes 0 0 exclusive ∷ []) 4294967294 (takes 0 0 exclusive ∷ takes 0 1 exclusive ∷ []) (1 ∷ 10 ∷ [])
     ∷ []

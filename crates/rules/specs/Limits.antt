@@ -9,9 +9,9 @@ coreCount = 8
 abbrev pub maxClasses : ℕ
 maxClasses = 64
 
--- Locks held at a time in one frame (002: "lock recursion must not be higher than 20").
+-- Locks held at a time in one frame (02, g: "Raise the limit to 48 per frame"; 002 had 20).
 abbrev pub maxDepth : ℕ
-maxDepth = 20
+maxDepth = 48
 
 -- The most records that are accepted (02, e: "the count stands at 4,294,967,295").
 abbrev pub maxAccepted : ℕ

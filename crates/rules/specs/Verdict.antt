@@ -90,7 +90,7 @@ releaseMissing core (acquire c m) = false
 releaseMissing core (release c) = not (isHeld c (current core))
 releaseMissing core (interrupt e) = false
 
--- "take, frame holds 20"
+-- "take, frame holds 20" (02, g: 48)
 abbrev pub frameFull : Core → Event → Bool
 frameFull core (acquire c m) = leb maxDepth (length (current core))
 frameFull core (release c) = false
