@@ -1,4 +1,4 @@
--- The places of the desk, in the numbers of document 02. Assumes nothing.
+-- The offsets and sizes of the desk, in the numbers of document 02. Assumes nothing.
 use mathlib.Core.Path.{_≡_, refl, ap₂}
 use mathlib.Core.List.{List}
 use Prim.Native.Nat.{ℕ, _+_, _*_, _/_, _%_, _^_, _<_}
@@ -8,8 +8,8 @@ use Rattle.rules.specs.Limits.{maxDepth}
 use Rattle.layout.specs.Layout.{statesAt, depthsAt, marksAt, heldAt, placeCount, originsAt, originBytes, acceptedAt, deskSize, originOf}
 
 -- "The holds take 1,152 bytes and the origin bits 144, so the desk is 1,398 bytes."
-pub desk-places : (statesAt ≡ 2) × (depthsAt ≡ 10) × (marksAt ≡ 34) × (heldAt ≡ 98) × (placeCount ≡ 1152) × (originsAt ≡ 1250) × (originBytes ≡ 144) × (acceptedAt ≡ 1394) × (deskSize ≡ 1398)
-desk-places = (refl, refl, refl, refl, refl, refl, refl, refl, refl)
+pub desk-offsets : (statesAt ≡ 2) × (depthsAt ≡ 10) × (marksAt ≡ 34) × (heldAt ≡ 98) × (placeCount ≡ 1152) × (originsAt ≡ 1250) × (originBytes ≡ 144) × (acceptedAt ≡ 1394) × (deskSize ≡ 1398)
+desk-offsets = (refl, refl, refl, refl, refl, refl, refl, refl, refl)
 
 -- The origin bits of a frame are six bytes of their own.
 pub six-bytes : (desk : List ℕ) (frame p : ℕ) → p < maxDepth → originOf desk frame p ≡ getD desk (originsAt + 6 * frame + p / 8) 0 / 2 ^ (p % 8) % 2
