@@ -1,5 +1,6 @@
 //! Links libplungerowl.a from the folder that PLUNGEROWL_LIB_DIR names, and makes the planted judges: the reference's
-//! source with lent.rs and lists.rs, and below them a module for each, with the items that an edit of plants.rs changes.
+//! source with lent.rs and lists.rs, and below them a module for each, with the items that an edit of plants.rs changes. Those that
+//! put other expressions in one place share such a module, and have modules of their own that say which it is.
 mod plants;
 
 use std::collections::HashSet;
@@ -147,6 +148,33 @@ const CALLS: [(&str, &str); 8] = [
     ("whole_log", "whole_log"),
 ];
 
+/// A module with the items of this source that are not the reference's: those edited, and those that call them.
+fn module(out: &Path, name: &str, first: &str, source: &str, whole: &[String]) -> String {
+    let edited = items(source);
+    let changed = changed(&edited, edited.iter().map(|item| !whole.contains(item)).collect());
+    let changed: String = edited.into_iter().zip(changed).filter(|(_, changed)| *changed).map(|(item, _)| item).collect();
+    written(out, name, &format!("pub use super::*;\n{first}{changed}"))
+}
+
+/// The module's line, once its file is written.
+fn written(out: &Path, name: &str, text: &str) -> String {
+    let path = out.join(format!("{name}.rs"));
+    std::fs::write(&path, text).expect("OUT_DIR can be written");
+    format!("#[path = {path:?}]\npub mod {name};\n")
+}
+
+/// A call of the judge's own, which is the shared module's after saying which it is.
+fn own_call(source: &str, shared: &str, which: usize, function: &str) -> String {
+    let start = source.find(&format!("\npub fn {function}(")).expect("every call is there");
+    let head = source[start + 1..].split(" {\n").next().unwrap_or("");
+    let parameters = &head[head.find('(').map_or(0, |at| at + 1)..head.rfind(") ->").expect("every call answers")];
+    let given: Vec<&str> = parameters.split(',').filter_map(|one| one.split_once(':')).map(|(name, _)| name.trim()).collect();
+    format!(
+        "{head} {{\n    super::{shared}::WHICH.store({which}, std::sync::atomic::Ordering::Relaxed);\n    super::{shared}::{function}({})\n}}\n",
+        given.join(", ")
+    )
+}
+
 fn plant(out: &Path) {
     let reference = std::fs::read_to_string(REFERENCE).expect(REFERENCE);
     let reference = edit(&reference, "judges have no tests", "#[cfg(test)]\nmod tests;\n", "");
@@ -155,26 +183,43 @@ fn plant(out: &Path) {
     let reference = format!("{}{RULE}\n\n{lent}", &reference[..program.expect("the program's section is the last")]);
     let whole = items(&reference);
     let (mut modules, mut table, mut well) = (String::new(), String::new(), true);
-    for plants::Plant { name, wrong, sights, breaks, of_clash, of_numbers, of_depth, edits } in plants::PLANTS {
+    // By place: the judges that put another expression there, and the expressions.
+    let mut shared: Vec<(&str, Vec<(String, &str)>)> = Vec::new();
+    for plants::Plant { name, wrong, sights, breaks, of_clash, of_numbers, of_depth, of_release, edits, shares } in plants::PLANTS {
         assert!(!edits.is_empty(), "planted {name}: no edit");
         let source = edits.iter().fold(reference.to_string(), |source, (old, new)| edit(&source, name, old, new));
         well &= !source.is_empty();
         let only_of = |functions: &[&str]| without(&source, functions) == without(&reference, functions);
         let (of_feed, of_balance) = (only_of(&["feed"]), only_of(&["balance", "balance_into"]));
-        let edited = items(&source);
-        let changed = changed(&edited, edited.iter().map(|item| !whole.contains(item)).collect());
-        let mut text = String::from("pub use super::*;\n");
-        text.extend(edited.into_iter().zip(changed).filter(|(_, changed)| *changed).map(|(item, _)| item));
-        let path = out.join(format!("{name}.rs"));
-        std::fs::write(&path, text).expect("OUT_DIR can be written");
-        let module = format!("plant_{}", name.replace('-', "_"));
-        modules += &format!("#[path = {path:?}]\npub mod {module};\n");
-        let calls = CALLS.map(|(call, function)| format!("{call}: judge::{module}::{function}")).join(", ");
+        let own = format!("plant_{}", name.replace('-', "_"));
+        if *shares {
+            let [(place, new)] = edits else { panic!("planted {name}: not one edit") };
+            match shared.iter_mut().find(|(other, _)| other == place) {
+                Some((_, judges)) => judges.push((own.clone(), new)),
+                None => shared.push((place, vec![(own.clone(), new)])),
+            }
+        } else {
+            modules += &module(out, &own, "", &source, &whole);
+        }
+        let calls = CALLS.map(|(call, function)| format!("{call}: judge::{own}::{function}")).join(", ");
         table += &format!(
-            "    Plant {{ name: {name:?}, wrong: {wrong:?}, sights: &{sights:?}, breaks: {breaks:?}, of_feed: {of_feed}, of_balance: {of_balance}, of_clash: {of_clash}, of_numbers: {of_numbers}, of_depth: {of_depth}, judge: Judge {{ {calls} }} }},\n"
+            "    Plant {{ name: {name:?}, wrong: {wrong:?}, sights: &{sights:?}, breaks: {breaks:?}, of_feed: {of_feed}, of_balance: {of_balance}, of_clash: {of_clash}, of_numbers: {of_numbers}, of_depth: {of_depth}, of_release: {of_release}, judge: Judge {{ {calls} }} }},\n"
         );
     }
     assert!(well, "a planted judge has no place to be planted at");
+    for (number, (place, judges)) in shared.iter().enumerate() {
+        let name = format!("shared_{number}");
+        let which = |(number, (_, new)): (usize, &(String, &str))| format!("{number} => {{ {new} }}\n");
+        let arms: String = judges.iter().enumerate().map(which).collect();
+        let chosen = format!("match WHICH.load(std::sync::atomic::Ordering::Relaxed) {{\n{arms}_ => {{ {place} }}\n}}");
+        let source = edit(&reference, &name, place, &chosen);
+        let first = "pub static WHICH: std::sync::atomic::AtomicUsize = std::sync::atomic::AtomicUsize::new(0);\n";
+        modules += &module(out, &name, first, &source, &whole);
+        for (which, (own, _)) in judges.iter().enumerate() {
+            let calls: String = CALLS.iter().map(|(_, function)| own_call(&reference, &name, which, function)).collect();
+            modules += &written(out, own, &calls);
+        }
+    }
     let path = out.join("judge.rs");
     let lists = std::fs::read_to_string(LISTS).expect(LISTS);
     std::fs::write(&path, format!("{reference}\n{lists}\n{modules}")).expect("OUT_DIR can be written");

@@ -18,12 +18,22 @@ pub struct Plant {
     /// Whether it is wrong about deep frames or old desks (see src/depths.rs and src/older.rs), and the cases about these come
     /// first.
     pub of_depth: bool,
+    /// Whether it is wrong about the modes of releases (see src/releases.rs), and the cases about these come first.
+    pub of_release: bool,
     /// Text of reference/src/lib.rs, and what stands there instead.
     pub edits: &'static [(&'static str, &'static str)],
+    /// Whether its one edit puts an expression in the place of another. Those of one place share a module, which chooses among them
+    /// as it runs, so that it is compiled once.
+    pub shares: bool,
 }
 
 const fn plant(name: &'static str, wrong: &'static str, edits: &'static [(&'static str, &'static str)]) -> Plant {
-    Plant { name, wrong, sights: &[], breaks: None, of_clash: false, of_numbers: false, of_depth: false, edits }
+    let (of_clash, of_numbers, of_depth, of_release) = (false, false, false, false);
+    Plant { name, wrong, sights: &[], breaks: None, of_clash, of_numbers, of_depth, of_release, edits, shares: false }
+}
+
+const fn sharing(name: &'static str, wrong: &'static str, edits: &'static [(&'static str, &'static str)]) -> Plant {
+    Plant { shares: true, ..plant(name, wrong, edits) }
 }
 
 const fn shown(sights: &'static [&'static str], plant: Plant) -> Plant {
@@ -44,6 +54,10 @@ const fn of_numbers(sights: &'static [&'static str], plant: Plant) -> Plant {
 
 const fn of_depth(sights: &'static [&'static str], plant: Plant) -> Plant {
     Plant { sights, of_depth: true, ..plant }
+}
+
+const fn of_release(sights: &'static [&'static str], plant: Plant) -> Plant {
+    Plant { sights, of_release: true, ..plant }
 }
 
 const ONLY_WITH_PATH: &str = "a fault only with a closed strong path";
@@ -413,8 +427,9 @@ const OVER_10000: [&str; 3] =
 const TRIES_COUNT: [&str; 3] =
     ["acquire of mode 3 that counts", "acquire of mode 4 that counts", "acquire of mode 5 that counts"];
 const OVER_MODE: [&str; 2] = ["malformed by mode 6 alone", "malformed by a mode over 6 alone"];
-const RELEASE_MODE: [&str; 2] =
-    ["malformed by a release's mode up to 5 alone", "malformed by a release's mode over 5 alone"];
+const RELEASE_MODE: [&str; 2] = ["malformed by a release's mode 6 alone", "malformed by a release's mode over 6 alone"];
+const RELEASED_TRIES: [&str; 3] =
+    ["release of mode 3 that counts", "release of mode 4 that counts", "release of mode 5 that counts"];
 const OVER_CORE: [&str; 2] = ["malformed by core 8 alone", "malformed by a core over 8 alone"];
 const OVER_63: [&str; 4] =
     ["class 64 in a piece", "class 65 to 127 in a piece", "class 128 to 254 in a piece", "class 255 in a piece"];
@@ -662,6 +677,71 @@ fn unfit_now(desk: &[u8], sheet: &[u8], seen: &[u8], slip: Option<&[u8]>) -> Opt
     };
 }
 
+/// Where a release finds the newest lock of its class, the mode in which that was acquired, whether it is refused, the refusal, and
+/// the places to which others move down; and what else than an acquire or a release has a class or a mode.
+const NEWEST: &str = "(first..first + depth).rev().find(|&at| desk[at] % 64 == class)";
+const ACQUIRED: &str = "desk[at] / 64 + if is_try(desk, at) { TRY } else { 0 }";
+const UNFITTED: &str = "newest.map(taken) != Some(mode)";
+const REFUSED: &str = "return 5";
+const MOVED: &str = "at..last";
+const NO_MODE: &str = "kind >= 2 && (class != 0 || mode != 0)";
+
+/// A release finds this lock, of the places of its frame; `acquired` is the mode of a place.
+macro_rules! finds {
+    ($found:literal) => {
+        &[(
+            NEWEST,
+            concat!(
+                "let acquired = |at: usize| desk[at] / 64 + if is_try(desk, at) { TRY } else { 0 };
+        (first..first + depth)",
+                $found
+            ),
+        )]
+    };
+}
+
+/// A release is refused where its class is not held, and else unless this holds; `at` is the newest lock's place.
+macro_rules! fitting {
+    ($fits:literal) => {
+        &[(UNFITTED, concat!("!newest.is_some_and(|at| ", $fits, ")"))]
+    };
+}
+
+/// The origin that a release is compared with.
+macro_rules! origin_of {
+    ($origin:literal) => {
+        &[(ACQUIRED, concat!("desk[at] / 64 + if ", $origin, " { TRY } else { 0 }"))]
+    };
+}
+
+/// A release takes this lock out; `at` is the place of the one that it was compared with.
+macro_rules! takes_out {
+    ($place:literal) => {
+        &[(MOVED, concat!($place, "..last"))]
+    };
+}
+
+/// Releases in another mode than the newest lock's: by what differs, by the origin alone, and where an older lock of the class has
+/// their mode; and releases that fit, over an older lock of the class.
+const OTHER_MODE: [&str; 6] = [
+    "read released as a write",
+    "write released as a read",
+    "one read released as the other",
+    "try released as a wait",
+    "wait released as a try",
+    "release in another mode and by another origin",
+];
+const OTHER_ORIGIN: [&str; 2] = ["try released as a wait", "wait released as a try"];
+const OLDER_FITS: [&str; 3] = [
+    "release that the oldest lock of its class fits",
+    "release that the lock of its class below the newest fits",
+    "release that a lock of its class between others fits alone",
+];
+/// At the last count, where a release that fits gets 9.
+const NINE: &str = "9 for a release";
+const OLDER_TOO: [&str; 2] =
+    ["release that fits, an older lock of its class in another mode", "release that fits, an older one too, others between"];
+
 const BY_STRIDE: [&str; 2] = ["try in a frame but the first", "call on a fit desk with a try"];
 const IN_FULL_FRAME: [&str; 2] = ["wait in a full frame", "try in a full frame"];
 const OVER_20: [&str; 3] = ["acquire over 20 held locks", "acquire over 21 to 46 held locks", "acquire that fills a frame"];
@@ -704,7 +784,7 @@ pub const PLANTS: &[Plant] = &[
     ),
     plant(
         "oldest-release",
-        "a release removes the oldest held lock of the class",
+        "a release goes by the oldest held lock of the class",
         &[("(first..first + depth).rev().find(", "(first..first + depth).find(")],
     ),
     plant(
@@ -1014,52 +1094,68 @@ pub const PLANTS: &[Plant] = &[
             ("let bit = 1 << (place % 8);", "let bit = 1 << (7 - place % 8);"),
         ],
     ),
-    shown(
-        &["release of a try over a wait of its class"],
-        plant(
+    of_release(
+        &["release of a try over a wait of its class", NINE, OLDER_FITS[0], OLDER_FITS[1], OLDER_FITS[2]],
+        sharing(
             "release-newest-wait",
-            "a release removes the newest lock of the class that waited, if any did",
+            "a release goes by the newest lock of the class that waited, if any did",
             &[(
-                "let newest = (first..first + depth).rev().find(|&at| desk[at] % 64 == class);",
+                NEWEST,
                 "let of_class = |&at: &usize| desk[at] % 64 == class;
-    let waited = (first..first + depth).rev().filter(of_class).find(|&at| !is_try(desk, at));
-    let newest = waited.or((first..first + depth).rev().find(of_class));",
+        let waited = (first..first + depth).rev().filter(of_class).find(|&at| !is_try(desk, at));
+        waited.or((first..first + depth).rev().find(of_class))",
             )],
         ),
     ),
-    shown(
-        &["release of a wait over a try of its class"],
-        plant(
+    of_release(
+        &["release of a wait over a try of its class", NINE, OLDER_FITS[0], OLDER_FITS[1], OLDER_FITS[2]],
+        sharing(
             "release-newest-try",
-            "a release removes the newest try of the class, if there is one",
+            "a release goes by the newest try of the class, if there is one",
             &[(
-                "let newest = (first..first + depth).rev().find(|&at| desk[at] % 64 == class);",
+                NEWEST,
                 "let of_class = |&at: &usize| desk[at] % 64 == class;
-    let tried = (first..first + depth).rev().filter(of_class).find(|&at| is_try(desk, at));
-    let newest = tried.or((first..first + depth).rev().find(of_class));",
+        let tried = (first..first + depth).rev().filter(of_class).find(|&at| is_try(desk, at));
+        tried.or((first..first + depth).rev().find(of_class))",
             )],
         ),
     ),
-    shown(
-        &["release of a try"],
-        plant(
+    of_release(
+        &["release of a try", NINE, OLDER_FITS[0], OLDER_FITS[1], OLDER_FITS[2]],
+        sharing(
             "release-waits-only",
             "a release finds no try",
-            &[(".find(|&at| desk[at] % 64 == class);", ".find(|&at| desk[at] % 64 == class && !is_try(desk, at));")],
+            finds!(".rev().find(|&at| desk[at] % 64 == class && !is_try(desk, at))"),
         ),
     ),
     // The modes.
     shown(
-        &["acquire with mode 6", "acquire with mode 6 and class K or more"],
+        &["acquire with mode 6", "acquire with mode 6 and class K or more", "release with mode 6", "release with a mode over 5 and class K or more"],
         plant("mode-6", "mode 6 is accepted", &[("mode > LAST_MODE", "mode > LAST_MODE + 1")]),
     ),
     plant("mode-3", "a try is refused with 3", &[("mode > LAST_MODE", "mode > RECURSIVE")]),
-    shown(
-        &["release with a try's mode"],
-        plant(
+    of_release(
+        &["release in mode 3 to 5"],
+        sharing(
             "release-mode",
-            "a release may have a try's mode",
-            &[("kind == RELEASE && mode != 0", "kind == RELEASE && mode != 0 && mode < TRY")],
+            "a release may have no try's mode",
+            &[(NO_MODE, "kind == RELEASE && mode >= TRY || kind >= 2 && (class != 0 || mode != 0)")],
+        ),
+    ),
+    of_release(
+        &["release in mode 1 or 2", "release in mode 3 to 5"],
+        sharing(
+            "release-mode-0",
+            "a release has mode 0, as before",
+            &[(NO_MODE, "kind == RELEASE && mode != 0 || kind >= 2 && (class != 0 || mode != 0)")],
+        ),
+    ),
+    of_release(
+        &["release with mode 6", "release with a mode over 6", "release with a mode over 5 and class K or more"],
+        plant(
+            "release-over-5",
+            "5 for a release of a mode over 5",
+            &[("kind > 9 || mode > LAST_MODE {", "kind > 9 || mode > LAST_MODE && kind != RELEASE {")],
         ),
     ),
     shown(
@@ -1092,6 +1188,295 @@ pub const PLANTS: &[Plant] = &[
         let over = matches!(record, &[0x4C, 0x4B, 0..=7, TAKE, class, 6..=255] if class >= desk[0]);
         return if over { 4 } else { 3 };
     };",
+            )],
+        ),
+    ),
+    of_release(
+        &["release with a mode over 5 and class K or more"],
+        plant(
+            "order-4-3-release",
+            "4 before the 3 of a release's mode over 5",
+            &[(
+                "else {\n        return 3;\n    };",
+                "else {
+        let over = matches!(record, &[0x4C, 0x4B, 0..=7, RELEASE, class, 6..=255] if class >= desk[0]);
+        return if over { 4 } else { 3 };
+    };",
+            )],
+        ),
+    ),
+    // Which lock a release is compared with.
+    breaks(
+        BY_RECORDS,
+        of_release(
+            &OLDER_FITS,
+            sharing(
+                "newest-that-fits",
+                "a release finds the newest lock of its class that has its mode",
+                finds!(".rev().find(|&at| desk[at] % 64 == class && acquired(at) == mode)"),
+            ),
+        ),
+    ),
+    of_release(
+        &[OLDER_FITS[0], OLDER_FITS[1], OLDER_FITS[2], OLDER_TOO[1]],
+        sharing(
+            "oldest-that-fits",
+            "a release finds the oldest lock of its class that has its mode",
+            finds!(".find(|&at| desk[at] % 64 == class && acquired(at) == mode)"),
+        ),
+    ),
+    of_release(
+        &OLDER_FITS,
+        sharing(
+            "newest-of-mode",
+            "a release finds the newest lock of its class and mode, and is compared with its origin",
+            finds!(".rev().find(|&at| desk[at] % 64 == class && desk[at] / 64 == mode % TRY)"),
+        ),
+    ),
+    of_release(
+        &OLDER_FITS,
+        sharing(
+            "newest-of-origin",
+            "a release finds the newest lock of its class and origin, and is compared with its mode",
+            finds!(".rev().find(|&at| desk[at] % 64 == class && is_try(desk, at) == (mode >= TRY))"),
+        ),
+    ),
+    of_release(
+        &OLDER_FITS,
+        sharing(
+            "any-that-fits",
+            "a release removes the newest lock of its class if any of them has its mode",
+            fitting!("(first..=at).any(|at| desk[at] % 64 == class && taken(at) == mode)"),
+        ),
+    ),
+    of_release(
+        &[OLDER_TOO[0], NINE],
+        sharing(
+            "all-that-fit",
+            "5 unless all locks of the class in the frame have the release's mode",
+            fitting!("(first..=at).all(|at| desk[at] % 64 != class || taken(at) == mode)"),
+        ),
+    ),
+    of_release(
+        &[OLDER_TOO[0], NINE, OLDER_FITS[0]],
+        sharing(
+            "oldest-compared",
+            "a release is compared with the oldest lock of its class, and removes the newest",
+            fitting!("(first..=at).find(|&at| desk[at] % 64 == class).map(taken) == Some(mode)"),
+        ),
+    ),
+    of_release(
+        &[OLDER_TOO[0], NINE, OLDER_FITS[1]],
+        sharing(
+            "next-compared",
+            "a release is compared with the lock of its class below the newest, if there is one",
+            fitting!("taken((first..at).rev().find(|&at| desk[at] % 64 == class).unwrap_or(at)) == mode"),
+        ),
+    ),
+    of_release(
+        &[OLDER_FITS[0], OLDER_FITS[1], OLDER_FITS[2], "release that no lock of its class fits"],
+        sharing(
+            "several-not-compared",
+            "a release is not compared where its class is held more than once",
+            fitting!("taken(at) == mode || (first..at).any(|at| desk[at] % 64 == class)"),
+        ),
+    ),
+    of_release(
+        &["release that the frame's newest lock, of another class, fits", "release that fits, the frame's newest of another class and mode", NINE],
+        sharing(
+            "top-compared",
+            "a release is compared with the frame's newest lock, of whichever class",
+            fitting!("taken(at.max(first + depth - 1)) == mode"),
+        ),
+    ),
+    of_release(
+        &["release below a newer lock of another class", NINE],
+        sharing("top-only", "5 unless the frame's newest lock is released", fitting!("taken(at) == mode && at == first + depth - 1")),
+    ),
+    of_release(
+        &["release of a class held in another frame of the core alone"],
+        sharing(
+            "below-fits",
+            "0 where the class is not held in the frame but in one below it in that mode",
+            &[(
+                UNFITTED,
+                "let below = HOLDS + 3 * DEEPEST * usize::from(core)..first;
+        let held = |at: &usize| (at - HOLDS) % DEEPEST < usize::from(desk[DEPTHS + (at - HOLDS) / DEEPEST]);
+        if newest.is_none() && below.filter(held).any(|at| desk[at] % 64 == class && taken(at) == mode) {
+            return 0;
+        }
+        newest.map(taken) != Some(mode)",
+            )],
+        ),
+    ),
+    breaks(
+        "old answers kept until a fault",
+        of_release(
+            &[],
+            sharing(
+                "far-compared",
+                "a release is compared with the newest lock of its class on the core four away too",
+                &[(
+                    UNFITTED,
+                    "let far = (here + 12) % FRAMES;
+        let far = HOLDS + DEEPEST * far..HOLDS + DEEPEST * far + usize::from(desk[DEPTHS + far]);
+        let far = far.rev().find(|&at| desk[at] % 64 == class);
+        newest.map(taken) != Some(mode) || far.is_some_and(|at| taken(at) != mode)",
+                )],
+            ),
+        ),
+    ),
+    // What is compared.
+    breaks(BY_RECORDS, of_release(&OTHER_MODE, sharing("not-compared", "the mode of a release is not looked at", fitting!("at >= first")))),
+    of_release(&OTHER_ORIGIN, sharing("origin-not-compared", "the origin is not compared", fitting!("desk[at] / 64 == mode % TRY"))),
+    of_release(
+        &[OTHER_MODE[0], OTHER_MODE[1], OTHER_MODE[2]],
+        sharing("origin-only", "the origin alone is compared", fitting!("is_try(desk, at) == (mode >= TRY)")),
+    ),
+    of_release(
+        &["release of a lock in another mode, of mode 0"],
+        sharing("mode-0-fits", "a release of mode 0 fits every lock of its class, as before", fitting!("mode == 0 || taken(at) == mode")),
+    ),
+    of_release(
+        &["read released as a write"],
+        sharing("read-as-write", "a read may be released as a write", fitting!("taken(at) == mode || taken(at) / TRY == mode / TRY && mode % TRY == EXCLUSIVE")),
+    ),
+    of_release(
+        &["write released as a read"],
+        sharing("write-as-read", "a write may be released as a read", fitting!("taken(at) == mode || taken(at) / TRY == mode / TRY && taken(at) % TRY == EXCLUSIVE")),
+    ),
+    of_release(
+        &["one read released as the other"],
+        sharing("reads-alike", "one read may be released as the other", fitting!("taken(at) / TRY == mode / TRY && (taken(at) % TRY == EXCLUSIVE) == (mode % TRY == EXCLUSIVE)")),
+    ),
+    of_release(&["try released as a wait"], sharing("try-as-wait", "a try may be released as a wait", fitting!("taken(at) == mode || taken(at) == mode + TRY"))),
+    of_release(&["wait released as a try"], sharing("wait-as-try", "a wait may be released as a try", fitting!("taken(at) == mode || taken(at) + TRY == mode"))),
+    of_release(
+        &["release in another mode and by another origin"],
+        sharing("mode-two-bits", "the two low bits of the mode are compared", fitting!("taken(at) & 3 == mode & 3")),
+    ),
+    of_release(
+        &["release of an exclusive try", "release of a try of a recursive read", "write released as a read", "read released as a write", NINE],
+        sharing(
+            "tries-backwards",
+            "a try is released by 5 if exclusive and by 3 if a recursive read",
+            &[(ACQUIRED, "if is_try(desk, at) { LAST_MODE - desk[at] / 64 } else { desk[at] / 64 }")],
+        ),
+    ),
+    of_release(
+        &["release in another mode in a soft handler", "release in another mode in a hard handler"],
+        sharing("compared-in-tasks", "a release is compared in tasks only", fitting!("here % 3 != 0 || taken(at) == mode")),
+    ),
+    of_release(
+        &["release in another mode in a task", "release in another mode in a soft handler"],
+        sharing("compared-in-hard", "a release is compared in hard handlers only", fitting!("here % 3 != 2 || taken(at) == mode")),
+    ),
+    of_release(
+        &["release in another mode at place 20 to 31", "release in another mode at place 32 to 47"],
+        sharing("compared-20", "a release is compared at the first 20 places only", fitting!("at >= first + 20 || taken(at) == mode")),
+    ),
+    of_release(
+        &["release in another mode at place 32 to 47"],
+        sharing("compared-32", "a release is compared at the first 32 places only", fitting!("at >= first + 32 || taken(at) == mode")),
+    ),
+    // Whose origin is compared.
+    of_release(
+        &["release whose origin the place above does not have", NINE, OTHER_ORIGIN[0], OTHER_ORIGIN[1]],
+        sharing("origin-above", "the origin of the place above is compared", origin_of!("is_try(desk, (at + 1).min(first + DEEPEST - 1))")),
+    ),
+    of_release(
+        &["release whose origin the place below does not have", NINE, OTHER_ORIGIN[0], OTHER_ORIGIN[1]],
+        sharing("origin-below", "the origin of the place below is compared", origin_of!("is_try(desk, at.max(first + 1) - 1)")),
+    ),
+    of_release(
+        &["release whose origin the frame's newest does not have", NINE, OTHER_ORIGIN[0], OTHER_ORIGIN[1]],
+        sharing("origin-of-top", "the origin of the frame's newest lock is compared", origin_of!("is_try(desk, at.max(first + depth - 1))")),
+    ),
+    of_release(
+        &["release whose origin the task's place does not have", NINE, OTHER_ORIGIN[0], OTHER_ORIGIN[1]],
+        sharing("origin-of-task", "the origin of that place in the core's task is compared", origin_of!("is_try(desk, at - DEEPEST * (here % 3))")),
+    ),
+    of_release(
+        &["release whose origin the first frame's place does not have", NINE, OTHER_ORIGIN[0], OTHER_ORIGIN[1]],
+        sharing("origin-of-first-frame", "the origin of that place in the first frame is compared", origin_of!("is_try(desk, HOLDS + at - first)")),
+    ),
+    // Which lock a release takes out.
+    of_release(
+        &OLDER_TOO,
+        sharing(
+            "takes-oldest",
+            "a release that fits the newest lock of its class takes the oldest out",
+            takes_out!("(first..at).find(|&at| desk[at] % 64 == class).unwrap_or(at)"),
+        ),
+    ),
+    of_release(
+        &[OLDER_TOO[1]],
+        sharing(
+            "takes-older-same",
+            "a release that fits the newest lock of its class takes the oldest out that it fits",
+            takes_out!("(first..at).find(|&older| desk[older] == desk[at] && is_try(desk, older) == is_try(desk, at)).unwrap_or(at)"),
+        ),
+    ),
+    of_release(
+        &["release below a newer lock of another class"],
+        sharing("takes-top", "a release takes the frame's newest lock out", takes_out!("at.max(first + depth - 1)")),
+    ),
+    // What becomes of a release in another mode.
+    of_release(
+        &OTHER_MODE,
+        sharing("other-mode-3", "3 for a release in another mode", &[(REFUSED, "return if newest.is_some() { 3 } else { 5 }")]),
+    ),
+    of_release(
+        &["release in another mode at the last count"],
+        sharing(
+            "other-mode-9",
+            "9 before the 5 of a release in another mode",
+            &[(REFUSED, "return if newest.is_some() && word_at(desk, COUNT) == u32::MAX { 9 } else { 5 }")],
+        ),
+    ),
+    of_release(
+        &["release in another mode where a cycle stands"],
+        sharing(
+            "other-mode-1",
+            "1 for a release in another mode where a cycle stands",
+            &[(REFUSED, "return if newest.is_some() && closed_strong_path(desk, sheet) { 1 } else { 5 }")],
+        ),
+    ),
+    of_release(
+        &OTHER_MODE,
+        sharing(
+            "other-mode-counted",
+            "a release in another mode is counted",
+            &[(
+                REFUSED,
+                "let count = word_at(desk, COUNT);
+        if newest.is_some() {
+            set_word(desk, COUNT, count.saturating_add(1));
+        }
+        return 5",
+            )],
+        ),
+    ),
+    of_release(
+        &["release in another mode over a lock that lacks a mark"],
+        sharing(
+            "other-mode-marks",
+            "a release in another mode marks what is held",
+            &[(REFUSED, "if newest.is_some() {\n            mark(desk, core);\n        }\n        return 5")],
+        ),
+    ),
+    of_release(
+        &OTHER_MODE,
+        sharing(
+            "other-mode-changes",
+            "a release in another mode gives the lock that mode",
+            &[(
+                REFUSED,
+                "if let Some(at) = newest {
+            desk[at] = class + 64 * (mode % TRY);
+            set_origin(desk, at, mode >= TRY);
+        }
+        return 5",
             )],
         ),
     ),
@@ -1409,11 +1794,11 @@ pub const PLANTS: &[Plant] = &[
     of_depth(&["mark from place 20 on alone"], plant("marks-20", "the first 20 held locks only are marked", marks_up_to!("20"))),
     of_depth(&["mark from place 32 on alone"], plant("marks-32", "the first 32 held locks only are marked", marks_up_to!("32"))),
     of_depth(
-        &["release at place 20 to 31", "release at place 32 to 46", "release at place 47"],
+        &["release at place 20 to 31", "release at place 32 to 46", "release at place 47", "release in another mode at place 20 to 31", "release in another mode at place 32 to 47"],
         plant("newest-20", "a release finds the first 20 held locks only", finds_up_to!("20")),
     ),
     of_depth(
-        &["release at place 32 to 46", "release at place 47"],
+        &["release at place 32 to 46", "release at place 47", "release in another mode at place 32 to 47"],
         plant("newest-32", "a release finds the first 32 held locks only", finds_up_to!("32")),
     ),
     of_depth(
@@ -3269,22 +3654,22 @@ static REFUSED: std::sync::atomic::AtomicU32 = std::sync::atomic::AtomicU32::new
     // Which records count.
     breaks(
         AS_HELD,
-        shown(&TRIES_COUNT, plant("tries-missing", "a try does not count", passing!("read_record(six).filter(|r| r.mode < TRY)"))),
+        shown(&TRIES_COUNT, plant("tries-missing", "a try does not count", passing!("read_record(six).filter(|r| r.kind != TAKE || r.mode < TRY)"))),
     ),
     shown(
         &["acquire of mode 5 that counts"],
-        plant("mode-5-missing", "an acquire of mode 5 does not count", passing!("read_record(six).filter(|r| r.mode < LAST_MODE)")),
+        plant("mode-5-missing", "an acquire of mode 5 does not count", passing!("read_record(six).filter(|r| r.kind != TAKE || r.mode < LAST_MODE)")),
     ),
     shown(
         &["acquire of mode 1 that counts", "acquire of mode 2 that counts", "acquire of mode 4 that counts", "acquire of mode 5 that counts"],
-        plant("reads-missing", "a read does not count", passing!("read_record(six).filter(|r| r.mode % TRY == EXCLUSIVE)")),
+        plant("reads-missing", "a read does not count", passing!("read_record(six).filter(|r| r.kind != TAKE || r.mode % TRY == EXCLUSIVE)")),
     ),
     shown(
         &["malformed by mode 6 alone"],
         plant(
             "balance-mode-6",
             "an acquire of mode 6 counts",
-            passing!("read_record(&[six[0], six[1], six[2], six[3], six[4], if six[5] == 6 { 5 } else { six[5] }]).filter(|r| r.kind != RELEASE || six[5] == 0)"),
+            passing!("read_record(&[six[0], six[1], six[2], six[3], six[4], if six[5] == 6 { 5 } else { six[5] }]).filter(|r| r.kind != RELEASE || six[5] != 6)"),
         ),
     ),
     breaks(
@@ -3307,11 +3692,56 @@ static REFUSED: std::sync::atomic::AtomicU32 = std::sync::atomic::AtomicU32::new
         ),
     ),
     shown(
-        &["malformed by a release's mode up to 5 alone"],
+        &["release of mode 1 that counts", "release of mode 2 that counts", RELEASED_TRIES[0], RELEASED_TRIES[1], RELEASED_TRIES[2]],
         plant(
-            "balance-release-mode-5",
-            "a release may have the modes of an acquire",
-            passing!("read_record(&[six[0], six[1], six[2], six[3], six[4], if six[3] == RELEASE && six[5] < 6 { 0 } else { six[5] }])"),
+            "balance-release-mode-0",
+            "a release of mode 0 alone counts",
+            passing!("read_record(six).filter(|r| r.kind != RELEASE || r.mode == 0)"),
+        ),
+    ),
+    breaks(
+        AS_HELD,
+        shown(
+            &RELEASED_TRIES,
+            plant(
+                "released-tries-missing",
+                "the release of a try does not count",
+                passing!("read_record(six).filter(|r| r.kind != RELEASE || r.mode < TRY)"),
+            ),
+        ),
+    ),
+    shown(
+        &["release of mode 5 that counts"],
+        plant(
+            "released-5-missing",
+            "a release of mode 5 does not count",
+            passing!("read_record(six).filter(|r| r.kind != RELEASE || r.mode < LAST_MODE)"),
+        ),
+    ),
+    shown(
+        &["malformed by a release's mode 6 alone"],
+        plant(
+            "balance-release-mode-6",
+            "a release of mode 6 counts",
+            passing!("read_record(&[six[0], six[1], six[2], six[3], six[4], if six[3] == RELEASE && six[5] == 6 { 5 } else { six[5] }])"),
+        ),
+    ),
+    shown(
+        &["class acquired in one mode and released in another"],
+        plant(
+            "released-in-other-mode",
+            "a release counts for nothing in a mode in which its class has not been acquired, where it has in another",
+            &[(
+                PASSED,
+                "    let mut modes = [0u8; 256];
+    let passed = piece.chunks_exact(RECORD).filter_map(read_record).filter(|r| {
+        let own = 1u8 << r.mode;
+        if r.kind == TAKE {
+            modes[usize::from(r.class)] |= own;
+        }
+        r.kind != RELEASE || modes[usize::from(r.class)] == 0 || modes[usize::from(r.class)] & own != 0
+    });",
+            )],
         ),
     ),
     shown(
@@ -3344,7 +3774,7 @@ static REFUSED: std::sync::atomic::AtomicU32 = std::sync::atomic::AtomicU32::new
         plant("balance-signature-4b", "the second byte is not looked at", passing!("read_record(&[six[0], 0x4B, six[2], six[3], six[4], six[5]])")),
     ),
     shown(
-        &["kind 2 in a piece", "kind 3 in a piece", "kind 9 in a piece"],
+        &["kind 2 in a piece", "kind 3 in a piece", "kind 4 to 8 in a piece", "kind 9 in a piece"],
         plant(
             "balance-kind-bit",
             "of the kind its lowest bit alone counts",
@@ -3566,7 +3996,7 @@ static REFUSED: std::sync::atomic::AtomicU32 = std::sync::atomic::AtomicU32::new
         plant("balance-14-bits", "a balance is a number of 14 bits", balanced!("(takes[class] - releases[class]) << 18 >> 18")),
     ),
     shown(
-        &["balance over 255"],
+        &["class acquired over 255 times"],
         plant("takes-8-bits", "acquires are counted in 8 bits", &[(TAKEN, "            TAKE => takes[usize::from(class)] = (takes[usize::from(class)] + 1) % 256,")]),
     ),
     shown(
@@ -3635,7 +4065,7 @@ static REFUSED: std::sync::atomic::AtomicU32 = std::sync::atomic::AtomicU32::new
         )],
     ),
     shown(
-        &["class acquired and released by different cores"],
+        &["class acquired by one core and released by another"],
         plant(
             "released-by-other",
             "a release counts for nothing on a core that has not acquired the class, where another has",

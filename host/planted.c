@@ -193,8 +193,8 @@
     X(try_of_class_k_as_3, refusal_4, wrong) \
     X(try_of_class_k_as_8, refusal_8, wrong) \
     X(try_at_full_depth_as_3, refusal_8, wrong) \
-    X(release_with_mode_of_try, try_release, wrong) \
-    X(release_of_try_as_5, try_release, wrong) \
+    X(event_with_a_mode, refusal_3, wrong) \
+    X(hard_on_with_a_mode, order, wrong) \
     X(try_not_counted, try_full, wrong) \
     X(try_held_as_mode_3, try_held_byte, wrong) \
     X(try_held_as_exclusive, try_held_byte, wrong) \
@@ -214,6 +214,127 @@
     X(release_takes_oldest, try_release, wrong) \
     X(release_takes_no_try_first, try_release, wrong) \
     X(release_takes_try_first, try_release, wrong) \
+    X(release_newest_that_fits, release_pairs, wrong) \
+    X(release_newest_that_fits_in_table, release_table, wrong) \
+    X(release_newest_that_fits_in_deep, depth_newest, wrong) \
+    X(release_newest_that_fits_at_random, depth_random, wrong) \
+    X(release_newest_in_its_mode, release_pairs, wrong) \
+    X(release_newest_of_its_origin, release_pairs, wrong) \
+    X(release_all_must_fit, release_pairs, wrong) \
+    X(release_oldest_that_fits, release_pairs, wrong) \
+    X(release_any_that_fits, release_pairs, wrong) \
+    X(release_oldest_compared, release_pairs, wrong) \
+    X(release_oldest_compared_newest_goes, release_pairs, wrong) \
+    X(release_newest_compared_oldest_fit_goes, release_order, wrong) \
+    X(release_of_top_only, release_classes, wrong) \
+    X(release_by_mode_of_top, release_classes, wrong) \
+    X(release_compared_top_goes, release_classes, wrong) \
+    X(release_by_any_lock_of_frame, release_classes, wrong) \
+    X(release_of_any_class, release_classes, wrong) \
+    X(release_fits_in_any_frame, release_frames, wrong) \
+    X(release_fits_on_any_core, release_frames, wrong) \
+    X(release_looks_in_task, release_frames, wrong) \
+    X(release_looks_below, release_frames, wrong) \
+    X(release_looks_on_core_before, release_frames, wrong) \
+    X(release_not_compared, release_modes, wrong) \
+    X(release_not_compared_in_table, release_table, wrong) \
+    X(release_by_mode_only, release_modes, wrong) \
+    X(release_by_origin_only, release_modes, wrong) \
+    X(release_by_held_byte, release_modes, wrong) \
+    X(release_mode_0_fits_all, release_modes, wrong) \
+    X(release_mode_0_fits_tries, release_modes, wrong) \
+    X(release_mode_0_fits_reads, release_table, wrong) \
+    X(release_reads_alike, release_modes, wrong) \
+    X(release_tried_reads_alike, release_modes, wrong) \
+    X(release_read_fits_recursive, release_modes, wrong) \
+    X(release_recursive_fits_read, release_modes, wrong) \
+    X(release_reads_fit_write, release_modes, wrong) \
+    X(release_try_fits_in_any_mode, release_modes, wrong) \
+    X(release_without_try_fits_try, release_modes, wrong) \
+    X(release_by_try_fits_all, release_modes, wrong) \
+    X(release_mode_at_most, release_modes, wrong) \
+    X(release_mode_at_least, release_modes, wrong) \
+    X(release_mode_of_1_bit, release_modes, wrong) \
+    X(release_mode_of_2_bits, release_modes, wrong) \
+    X(release_origin_turned, release_modes, wrong) \
+    X(release_tries_turned, release_modes, wrong) \
+    X(release_mode_and_origin_apart, release_pairs, wrong) \
+    X(release_origin_of_place_above, release_pairs, wrong) \
+    X(release_origin_of_place_below, release_pairs, wrong) \
+    X(release_origin_of_first_place, release_pairs, wrong) \
+    X(release_origin_of_top, release_classes, wrong) \
+    X(release_origin_of_oldest, release_pairs, wrong) \
+    X(release_origin_of_its_byte, release_pairs, wrong) \
+    X(release_origin_of_frame_0, release_modes, wrong) \
+    X(release_origin_of_next_frame, release_modes, wrong) \
+    X(release_origin_of_task, release_frames, wrong) \
+    X(release_origin_stride_20, release_modes, wrong) \
+    X(release_origin_highest_bit_first, release_modes, wrong) \
+    X(release_origin_of_32_bits, release_places, wrong) \
+    X(release_mode_of_place_above, release_classes, wrong) \
+    X(release_mode_of_place_below, release_pairs, wrong) \
+    X(release_mode_of_oldest, release_pairs, wrong) \
+    X(release_mode_of_frame_0, release_modes, wrong) \
+    X(misfit_passes_in_handlers, release_modes, wrong) \
+    X(misfit_passes_in_hard, release_modes, wrong) \
+    X(misfit_passes_on_core_7, release_modes, wrong) \
+    X(misfit_passes_in_state_1, acquire_marks, wrong) \
+    X(misfit_passes_in_state_7, acquire_marks, wrong) \
+    X(misfit_passes_of_one_class, release_modes, wrong) \
+    X(misfit_passes_from_20, release_from_top, wrong) \
+    X(misfit_passes_at_47, release_places, wrong) \
+    X(misfit_passes_at_0, release_places, wrong) \
+    X(misfit_passes_of_two, release_pairs, wrong) \
+    X(misfit_passes_of_one, release_modes, wrong) \
+    X(misfit_passes_in_full_frame, release_from_top, wrong) \
+    X(misfit_passes_below_others, release_classes, wrong) \
+    X(misfit_passes_of_class_0, release_classes, wrong) \
+    X(misfit_passes_of_class_63, release_classes, wrong) \
+    X(misfit_passes_with_fault, release_fault, wrong) \
+    X(release_of_try_as_5, try_release, wrong) \
+    X(release_of_read_as_5, release_modes, wrong) \
+    X(release_of_newer_as_5, release_pairs, wrong) \
+    X(release_misses_place_0, release_modes, wrong) \
+    X(release_misses_place_47, release_places, wrong) \
+    X(release_in_full_frame_as_5, release_places, wrong) \
+    X(release_in_handler_as_5, release_modes, wrong) \
+    X(release_modes_as_3, release_modes, wrong) \
+    X(release_tries_as_3, try_release, wrong) \
+    X(release_mode_5_as_3, release_modes, wrong) \
+    X(release_misfits_as_3_by_mode, release_modes, wrong) \
+    X(release_mode_over_as_5, refusal_3, wrong) \
+    X(release_mode_over_as_5_of_none, release_every_mode, wrong) \
+    X(release_mode_over_of_class_k_as_4, order, wrong) \
+    X(release_mode_6_accepted, refusal_3, wrong) \
+    X(release_mode_255_accepted, refusal_3, wrong) \
+    X(release_mode_of_3_bits, release_every_mode, wrong) \
+    X(release_mode_modulo_6, refusal_3, wrong) \
+    X(release_of_class_k_as_5, refusal_4, wrong) \
+    X(release_of_class_k_with_mode_as_5, order, wrong) \
+    X(release_of_class_k_with_mode_as_3, refusal_4, wrong) \
+    X(release_class_of_6_bits, release_every_mode, wrong) \
+    X(misfit_as_0, release_modes, wrong) \
+    X(misfit_as_1, release_modes, wrong) \
+    X(misfit_as_3, release_modes, wrong) \
+    X(misfit_as_4, release_modes, wrong) \
+    X(misfit_as_6, release_modes, wrong) \
+    X(misfit_as_7, release_modes, wrong) \
+    X(misfit_as_8, release_modes, wrong) \
+    X(misfit_as_10, release_modes, wrong) \
+    X(misfit_as_11, release_modes, wrong) \
+    X(nine_before_misfit, count_order, wrong) \
+    X(misfit_before_10, closed, wrong) \
+    X(misfit_before_11, release_every_mode, wrong) \
+    X(misfit_counts, count, wrong) \
+    X(misfit_removes_newest, release_modes, wrong) \
+    X(misfit_removes_what_fits, release_pairs, wrong) \
+    X(misfit_clears_origin, release_modes, wrong) \
+    X(misfit_takes_its_mode, release_modes, wrong) \
+    X(misfit_takes_its_origin, release_modes, wrong) \
+    X(misfit_closes, release_modes, wrong) \
+    X(misfit_marks, acquire_marks, wrong) \
+    X(misfit_draws, release_modes, wrong) \
+    X(misfit_writes_slip, release_fault, wrong) \
     X(event_clears_origins, table_marks, wrong) \
     X(dependency_to_try, try_dependencies, wrong) \
     X(dependency_to_try_of_its_class, try_dependencies, wrong) \
@@ -485,6 +606,16 @@
     X(follows_fault, feed_stop, wrong) \
     X(follows_refusal, feed_stop, wrong) \
     X(follows_9, feed_count_full, wrong) \
+    X(follows_5, feed_releases, wrong) \
+    X(feed_release_mode_0, feed_releases, wrong) \
+    X(feed_release_without_try, feed_releases, wrong) \
+    X(feed_release_not_compared, feed_releases, wrong) \
+    X(feed_release_newest_that_fits, feed_releases, wrong) \
+    X(feed_release_modes_as_3, feed_releases, wrong) \
+    X(feed_release_mode_lost_at_cut, feed_releases, wrong) \
+    X(feed_misfit_passes, feed_releases, wrong) \
+    X(feed_misfit_passes_in_logs, feed_stop, wrong) \
+    X(feed_misfit_as_3, feed_releases, wrong) \
     X(keeps_loose_of_stopping_record, feed_cuts, wrong) \
     X(keeps_loose_behind_stop, feed_stop, wrong) \
     X(takes_all_into_loose, feed_stop, wrong) \
@@ -672,10 +803,24 @@
     X(balance_mode_3_left_out, balance_modes, wrong) \
     X(balance_mode_4_left_out, balance_modes, wrong) \
     X(balance_mode_5_left_out, balance_modes, wrong) \
-    X(balance_release_mode_1, balance_modes, wrong) \
-    X(balance_release_mode_3, balance_modes, wrong) \
-    X(balance_release_modes, balance_modes, wrong) \
+    X(balance_release_mode_0_only, balance_modes, wrong) \
+    X(balance_release_mode_0_only_by_example, balance_example, wrong) \
+    X(balance_release_modes_0_and_1, balance_modes, wrong) \
+    X(balance_release_modes_0_and_3, balance_modes, wrong) \
+    X(balance_release_modes_0_to_2, balance_modes, wrong) \
+    X(balance_release_tries_only, balance_modes, wrong) \
+    X(balance_release_mode_2_left_out, balance_modes, wrong) \
+    X(balance_release_mode_5_left_out, balance_modes, wrong) \
+    X(balance_release_mode_6, balance_modes, wrong) \
+    X(balance_release_mode_255, balance_modes, wrong) \
+    X(balance_release_mode_of_3_bits, balance_modes, wrong) \
     X(balance_release_mode_any, balance_modes, wrong) \
+    X(balance_fitting_only, balance_modes, wrong) \
+    X(balance_fitting_only_of_several, balance_releases, wrong) \
+    X(balance_same_origin_only, balance_modes, wrong) \
+    X(balance_misfit_ends, balance_releases, wrong) \
+    X(balance_misfit_as_5, balance_modes, wrong) \
+    X(balance_misfit_as_14, balance_modes, wrong) \
     X(balance_kind_2_acquires, balance_kinds, wrong) \
     X(balance_kind_2_releases, balance_kinds, wrong) \
     X(balance_kind_9_releases, balance_kinds, wrong) \
@@ -686,6 +831,7 @@
     X(balance_kind_10_releases, balance_kinds, wrong) \
     X(balance_kind_255_releases, balance_kinds, wrong) \
     X(balance_events_with_a_class, balance_kinds, wrong) \
+    X(balance_events_with_a_mode, balance_bytes, wrong) \
     X(balance_class_64_at_0, balance_classes, wrong) \
     X(balance_class_64_at_63, balance_classes, wrong) \
     X(balance_class_255_at_0, balance_classes, wrong) \
@@ -1207,10 +1353,10 @@ static void spoil_sheet(struct call *c)
     }
 }
 
-/* The frame as it was, without the lock at the place. */
-static void release_at(struct call *c, unsigned place)
+/* A frame as it was, without the lock at the place; its depth is left. */
+static void remove_at(struct call *c, unsigned frame, unsigned place)
 {
-    unsigned first = DEPTH * c->old_frame;
+    unsigned first = DEPTH * frame;
     unsigned i;
 
     memcpy(c->desk + HELD_AT + first, c->old_desk + HELD_AT + first, DEPTH);
@@ -1221,6 +1367,17 @@ static void release_at(struct call *c, unsigned place)
     }
     c->desk[HELD_AT + i] = 0;
     put_bit(c->desk, i, 0);
+}
+
+static void release_at(struct call *c, unsigned place)
+{
+    remove_at(c, c->old_frame, place);
+}
+
+/* The mode in which the lock with an index over all places was acquired. */
+static unsigned mode_at(const uint8_t *desk, unsigned index)
+{
+    return desk[HELD_AT + index] / 64u + (bit_at(desk, index) ? TRY : 0);
 }
 
 /* A release takes another lock of the class. */
@@ -1367,7 +1524,9 @@ static void spoil_accepted(struct call *c)
         if (plant() >= release_takes_oldest
             && plant() <= release_takes_try_first)
             spoil_choice(c);
-        spoil_bits(c);
+        if (plant() >= release_moves_no_bits
+            && plant() <= release_of_no_try_moves_no_bits)
+            spoil_bits(c);
     }
     if (plant() == event_clears_origins && c->kind >= PLUNGEROWL_HARD_ON)
         put_bit(c->desk, DEPTH * c->old_frame, 0);
@@ -1513,7 +1672,7 @@ static void mark_again(struct call *c)
 }
 
 /* A release that looks at the first places only, or moves no others; 0 if it
- * finds no lock. */
+ * finds no lock that fits. */
 static int release_again(struct call *c, unsigned depth)
 {
     unsigned first = DEPTH * c->old_frame, limit = places_looked_at();
@@ -1524,9 +1683,10 @@ static int release_again(struct call *c, unsigned depth)
         for (i = 0; i < depth && i < limit; i++)
             if (held[i] % 64 == c->class_)
                 at = i;
-        if (at < depth)
-            release_at(c, at);
-        return at < depth;
+        if (at == depth || mode_at(c->old_desk, first + at) != c->mode)
+            return 0;
+        release_at(c, at);
+        return 1;
     }
     while (held[--at] % 64 != c->class_)
         ;
@@ -1619,6 +1779,450 @@ static void turn_desk(uint8_t *old, uint8_t *now, int back)
             }
         }
     }
+}
+
+/* ------------------------------------------------------ which releases fit */
+
+enum { NO_PLACE = PLUNGEROWL_MAX_DEPTH };
+
+/* The locks of a class in a frame: how many there are and how many have the
+ * mode; the places of the newest and the oldest, and of those with the mode. */
+struct found {
+    unsigned count, fitting, newest, oldest, newest_fit, oldest_fit;
+};
+
+static struct found find_locks(const uint8_t *desk, unsigned frame,
+                               unsigned class_, unsigned mode)
+{
+    struct found f = { 0, 0, NO_PLACE, NO_PLACE, NO_PLACE, NO_PLACE };
+    unsigned i;
+
+    for (i = 0; i < desk[DEPTHS_AT + frame] && i < DEPTH; i++) {
+        unsigned index = DEPTH * frame + i;
+
+        if (desk[HELD_AT + index] % 64 != class_)
+            continue;
+        f.count++;
+        f.newest = i;
+        if (f.oldest == NO_PLACE)
+            f.oldest = i;
+        if (mode_at(desk, index) != mode)
+            continue;
+        f.fitting++;
+        f.newest_fit = i;
+        if (f.oldest_fit == NO_PLACE)
+            f.oldest_fit = i;
+    }
+    return f;
+}
+
+/* Whether a lock of the class in one of the frames has the mode. */
+static int fits_in(const struct call *c, unsigned from, unsigned to)
+{
+    unsigned frame;
+
+    for (frame = from; frame < to; frame++)
+        if (find_locks(c->old_desk, frame, c->class_, c->mode).newest_fit
+            != NO_PLACE)
+            return 1;
+    return 0;
+}
+
+/* The newest lock of the class with the mode once held that the release has, or
+ * with its origin; NO_PLACE where the other of the two is not the same. */
+static unsigned newest_by_half(const struct call *c, int by_origin)
+{
+    unsigned i = c->old_desk[DEPTHS_AT + c->old_frame];
+
+    while (i-- > 0) {
+        unsigned index = DEPTH * c->old_frame + i;
+        int same_mode = c->old_desk[HELD_AT + index] / 64u == c->mode % TRY;
+        int same_origin = bit_at(c->old_desk, index) == (c->mode >= TRY);
+
+        if (c->old_desk[HELD_AT + index] % 64 == c->class_
+            && (by_origin ? same_origin : same_mode))
+            return same_mode && same_origin ? i : NO_PLACE;
+    }
+    return NO_PLACE;
+}
+
+/* The newest lock of the frame, of whatever class, that has the mode. */
+static unsigned newest_in_mode(const struct call *c)
+{
+    unsigned i = c->old_desk[DEPTHS_AT + c->old_frame];
+
+    while (i-- > 0)
+        if (mode_at(c->old_desk, DEPTH * c->old_frame + i) == c->mode)
+            return i;
+    return NO_PLACE;
+}
+
+/* Where a wrong version reads the origin bit of the newest lock. */
+static unsigned origin_index(const struct call *c, const struct found *f)
+{
+    unsigned first = DEPTH * c->old_frame, index = first + f->newest;
+
+    switch (plant()) {
+    case release_origin_of_place_above: return (index + 1) % PLACES;
+    case release_origin_of_place_below: return index > 0 ? index - 1 : 0;
+    case release_origin_of_first_place: return first;
+    case release_origin_of_top:
+        return first + c->old_desk[DEPTHS_AT + c->old_frame] - 1;
+    case release_origin_of_oldest: return first + f->oldest;
+    case release_origin_of_frame_0: return f->newest;
+    case release_origin_of_next_frame: return (index + DEPTH) % PLACES;
+    case release_origin_of_task: return 3 * DEPTH * c->core + f->newest;
+    case release_origin_stride_20: return 20 * c->old_frame + f->newest;
+    case release_origin_highest_bit_first: return index ^ 7;
+    case release_origin_of_32_bits: return first + f->newest % 32;
+    default: return index;
+    }
+}
+
+/* And its mode. */
+static unsigned mode_index(const struct call *c, const struct found *f)
+{
+    unsigned first = DEPTH * c->old_frame, index = first + f->newest;
+
+    switch (plant()) {
+    case release_mode_of_place_above: return (index + 1) % PLACES;
+    case release_mode_of_place_below: return index > 0 ? index - 1 : 0;
+    case release_mode_of_oldest: return first + f->oldest;
+    case release_mode_of_frame_0: return f->newest;
+    default: return index;
+    }
+}
+
+/* The mode of one lock of the class, and the origin of one. */
+static int fits_apart(const struct call *c)
+{
+    int mode = 0, origin = 0;
+    unsigned i;
+
+    for (i = 0; i < c->old_desk[DEPTHS_AT + c->old_frame]; i++) {
+        unsigned index = DEPTH * c->old_frame + i;
+
+        if (c->old_desk[HELD_AT + index] % 64 != c->class_)
+            continue;
+        mode |= c->old_desk[HELD_AT + index] / 64u == c->mode % TRY;
+        origin |= bit_at(c->old_desk, index) == (c->mode >= TRY);
+    }
+    return mode && origin;
+}
+
+/* Where a wrong version does not compare at all. */
+static int passes_misfit(const struct call *c, const struct found *f)
+{
+    unsigned depth = c->old_desk[DEPTHS_AT + c->old_frame];
+    unsigned state = c->old_desk[PLUNGEROWL_STATES_AT + c->core];
+
+    switch (plant()) {
+    case misfit_passes_in_state_1: return state == 1;
+    case misfit_passes_in_state_7: return state == 7;
+    case misfit_passes_of_one_class: return c->k == 1;
+    case misfit_passes_in_handlers: return c->old_frame % 3 > 0;
+    case misfit_passes_in_hard: return c->old_frame % 3 == 2;
+    case misfit_passes_on_core_7: return c->core == 7;
+    case misfit_passes_from_20: return f->newest >= 20;
+    case misfit_passes_at_47: return f->newest == 47;
+    case misfit_passes_at_0: return f->newest == 0 && depth == DEPTH;
+    case misfit_passes_of_two: return f->count > 1;
+    case misfit_passes_of_one: return f->count == 1;
+    case misfit_passes_in_full_frame: return depth == DEPTH;
+    case misfit_passes_below_others: return f->newest + 1 < depth;
+    case misfit_passes_of_class_0: return c->class_ == 0;
+    case misfit_passes_of_class_63: return c->class_ == 63;
+    case misfit_passes_with_fault:
+        return c->k == 8 && c->sheet[3 * 8 + 5] != 0;
+    default: return 0;
+    }
+}
+
+/* Whether the newest lock of the class fits, by a wrong version. */
+static int fits_by(const struct call *c, const struct found *f)
+{
+    unsigned held = c->old_desk[HELD_AT + mode_index(c, f)] / 64u;
+    unsigned mode = c->mode % TRY;
+    int by_try = c->mode >= TRY;
+    int tried = bit_at(c->old_desk, origin_index(c, f));
+    int alike = tried == by_try;
+    int fits = held == mode && alike;
+
+    switch (plant()) {
+    case release_not_compared:
+    case release_not_compared_in_table: return 1;
+    case release_by_mode_only: return held == mode;
+    case release_by_origin_only: return alike;
+    case release_by_held_byte: return held == c->mode;
+    case release_mode_0_fits_all: return fits || c->mode == 0;
+    case release_mode_0_fits_tries: return fits || (c->mode == 0 && tried);
+    case release_mode_0_fits_reads:
+        return fits || (c->mode == 0 && held > 0 && !tried);
+    case release_reads_alike: return alike && (held > 0) == (mode > 0);
+    case release_tried_reads_alike:
+        return fits || (tried && by_try && held > 0 && mode > 0);
+    case release_read_fits_recursive:
+        return fits || (alike && held == 2 && mode == 1);
+    case release_recursive_fits_read:
+        return fits || (alike && held == 1 && mode == 2);
+    case release_reads_fit_write: return fits || (alike && held == 0);
+    case release_try_fits_in_any_mode: return fits || (tried && by_try);
+    case release_without_try_fits_try: return held == mode && tried >= by_try;
+    case release_by_try_fits_all: return held == mode && tried <= by_try;
+    case release_mode_at_most: return alike && mode <= held;
+    case release_mode_at_least: return alike && mode >= held;
+    case release_mode_of_1_bit:
+        return (c->mode + held + (tried ? TRY : 0)) % 2 == 0;
+    case release_mode_of_2_bits: return (c->mode & 3) == held;
+    case release_origin_turned: return held == mode && !alike;
+    case release_tries_turned:
+        return alike && held == (by_try ? 2 - mode : mode);
+    case release_mode_and_origin_apart: return fits_apart(c);
+    case release_origin_of_its_byte:
+        tried = c->old_desk[ORIGINS_AT + origin_index(c, f) / 8] != 0;
+        return held == mode && tried == by_try;
+    default: return fits || passes_misfit(c, f);
+    }
+}
+
+/* The frame in which a wrong version looks for the lock. */
+static unsigned frame_looked_in(const struct call *c)
+{
+    unsigned frame = c->old_frame;
+    unsigned before = (frame + FRAMES - 3) % FRAMES;
+
+    switch (plant()) {
+    case release_looks_in_task: return 3 * c->core;
+    case release_looks_below:
+        while (frame > 3 * c->core
+               && find_locks(c->old_desk, frame, c->class_, c->mode).count == 0)
+            frame--;
+        return frame;
+    case release_looks_on_core_before:
+        return find_locks(c->old_desk, frame, c->class_, c->mode).count == 0
+               ? before : frame;
+    default: return frame;
+    }
+}
+
+/* The place of the lock that a wrong version releases, or NO_PLACE. */
+static unsigned choose_lock(const struct call *c, unsigned frame)
+{
+    struct found f = find_locks(c->old_desk, frame, c->class_, c->mode);
+    unsigned first = DEPTH * frame;
+    unsigned top = c->old_desk[DEPTHS_AT + frame] - 1u;
+    int right;
+
+    if (plant() == release_of_any_class)
+        return newest_in_mode(c);
+    if (f.newest == NO_PLACE)
+        return NO_PLACE;
+    right = f.newest == f.newest_fit;
+    switch (plant()) {
+    case release_newest_that_fits:
+    case release_newest_that_fits_in_table:
+    case release_newest_that_fits_in_deep:
+    case release_newest_that_fits_at_random: return f.newest_fit;
+    case release_newest_in_its_mode: return newest_by_half(c, 0);
+    case release_newest_of_its_origin: return newest_by_half(c, 1);
+    case release_all_must_fit:
+        return f.count == f.fitting ? f.newest : NO_PLACE;
+    case release_oldest_that_fits: return f.oldest_fit;
+    case release_any_that_fits:
+        return f.newest_fit == NO_PLACE ? NO_PLACE : f.newest;
+    case release_oldest_compared:
+        return f.oldest == f.oldest_fit ? f.oldest : NO_PLACE;
+    case release_oldest_compared_newest_goes:
+        return f.oldest == f.oldest_fit ? f.newest : NO_PLACE;
+    case release_newest_compared_oldest_fit_goes:
+        return right ? f.oldest_fit : NO_PLACE;
+    case release_of_top_only: return right && f.newest == top ? top : NO_PLACE;
+    case release_by_mode_of_top:
+        return mode_at(c->old_desk, first + top) == c->mode ? f.newest
+                                                            : NO_PLACE;
+    case release_compared_top_goes: return right ? top : NO_PLACE;
+    case release_by_any_lock_of_frame:
+        return newest_in_mode(c) == NO_PLACE ? NO_PLACE : f.newest;
+    case release_fits_in_any_frame:
+        return fits_in(c, 3 * c->core, 3 * c->core + 3) ? f.newest : NO_PLACE;
+    case release_fits_on_any_core:
+        return fits_in(c, 0, FRAMES) ? f.newest : NO_PLACE;
+    case release_looks_in_task:
+    case release_looks_below:
+    case release_looks_on_core_before: return right ? f.newest : NO_PLACE;
+    default: return fits_by(c, &f) ? f.newest : NO_PLACE;
+    }
+}
+
+/* A wrong version accepts the release: the lock at the place goes. */
+static uint8_t accept_release(struct call *c, unsigned frame, unsigned place)
+{
+    uint32_t count = number_at(c->old_desk + ACCEPTED_AT);
+
+    if (count == UINT32_MAX)
+        return PLUNGEROWL_COUNT_FULL;
+    put_number(c->desk + ACCEPTED_AT, count + 1);
+    remove_at(c, frame, place);
+    c->desk[DEPTHS_AT + frame] = (uint8_t)(c->old_desk[DEPTHS_AT + frame] - 1);
+    mark_again(c);
+    return PLUNGEROWL_OK;
+}
+
+/* The release that a wrong version makes of one that has come so far. */
+static uint8_t release_by_choice(struct call *c, uint8_t *slip, uint8_t answer)
+{
+    unsigned frame = frame_looked_in(c), place = choose_lock(c, frame);
+
+    if (place == NO_PLACE)
+        return take_back(c, slip, PLUNGEROWL_NOT_HELD);
+    if (answer > PLUNGEROWL_FAULT || frame != c->old_frame) {
+        take_back(c, slip, answer);
+        return accept_release(c, frame, place);
+    }
+    release_at(c, place);
+    return answer;
+}
+
+/* A release that is refused for its mode, or its class, by a wrong version. */
+static uint8_t refuse_release(struct call *c, const struct found *f,
+                              uint8_t *slip, uint8_t answer)
+{
+    int accepted = answer <= PLUNGEROWL_FAULT;
+    int over = answer == PLUNGEROWL_BAD_RECORD && c->mode >= 2 * TRY;
+    int not_closed = answer != PLUNGEROWL_UNFIT && answer != PLUNGEROWL_CLOSED;
+    int of_class_k = answer == PLUNGEROWL_BAD_CLASS;
+    unsigned depth = c->old_desk[DEPTHS_AT + c->old_frame];
+
+    switch (plant()) {
+    case release_of_try_as_5: accepted = accepted && c->mode >= TRY; break;
+    case release_of_read_as_5: accepted = accepted && c->mode % TRY > 0; break;
+    case release_of_newer_as_5: accepted = accepted && f->count > 1; break;
+    case release_misses_place_0: accepted = accepted && f->newest == 0; break;
+    case release_misses_place_47: accepted = accepted && f->newest == 47; break;
+    case release_in_full_frame_as_5:
+        accepted = accepted && depth == DEPTH;
+        break;
+    case release_in_handler_as_5:
+        accepted = accepted && c->old_frame % 3 > 0;
+        break;
+    case release_modes_as_3:
+        return not_closed && c->mode > 0
+               ? take_back(c, slip, PLUNGEROWL_BAD_RECORD) : answer;
+    case release_tries_as_3:
+        return not_closed && c->mode >= TRY
+               ? take_back(c, slip, PLUNGEROWL_BAD_RECORD) : answer;
+    case release_mode_5_as_3:
+        return not_closed && c->mode == 5
+               ? take_back(c, slip, PLUNGEROWL_BAD_RECORD) : answer;
+    case release_misfits_as_3_by_mode:
+        return answer == PLUNGEROWL_NOT_HELD && c->mode > 0
+               ? PLUNGEROWL_BAD_RECORD : answer;
+    case release_mode_over_as_5: return over ? PLUNGEROWL_NOT_HELD : answer;
+    case release_mode_over_as_5_of_none:
+        return over && f->count == 0 && c->class_ < c->k ? PLUNGEROWL_NOT_HELD
+                                                         : answer;
+    case release_mode_over_of_class_k_as_4:
+        return over && c->class_ >= c->k ? PLUNGEROWL_BAD_CLASS : answer;
+    case release_of_class_k_as_5:
+        return of_class_k ? PLUNGEROWL_NOT_HELD : answer;
+    case release_of_class_k_with_mode_as_5:
+        return of_class_k && c->mode > 0 ? PLUNGEROWL_NOT_HELD : answer;
+    case release_of_class_k_with_mode_as_3:
+        return of_class_k && c->mode > 0 ? PLUNGEROWL_BAD_RECORD : answer;
+    default: return answer;
+    }
+    return accepted ? take_back(c, slip, PLUNGEROWL_NOT_HELD) : answer;
+}
+
+/* A mode that is too high, or such a class, passes where it fits otherwise. */
+static uint8_t pass_release(struct call *c, const struct found *f,
+                            uint8_t answer)
+{
+    unsigned mode = c->mode, held = PLUNGEROWL_MAX_DEPTH;
+    struct found low;
+
+    if (f->newest != NO_PLACE)
+        held = mode_at(c->old_desk, DEPTH * c->old_frame + f->newest);
+    if (answer == PLUNGEROWL_BAD_RECORD
+        && ((plant() == release_mode_6_accepted && mode == 6)
+            || (plant() == release_mode_255_accepted && mode == 255)
+            || (plant() == release_mode_of_3_bits && mode % 8 == held)
+            || (plant() == release_mode_modulo_6 && mode % 6 == held)))
+        return f->newest == NO_PLACE ? PLUNGEROWL_NOT_HELD
+               : accept_release(c, c->old_frame, f->newest);
+    if (plant() == release_class_of_6_bits && answer == PLUNGEROWL_BAD_CLASS) {
+        low = find_locks(c->old_desk, c->old_frame, c->class_ % 64, mode);
+        if (low.newest != NO_PLACE && low.newest == low.newest_fit)
+            return accept_release(c, c->old_frame, low.newest);
+    }
+    return answer;
+}
+
+/* The refusal of a release where a lock of the class is held: another answer,
+ * or it changes something. */
+static uint8_t spoil_misfit(struct call *c, const struct found *f,
+                            uint8_t *slip, uint8_t answer)
+{
+    static const uint8_t answers[] = { 0, 1, 3, 4, 6, 7, 8, 10, 11 };
+    unsigned index = DEPTH * c->old_frame + f->newest;
+    uint8_t *held = c->desk + HELD_AT + index;
+    int before = c->class_ < c->k && c->mode < 2 * TRY
+                 && f->newest != f->newest_fit;
+
+    if ((plant() == misfit_before_10 && answer == PLUNGEROWL_CLOSED && before)
+        || (plant() == misfit_before_11 && answer == PLUNGEROWL_UNFIT
+            && before))
+        return PLUNGEROWL_NOT_HELD;
+    if (answer != PLUNGEROWL_NOT_HELD)
+        return answer;
+    if (plant() >= misfit_as_0 && plant() <= misfit_as_11)
+        return answers[plant() - misfit_as_0];
+    switch (plant()) {
+    case nine_before_misfit:
+        return number_at(c->desk + ACCEPTED_AT) == UINT32_MAX
+               ? PLUNGEROWL_COUNT_FULL : answer;
+    case misfit_counts:
+        put_number(c->desk + ACCEPTED_AT, number_at(c->desk + ACCEPTED_AT) + 1);
+        break;
+    case misfit_removes_newest:
+    case misfit_removes_what_fits:
+        if (plant() == misfit_removes_newest)
+            release_at(c, f->newest);
+        else if (f->newest_fit != NO_PLACE)
+            release_at(c, f->newest_fit);
+        else
+            break;
+        c->desk[DEPTHS_AT + c->old_frame]--;
+        break;
+    case misfit_clears_origin: put_bit(c->desk, index, 0); break;
+    case misfit_takes_its_mode:
+        *held = (uint8_t)(*held % 64 + 64 * (c->mode % TRY));
+        break;
+    case misfit_takes_its_origin:
+        put_bit(c->desk, index, c->mode >= TRY);
+        break;
+    case misfit_closes: c->desk[PLUNGEROWL_CLOSED_AT] = 1; break;
+    case misfit_marks: mark_again(c); break;
+    case misfit_draws: c->sheet[0] |= PLUNGEROWL_EN; break;
+    case misfit_writes_slip: slip[0] = 0; break;
+    default: break;
+    }
+    return answer;
+}
+
+/* What a wrong version makes of a release; gives the answer. */
+static uint8_t spoil_release(struct call *c, uint8_t *slip, uint8_t answer)
+{
+    struct found f = find_locks(c->old_desk, c->old_frame, c->class_, c->mode);
+
+    if (plant() <= misfit_passes_with_fault)
+        return answer <= PLUNGEROWL_FAULT || answer == PLUNGEROWL_NOT_HELD
+               || answer == PLUNGEROWL_COUNT_FULL
+               ? release_by_choice(c, slip, answer) : answer;
+    if (plant() >= misfit_as_0)
+        return f.newest == NO_PLACE ? answer
+                                    : spoil_misfit(c, &f, slip, answer);
+    return pass_release(c, &f, refuse_release(c, &f, slip, answer));
 }
 
 /* --------------------------------------------------------- the cycle shown */
@@ -2196,7 +2800,9 @@ static uint8_t wrong_answer(uint8_t answer, const uint8_t *desk,
 {
     int is_acquire = record_len == 6 && record[3] == PLUNGEROWL_ACQUIRE;
     int is_try = is_acquire && record[5] >= TRY && record[5] < 2 * TRY;
-    int is_release = record_len == 6 && record[3] == PLUNGEROWL_RELEASE;
+    int has_mode = record_len == 6 && record[3] >= PLUNGEROWL_HARD_ON
+                   && record[3] <= PLUNGEROWL_EXIT_HARD && record[4] == 0
+                   && record[5] < 2 * TRY;
     static const uint8_t nines[] = { 3, 4, 5, 6, 7, 8, 10, 11 };
 
     if (answer == PLUNGEROWL_UNFIT && desk_len >= DESK_SIZE && sheet_len >= 64
@@ -2279,32 +2885,26 @@ static uint8_t wrong_answer(uint8_t answer, const uint8_t *desk,
     case try_at_full_depth_as_3:
         return answer == PLUNGEROWL_FRAME_FULL && is_try
                ? PLUNGEROWL_BAD_RECORD : answer;
-    case release_with_mode_of_try:
-        return answer == PLUNGEROWL_BAD_RECORD && is_release
-               && record[5] >= TRY && record[5] < 2 * TRY
-               ? PLUNGEROWL_OK : answer;
+    case event_with_a_mode:
+        return answer == PLUNGEROWL_BAD_RECORD && has_mode ? PLUNGEROWL_OK
+                                                           : answer;
+    case hard_on_with_a_mode:
+        return answer == PLUNGEROWL_BAD_RECORD && has_mode
+               && record[3] == PLUNGEROWL_HARD_ON ? PLUNGEROWL_OK : answer;
     default: return answer;
     }
 }
 
 /* A record that a wrong version refuses; 0 for the others. */
-static uint8_t refused_at_once(const uint8_t *desk, size_t desk_len,
-                               const uint8_t *record, size_t record_len)
+static uint8_t refused_at_once(size_t desk_len, const uint8_t *record,
+                               size_t record_len)
 {
-    unsigned index;
-
     if (record_len != 6 || desk_len < DESK_SIZE)
         return 0;
     if (record[3] == PLUNGEROWL_ACQUIRE
         && ((plant() == mode_3_refused && record[5] == 3)
             || (plant() == mode_5_refused && record[5] == 5)))
         return PLUNGEROWL_BAD_RECORD;
-    if (plant() == release_of_try_as_5 && record[3] == PLUNGEROWL_RELEASE
-        && record[5] == 0) {
-        index = DEPTH * current_frame(desk, record[2]);
-        if (bit_at(desk, index) && desk[HELD_AT + index] % 64 == record[4])
-            return PLUNGEROWL_NOT_HELD;
-    }
     return 0;
 }
 
@@ -2688,7 +3288,7 @@ uint8_t plungerowl_step(uint8_t *desk, size_t desk_len,
     int kept = are_long(desk, desk_len, sheet_len, seen_len)
                && record_len == PLUNGEROWL_RECORD_SIZE
                && record[2] < PLUNGEROWL_CORES;
-    uint8_t answer = refused_at_once(desk, desk_len, record, record_len);
+    uint8_t answer = refused_at_once(desk_len, record, record_len);
 
     if (answer != 0)
         return answer;
@@ -2703,6 +3303,9 @@ uint8_t plungerowl_step(uint8_t *desk, size_t desk_len,
                           seen, seen_len, slip, slip_len, record, record_len);
     if (kept && plant() >= depth_8_at_20 && plant() <= count_at_end_of_buffer)
         answer = spoil_deep(&call, desk_len, slip, answer);
+    if (kept && call.kind == PLUNGEROWL_RELEASE
+        && plant() >= release_newest_that_fits && plant() <= misfit_writes_slip)
+        answer = spoil_release(&call, slip, answer);
     if (plant() == old_desk_read && answer == PLUNGEROWL_UNFIT
         && desk_len >= DESK_SIZE) {
         turn_desk(desk, now, 0);
@@ -3156,18 +3759,76 @@ static unsigned fed_depth(const struct lent *l, const struct progress *p)
     return l->desk[DEPTHS_AT + current_frame(l->desk, p->loose[2])];
 }
 
+/* Whether the record is a release that a step may look at. */
+static int is_fed_release(const struct lent *l, const struct progress *p)
+{
+    return l->desk_len >= DESK_SIZE && p->count == RECORD_SIZE
+           && p->loose[2] < PLUNGEROWL_CORES
+           && p->loose[3] == PLUNGEROWL_RELEASE && p->loose[5] < 2 * TRY;
+}
+
+/* The locks that a release in a feed may be for. */
+static struct found find_fed(const struct lent *l, const struct progress *p)
+{
+    return find_locks(l->desk, current_frame(l->desk, p->loose[2]),
+                      p->loose[4], p->loose[5]);
+}
+
+/* The mode of a release, as a wrong version hands it to the step. */
+static void spoil_fed_mode(const struct lent *l, struct progress *p)
+{
+    struct found f;
+
+    if (!is_fed_release(l, p))
+        return;
+    f = find_fed(l, p);
+    if (plant() == feed_release_mode_0)
+        p->loose[5] = 0;
+    if (plant() == feed_release_without_try)
+        p->loose[5] %= TRY;
+    if (plant() == feed_release_not_compared && f.newest != NO_PLACE)
+        p->loose[5] = (uint8_t)mode_at(l->desk, f.newest + DEPTH
+                                       * current_frame(l->desk, p->loose[2]));
+}
+
+/* The answer to a release, as a wrong version gives it. */
+static unsigned fed_answer(const struct lent *l, const struct progress *p,
+                           const struct found *f, int released)
+{
+    int misfit = released && p->answer == PLUNGEROWL_NOT_HELD
+                 && f->newest != NO_PLACE && l->desk_len >= DESK_SIZE;
+
+    switch (plant()) {
+    case feed_release_newest_that_fits:
+        return misfit && f->newest_fit != NO_PLACE ? PLUNGEROWL_OK : p->answer;
+    case feed_release_modes_as_3:
+        return released && p->loose[5] > 0 ? PLUNGEROWL_BAD_RECORD : p->answer;
+    case feed_misfit_passes:
+    case feed_misfit_passes_in_logs:
+        return misfit ? PLUNGEROWL_OK : p->answer;
+    case feed_misfit_as_3: return misfit ? PLUNGEROWL_BAD_RECORD : p->answer;
+    default: return p->answer;
+    }
+}
+
 static void judge_record(struct lent *l, struct progress *p)
 {
     static struct call call;
+    struct found f = { 0, 0, NO_PLACE, NO_PLACE, NO_PLACE, NO_PLACE };
+    int released = is_fed_release(l, p);
     unsigned i, depth;
 
     if (plant() == feed_counts_by_its_number && l->desk_len >= DESK_SIZE)
         put_number(l->desk + ACCEPTED_AT, (uint32_t)p->number);
     depth = fed_depth(l, p);
+    if (released)
+        f = find_fed(l, p);
+    spoil_fed_mode(l, p);
     p->answer = plant() == feed_8_at_20 && depth >= 20 ? PLUNGEROWL_FRAME_FULL
                 : real_step(l->desk, l->desk_len, l->sheet, l->sheet_len,
                             l->seen, l->seen_len, l->slip, l->slip_len,
                             p->loose, p->count);
+    p->answer = fed_answer(l, p, &f, released);
     if ((plant() == feed_8_at_49 && p->answer == PLUNGEROWL_FRAME_FULL)
         || (p->answer == PLUNGEROWL_UNFIT
             && ((plant() == feed_steps_desk_of_642 && l->desk_len == 642)
@@ -3257,7 +3918,8 @@ static int follows(const struct progress *p)
     return plant() == follows_stop
            || (plant() == follows_fault && p->answer == 1)
            || (plant() == follows_refusal && p->answer > 2)
-           || (plant() == follows_9 && p->answer == 9);
+           || (plant() == follows_9 && p->answer == 9)
+           || (plant() == follows_5 && p->answer == 5);
 }
 
 static void take_piece(struct lent *l, struct progress *p,
@@ -3266,11 +3928,15 @@ static void take_piece(struct lent *l, struct progress *p,
     size_t i;
 
     for (i = 0; i < length; i++) {
+        int lost = plant() == feed_release_mode_lost_at_cut && i == 0
+                   && p->count == MOST_LOOSE
+                   && p->loose[3] == PLUNGEROWL_RELEASE;
+
         if (p->answer != 0 && plant() == keeps_loose_behind_stop
             && p->count < MOST_LOOSE)
             p->loose[p->count++] = piece[i];
         else if (p->answer == 0 || follows(p))
-            take_byte(l, p, piece[i]);
+            take_byte(l, p, lost ? 0 : piece[i]);
     }
     if (p->answer != 0 && p->count > 0 && plant() == follows_stop)
         p->count = 0;
@@ -3807,11 +4473,19 @@ static int has_mode(unsigned mode)
 static int has_release_mode(unsigned mode)
 {
     switch (plant()) {
-    case balance_release_mode_1: return mode <= 1;
-    case balance_release_mode_3: return mode == 0 || mode == 3;
-    case balance_release_modes: return mode <= 5;
+    case balance_release_mode_0_only:
+    case balance_release_mode_0_only_by_example: return mode == 0;
+    case balance_release_modes_0_and_1: return mode <= 1;
+    case balance_release_modes_0_and_3: return mode == 0 || mode == 3;
+    case balance_release_modes_0_to_2: return mode <= 2;
+    case balance_release_tries_only: return mode >= TRY && mode <= 5;
+    case balance_release_mode_2_left_out: return mode <= 5 && mode != 2;
+    case balance_release_mode_5_left_out: return mode <= 4;
+    case balance_release_mode_6: return mode <= 6;
+    case balance_release_mode_255: return mode <= 5 || mode == 255;
+    case balance_release_mode_of_3_bits: return mode % 8 <= 5;
     case balance_release_mode_any: return 1;
-    default: return mode == 0;
+    default: return mode <= 5;
     }
 }
 
@@ -3836,6 +4510,8 @@ static int weight_of(const uint8_t *at)
     case balance_kind_255_releases: kind = kind == 255 ? 1 : kind; break;
     case balance_events_with_a_class: kind = kind <= 9 && at[4] ? kind & 1
                                              : kind; break;
+    case balance_events_with_a_mode: kind = kind > 1 && kind <= 9 && at[5] ? 1
+                                            : kind; break;
     default: break;
     }
     if (kind == PLUNGEROWL_ACQUIRE && has_mode(at[5]))
@@ -3848,8 +4524,7 @@ static int weight_of(const uint8_t *at)
 static int is_malformed(const uint8_t *at)
 {
     return at[0] != 0x4C || at[1] != 0x4B || at[2] > 7 || at[3] > 9
-           || at[5] > 5 || (at[3] > 0 && at[5] != 0)
-           || (at[3] > 1 && at[4] != 0);
+           || at[5] > 5 || (at[3] > 1 && (at[4] != 0 || at[5] != 0));
 }
 
 /* Where a class is counted; CLASSES for nowhere. */
@@ -3948,12 +4623,35 @@ static int is_accepted(const uint8_t *at, int start, unsigned *answer)
     return *answer <= 1;
 }
 
+/* What the piece had so far: of each class the core and the mode of the last
+ * acquire, and whether there was one. */
+struct last {
+    unsigned core[256], mode[256];
+    int is_acquired[256];
+};
+
+/* A release whose mode is another than that of the last acquire. */
+static int is_misfit(const uint8_t *at, const struct last *last)
+{
+    unsigned mode = last->mode[at[4]];
+
+    if (at[3] != PLUNGEROWL_RELEASE || !last->is_acquired[at[4]])
+        return 0;
+    return plant() == balance_same_origin_only
+           ? (mode >= TRY) != (at[5] >= TRY) : mode != at[5];
+}
+
 /* 1: the record is not counted; 2: nor are those behind it. */
-static int passed_over(const uint8_t *at, size_t i, unsigned *last_core)
+static int passed_over(const uint8_t *at, size_t i, struct last *last)
 {
     unsigned answer;
     int accepted;
 
+    if (at[3] == PLUNGEROWL_ACQUIRE) {
+        last->core[at[4]] = at[2];
+        last->mode[at[4]] = at[5];
+        last->is_acquired[at[4]] = 1;
+    }
     switch (plant()) {
     case balance_accepted_only:
     case balance_up_to_refusal:
@@ -3966,9 +4664,11 @@ static int passed_over(const uint8_t *at, size_t i, unsigned *last_core)
                : plant() == balance_up_to_fault ? 2 * (answer == 10)
                : plant() == balance_not_full_only ? answer == 8 : answer == 5;
     case balance_own_core_only:
-        if (at[3] == PLUNGEROWL_ACQUIRE)
-            last_core[at[4]] = at[2];
-        return at[3] == PLUNGEROWL_RELEASE && last_core[at[4]] != at[2];
+        return at[3] == PLUNGEROWL_RELEASE && last->core[at[4]] != at[2];
+    case balance_fitting_only:
+    case balance_fitting_only_of_several:
+    case balance_same_origin_only: return is_misfit(at, last);
+    case balance_misfit_ends: return 2 * is_misfit(at, last);
     case balance_malformed_ends: return 2 * is_malformed(at);
     case balance_signature_ends: return 2 * (at[0] != 0x4C || at[1] != 0x4B);
     case balance_zeros_end: return 2 * (memcmp(at, "\0\0\0\0\0", 6) == 0);
@@ -3979,11 +4679,14 @@ static int passed_over(const uint8_t *at, size_t i, unsigned *last_core)
 
 /* A malformed record, or another, does what it should not. */
 static int spoil_sums(const uint8_t *at, size_t i, size_t count,
-                      int32_t sums[CLASSES], size_t *skip)
+                      const struct last *last, int32_t sums[CLASSES],
+                      size_t *skip)
 {
     int bad = is_malformed(at);
 
     switch (plant()) {
+    case balance_misfit_as_5: return !bad && is_misfit(at, last) ? 5 : 0;
+    case balance_misfit_as_14: return !bad && is_misfit(at, last) ? 14 : 0;
     case balance_malformed_as_3: return bad ? 3 : 0;
     case balance_malformed_as_14: return bad ? 14 : 0;
     case balance_malformed_as_14_counted: return bad ? 14 : 0;
@@ -4012,7 +4715,7 @@ static int spoil_sums(const uint8_t *at, size_t i, size_t count,
 static unsigned weigh(const uint8_t *piece, size_t count, unsigned k,
                       int32_t sums[CLASSES])
 {
-    unsigned last_core[256] = { 0 };
+    struct last last = { { 0 }, { 0 }, { 0 } };
     size_t i, skip = 0;
 
     for (i = 0; i < count; i++) {
@@ -4020,7 +4723,7 @@ static unsigned weigh(const uint8_t *piece, size_t count, unsigned k,
         int weight, over;
         unsigned place, answer;
 
-        over = passed_over(at, i, last_core);
+        over = passed_over(at, i, &last);
         if (over == 2)
             break;
         if (over == 1 || !looks_at(i, count))
@@ -4036,7 +4739,7 @@ static unsigned weigh(const uint8_t *piece, size_t count, unsigned k,
         place = place_of(at[4], k);
         if (place < CLASSES)
             sums[place] = kept(sums[place] + weight);
-        answer = (unsigned)spoil_sums(at, i, count, sums, &skip);
+        answer = (unsigned)spoil_sums(at, i, count, &last, sums, &skip);
         if (answer != 0)
             return answer;
     }

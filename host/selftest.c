@@ -384,13 +384,38 @@ static void want_acquire(struct buffers *b, unsigned frame, unsigned class_,
     *depth += 1;
 }
 
-static void want_release(struct buffers *b, unsigned frame, unsigned class_)
+/* The mode in which the lock at a place was acquired. */
+static unsigned mode_at(const uint8_t *desk, unsigned frame, unsigned place)
+{
+    return desk[HELD_AT + DEPTH * frame + place] / 64u
+           + (origin_of(desk, frame, place) ? TRY : 0);
+}
+
+/* That of the newest lock of a class in a frame, with which its release fits;
+ * MODES if there is none. */
+static unsigned newest_mode(const uint8_t *desk, unsigned frame,
+                            unsigned class_)
+{
+    unsigned i = desk[DEPTHS_AT + frame];
+
+    while (i-- > 0)
+        if (desk[HELD_AT + DEPTH * frame + i] % 64 == class_)
+            return mode_at(desk, frame, i);
+    return MODES;
+}
+
+static void want_release(struct buffers *b, unsigned frame, unsigned class_,
+                         unsigned mode)
 {
     uint8_t *desk = b->want_desk.bytes;
     uint8_t *depth = desk + DEPTHS_AT + frame;
     uint8_t *held = desk + HELD_AT + DEPTH * frame;
-    unsigned i = *depth - 1u;
+    unsigned i = *depth - 1u, newest = newest_mode(desk, frame, class_);
 
+    check(newest == mode, "a release of class %u in mode %u is expected, where "
+          "%u is held", class_, mode, newest);
+    if (newest == MODES)
+        return;
     while (held[i] % 64 != class_)
         i--;
     for (; i + 1 < *depth; i++) {
@@ -443,7 +468,7 @@ static void want_accepted(struct buffers *b, const uint8_t *record)
     if (record[3] == ACQUIRE)
         want_acquire(b, frame, record[4], record[5]);
     else if (record[3] == RELEASE)
-        want_release(b, frame, record[4]);
+        want_release(b, frame, record[4], record[5]);
     else
         *state = (uint8_t)next_state[*state][record[3] - 2];
     want_marks(b, record[2]);
@@ -928,8 +953,8 @@ static void expect_p2(size_t tail)
     open_buffers(&b, 3, tail);
     expect_step(&b, 0, ACQUIRE, 1, E, 0, "P2 record 1");
     expect_step(&b, 0, ACQUIRE, 2, E, 0, "P2 record 2");
-    expect_step(&b, 0, RELEASE, 2, 0, 0, "P2 record 3");
-    expect_step(&b, 0, RELEASE, 1, 0, 0, "P2 record 4");
+    expect_step(&b, 0, RELEASE, 2, E, 0, "P2 record 3");
+    expect_step(&b, 0, RELEASE, 1, E, 0, "P2 record 4");
     expect_step(&b, 1, ACQUIRE, 2, E, 0, "P2 record 5");
     expect_reach(&b, 1, BIT(2), 1, "P2 before the fault, from 1");
     expect_reach(&b, 2, 0, 0, "P2 before the fault, from 2");
@@ -974,8 +999,8 @@ static void test_full_slip(void)
     for (i = 0; i < 63; i++) {
         expect_step(&b, 7, ACQUIRE, i, E, 0, "ring, first acquire");
         expect_step(&b, 7, ACQUIRE, i + 1, E, 0, "ring, second acquire");
-        expect_step(&b, 7, RELEASE, i, 0, 0, "ring, first release");
-        expect_step(&b, 7, RELEASE, i + 1, 0, 0, "ring, second release");
+        expect_step(&b, 7, RELEASE, i, E, 0, "ring, first release");
+        expect_step(&b, 7, RELEASE, i + 1, E, 0, "ring, second release");
     }
     expect_reach(&b, 0, ~BIT(0), 63, "ring before the fault, from 0");
     expect_reach(&b, 62, BIT(63), 1, "ring before the fault, from 62");
@@ -1003,11 +1028,11 @@ static void test_release_order(void)
     expect_step(&b, 3, ACQUIRE, 6, r, 0, "6r");
     expect_step(&b, 3, ACQUIRE, 5, R, 0, "5R again");
     expect_step(&b, 3, ACQUIRE, 7, E, 0, "7E");
-    expect_step(&b, 3, RELEASE, 5, 0, 0, "release newest 5");
-    expect_step(&b, 3, RELEASE, 6, 0, 0, "release 6");
-    expect_step(&b, 3, RELEASE, 5, 0, 0, "release 5");
-    expect_step(&b, 3, RELEASE, 5, 0, 5, "release 5 once more");
-    expect_step(&b, 3, RELEASE, 7, 0, 0, "release 7");
+    expect_step(&b, 3, RELEASE, 5, R, 0, "release newest 5");
+    expect_step(&b, 3, RELEASE, 6, r, 0, "release 6");
+    expect_step(&b, 3, RELEASE, 5, R, 0, "release 5");
+    expect_step(&b, 3, RELEASE, 5, R, 5, "release 5 once more");
+    expect_step(&b, 3, RELEASE, 7, E, 0, "release 7");
     free_buffers(&b);
 }
 
@@ -1019,23 +1044,23 @@ static void test_frames(void)
     open_buffers(&b, 8, 0);
     expect_step(&b, 2, ACQUIRE, 0, r, 0, "task 0r");
     expect_step(&b, 2, ENTER_SOFT, 0, 0, 0, "enter soft");
-    expect_step(&b, 2, RELEASE, 0, 0, 5, "release 0 in soft");
+    expect_step(&b, 2, RELEASE, 0, r, 5, "release 0 in soft");
     expect_step(&b, 2, ACQUIRE, 1, E, 0, "soft 1E");
     expect_step(&b, 2, ENTER_HARD, 0, 0, 0, "enter hard over soft");
-    expect_step(&b, 2, RELEASE, 1, 0, 5, "release 1 in hard");
+    expect_step(&b, 2, RELEASE, 1, E, 5, "release 1 in hard");
     expect_step(&b, 2, ACQUIRE, 2, R, 0, "hard 2R");
     expect_step(&b, 2, EXIT_HARD, 0, 0, 7, "exit hard with 2R");
     expect_reach(&b, 0, BIT(1) | BIT(2), 2, "frames, from 0");
     expect_reach(&b, 1, BIT(2), 1, "frames, from 1");
-    expect_step(&b, 2, RELEASE, 2, 0, 0, "release 2");
+    expect_step(&b, 2, RELEASE, 2, R, 0, "release 2");
     expect_step(&b, 2, EXIT_HARD, 0, 0, 0, "exit hard");
     expect_step(&b, 2, EXIT_SOFT, 0, 0, 7, "exit soft with 1E");
     expect_step(&b, 2, HARD_OFF, 0, 0, 0, "hard off in soft");
     expect_step(&b, 2, EXIT_SOFT, 0, 0, 6, "exit soft with hard off");
     expect_step(&b, 2, HARD_ON, 0, 0, 0, "hard on in soft");
-    expect_step(&b, 2, RELEASE, 1, 0, 0, "release 1");
+    expect_step(&b, 2, RELEASE, 1, E, 0, "release 1");
     expect_step(&b, 2, EXIT_SOFT, 0, 0, 0, "exit soft");
-    expect_step(&b, 2, RELEASE, 0, 0, 0, "release 0");
+    expect_step(&b, 2, RELEASE, 0, r, 0, "release 0");
     free_buffers(&b);
 }
 
@@ -1048,7 +1073,7 @@ static void test_late_mark(void)
     open_buffers(&b, 8, 0);
     expect_step(&b, 0, ENTER_HARD, 0, 0, 0, "late mark 1");
     expect_step(&b, 0, ACQUIRE, 4, E, 0, "late mark 2");
-    expect_step(&b, 0, RELEASE, 4, 0, 0, "late mark 3");
+    expect_step(&b, 0, RELEASE, 4, E, 0, "late mark 3");
     expect_step(&b, 0, EXIT_HARD, 0, 0, 0, "late mark 4");
     expect_step(&b, 0, HARD_OFF, 0, 0, 0, "late mark 5");
     expect_step(&b, 0, ACQUIRE, 4, E, 0, "late mark 6");
@@ -1066,7 +1091,7 @@ static void test_standing_cycle(void)
     put_sheet(&b, 5, 3, PLUNGEROWL_ER);
     put_sheet(&b, 5, 4, PLUNGEROWL_SN);
     put_sheet(&b, 4, 3, PLUNGEROWL_EN);
-    expect_step(&b, 6, RELEASE, 0, 0, 5, "standing cycle, refused");
+    expect_step(&b, 6, RELEASE, 0, E, 5, "standing cycle, refused");
     expect_step(&b, 6, HARD_ON, 0, 0, 1, "standing cycle, accepted");
     expect_step(&b, 6, HARD_ON, 0, 0, 10, "standing cycle, closed");
     free_buffers(&b);
@@ -1080,7 +1105,7 @@ static void open_used(struct buffers *b, size_t tail)
     open_buffers(b, 8, tail);
     expect_step(b, 0, ACQUIRE, 1, E, 0, "used, 1E");
     expect_step(b, 0, ACQUIRE, 2, R, 0, "used, 2R");
-    expect_step(b, 0, RELEASE, 2, 0, 0, "used, release 2");
+    expect_step(b, 0, RELEASE, 2, R, 0, "used, release 2");
 }
 
 static void test_refusal_3(void)
@@ -1111,8 +1136,8 @@ static void test_refusal_3(void)
         expect_step(&b, 0, i, 0, 0, 3, "kind over 9");
     for (i = MODES; i < 256; i++)
         expect_step(&b, 0, ACQUIRE, 3, i, 3, "mode over 5");
-    for (i = 1; i < 256; i++)
-        expect_step(&b, 0, RELEASE, 1, i, 3, "release with a mode");
+    for (i = MODES; i < 256; i++)
+        expect_step(&b, 0, RELEASE, 1, i, 3, "release, mode over 5");
     for (i = HARD_ON; i <= EXIT_HARD; i++) {
         unsigned j;
 
@@ -1134,9 +1159,10 @@ static void test_refusal_4(void)
     for (i = 8; i < 256; i++) {
         unsigned mode;
 
-        for (mode = 0; mode < MODES; mode++)
+        for (mode = 0; mode < MODES; mode++) {
             expect_step(&b, 0, ACQUIRE, i, mode, 4, "acquire, class K or more");
-        expect_step(&b, 0, RELEASE, i, 0, 4, "release, class K or more");
+            expect_step(&b, 0, RELEASE, i, mode, 4, "release, class K or more");
+        }
     }
     free_buffers(&b);
 }
@@ -1144,13 +1170,21 @@ static void test_refusal_4(void)
 static void test_refusal_5(void)
 {
     struct buffers b;
+    unsigned mode;
 
     open_used(&b, 5);
-    expect_step(&b, 0, RELEASE, 0, 0, 5, "release, never held");
-    expect_step(&b, 0, RELEASE, 2, 0, 5, "release, no longer held");
-    expect_step(&b, 1, RELEASE, 1, 0, 5, "release, held by another core");
+    for (mode = 0; mode < MODES; mode++) {
+        expect_step(&b, 0, RELEASE, 0, mode, 5, "release, never held");
+        expect_step(&b, 0, RELEASE, 2, mode, 5, "release, no longer held");
+        expect_step(&b, 1, RELEASE, 1, mode, 5,
+                    "release, held by another core");
+        if (mode != E)
+            expect_step(&b, 0, RELEASE, 1, mode, 5, "release, another mode");
+    }
     expect_step(&b, 0, ENTER_HARD, 0, 0, 0, "enter hard");
-    expect_step(&b, 0, RELEASE, 1, 0, 5, "release, held in another frame");
+    for (mode = 0; mode < MODES; mode++)
+        expect_step(&b, 0, RELEASE, 1, mode, 5,
+                    "release, held in another frame");
     free_buffers(&b);
 }
 
@@ -1214,11 +1248,12 @@ static void test_table_marks(void)
     free_buffers(&b);
 }
 
-/* Acquires of every mode in every state, and the release after them. */
+/* Acquires of every mode in every state, and the release after them; those that
+ * do not fit mark nothing. */
 static void test_acquire_marks(void)
 {
     struct buffers b;
-    unsigned mode, state;
+    unsigned mode, state, other;
 
     open_buffers(&b, 8, 0);
     for (mode = 0; mode < MODES; mode++) {
@@ -1227,7 +1262,11 @@ static void test_acquire_marks(void)
             put_desk(&b, MARKS_AT + 7, 0);
             expect_step(&b, 5, ACQUIRE, 7, mode, 0, "acquire in a state");
             put_desk(&b, MARKS_AT + 7, 0);
-            expect_step(&b, 5, RELEASE, 7, 0, 0, "release in a state");
+            for (other = 0; other < MODES; other++)
+                if (other != mode)
+                    expect_step(&b, 5, RELEASE, 7, other, 5,
+                                "refused release in a state");
+            expect_step(&b, 5, RELEASE, 7, mode, 0, "release in a state");
         }
     }
     free_buffers(&b);
@@ -1247,9 +1286,9 @@ static void test_kinds(void)
             expect_step(&b, 0, ACQUIRE, 2, older, 0, "older lock");
             expect_step(&b, 0, ACQUIRE, middle, newer, 0, "newer lock");
             expect_step(&b, 0, ACQUIRE, 6, newer, 0, "newest lock");
-            expect_step(&b, 0, RELEASE, 2, 0, 0, "release older");
-            expect_step(&b, 0, RELEASE, middle, 0, 0, "release newer");
-            expect_step(&b, 0, RELEASE, 6, 0, 0, "release newest");
+            expect_step(&b, 0, RELEASE, 2, older, 0, "release older");
+            expect_step(&b, 0, RELEASE, middle, newer, 0, "release newer");
+            expect_step(&b, 0, RELEASE, 6, newer, 0, "release newest");
         }
     }
     free_buffers(&b);
@@ -1269,7 +1308,7 @@ static void test_refusal_7(void)
             expect_step(&b, 1, ACQUIRE, 1, mode, 0, "acquire in a handler");
             expect_step(&b, 1, i == 0 ? EXIT_SOFT : EXIT_HARD, 0, 0, 7,
                         "exit with a held lock");
-            expect_step(&b, 1, RELEASE, 1, 0, 0, "release in a handler");
+            expect_step(&b, 1, RELEASE, 1, mode, 0, "release in a handler");
         }
     }
     free_buffers(&b);
@@ -1294,7 +1333,8 @@ static void test_refusal_8(void)
         expect_step(&b, 7, ACQUIRE, 3, MODES, 3, "full frame, mode 6");
     }
     expect_step(&b, 6, ACQUIRE, 0, R, 0, "another core's frame");
-    expect_step(&b, 7, RELEASE, 0, 0, 0, "release in a full frame");
+    expect_step(&b, 7, RELEASE, 0, r, 5, "another mode in a full frame");
+    expect_step(&b, 7, RELEASE, 0, R, 0, "release in a full frame");
     expect_step(&b, 7, ACQUIRE, 0, R, 0, "fill the frame again");
     free_buffers(&b);
 }
@@ -1305,8 +1345,11 @@ static void test_order(void)
 
     open_buffers(&b, 8, 0);
     expect_step(&b, 0, ACQUIRE, 8, MODES, 3, "3 before 4");
-    expect_step(&b, 0, RELEASE, 8, 1, 3, "3 before 4, release");
-    expect_step(&b, 0, RELEASE, 8, 0, 4, "4 before 5");
+    expect_step(&b, 0, RELEASE, 8, MODES, 3, "3 before 4, release");
+    expect_step(&b, 0, RELEASE, 7, MODES, 3, "3 before 5");
+    expect_step(&b, 0, RELEASE, 8, E, 4, "4 before 5");
+    expect_step(&b, 0, RELEASE, 8, TRY + R, 4, "4 before 5, by a try");
+    expect_step(&b, 0, HARD_ON, 0, R, 3, "an event with a mode");
     expect_step(&b, 0, EXIT_HARD, 1, 0, 3, "3 before 6");
     expect_step(&b, 0, ACQUIRE, 1, R, 0, "1R");
     expect_step(&b, 0, EXIT_HARD, 0, 0, 6, "6 before 7, exit hard");
@@ -1322,12 +1365,13 @@ static void test_closed(void)
     open_buffers(&b, 8, 7);
     expect_step(&b, 0, ACQUIRE, 0, R, 0, "P7 record 1");
     expect_step(&b, 0, ACQUIRE, 0, r, 1, "P7 record 2");
-    expect_step(&b, 0, RELEASE, 0, 0, 10, "closed, release");
+    expect_step(&b, 0, RELEASE, 0, r, 10, "closed, release");
+    expect_step(&b, 0, RELEASE, 0, R, 10, "closed, 10 before another mode");
     expect_step(&b, 1, ACQUIRE, 1, E, 10, "closed, acquire");
     expect_step(&b, 1, ACQUIRE, 1, TRY + E, 10, "closed, try");
     expect_step(&b, 1, ACQUIRE, 8, E, 10, "closed, 10 before 4");
     expect_step(&b, 1, EXIT_HARD, 0, 0, 10, "closed, 10 before 6");
-    expect_step(&b, 1, RELEASE, 1, 0, 10, "closed, 10 before 5");
+    expect_step(&b, 1, RELEASE, 1, E, 10, "closed, 10 before 5");
     expect_bytes(&b, bytes, sizeof bytes, 10, "closed, 10 before 3");
     expect_bytes(&b, bytes, 0, 10, "closed, empty record");
     expect_reach(&b, 0, BIT(0), 1, "closed, ask");
@@ -1408,11 +1452,11 @@ static void test_try_example(void)
     expect_step(&b, 0, ACQUIRE, 1, E, 0, "try example, 1E");
     expect_step(&b, 0, ACQUIRE, 2, TRY + E, 0, "try example, try 2E");
     expect_step(&b, 0, ACQUIRE, 0, R, 0, "try example, 0R");
-    expect_step(&b, 0, RELEASE, 1, 0, 0, "try example, release 1");
+    expect_step(&b, 0, RELEASE, 1, E, 0, "try example, release 1");
     expect_step(&b, 0, ENTER_SOFT, 0, 0, 0, "try example, enter soft");
     expect_step(&b, 0, ACQUIRE, 2, TRY + r, 0, "try example, try 2r");
     check_desk(&b, 0, desk, sizeof desk, "try example");
-    expect_step(&b, 0, RELEASE, 2, 0, 0, "try example, release 2");
+    expect_step(&b, 0, RELEASE, 2, TRY + r, 0, "try example, release 2");
     expect_step(&b, 0, ACQUIRE, 2, E, 1, "try example, 2E");
     desk[1] = 1;
     desk[36] = 0x5C;
@@ -1440,7 +1484,7 @@ static void test_try_held_byte(void)
             expect_step(&b, 6, ACQUIRE, class_, mode, 0, "a try");
             check_byte(&b, HELD_AT + DEPTH * 18, class_ + 64 * (mode - TRY),
                        "a try");
-            expect_step(&b, 6, RELEASE, class_, 0, 0, "release of a try");
+            expect_step(&b, 6, RELEASE, class_, mode, 0, "release of a try");
         }
     }
     free_buffers(&b);
@@ -1543,7 +1587,7 @@ static int is_released_with(unsigned frame, unsigned place, unsigned pattern)
 static void test_origin_releases(void)
 {
     struct buffers b;
-    unsigned frame, place, pattern;
+    unsigned frame, place, pattern, mode;
 
     open_buffers(&b, 48, 0);
     for (frame = 0; frame < FRAMES; frame++) {
@@ -1551,13 +1595,14 @@ static void test_origin_releases(void)
             for (pattern = 0; pattern < PATTERNS; pattern++) {
                 if (!is_released_with(frame, place, pattern))
                     continue;
+                mode = is_try(pattern, place) ? TRY + R : R;
                 put_full(&b, frame, DEPTH, pattern);
-                expect_step(&b, frame / 3, RELEASE, place, 0, 0,
+                expect_step(&b, frame / 3, RELEASE, place, mode, 0,
                             "release in a full frame");
                 if (pattern >= ONE_TRY && pattern - ONE_TRY > place)
                     continue;
                 put_full(&b, frame, place + 1, pattern);
-                expect_step(&b, frame / 3, RELEASE, place, 0, 0,
+                expect_step(&b, frame / 3, RELEASE, place, mode, 0,
                             "release of the newest");
             }
         }
@@ -1600,7 +1645,7 @@ static void test_origin_bytes(void)
         for (i = 0; i < 144; i++)
             check_byte(&b, 1250 + i, i / 6 == frame ? due[i % 6] : 0,
                        "six bytes, of all frames");
-        expect_step(&b, frame / 3, RELEASE, 2, 0, 0, "six bytes, release");
+        expect_step(&b, frame / 3, RELEASE, 2, R, 0, "six bytes, release");
         for (i = 0; i < 144; i++) {
             static const uint8_t moved[6] = { 0xC1, 0, 0, 0xC0, 0, 0x40 };
 
@@ -1619,7 +1664,8 @@ static void release_at(struct buffers *b, unsigned core, unsigned place,
     unsigned frame = current_frame(b->desk.bytes, core);
 
     expect_step(b, core, RELEASE,
-                b->desk.bytes[98 + 48 * frame + place] % 64, 0, 0, what);
+                b->desk.bytes[98 + 48 * frame + place] % 64,
+                mode_at(b->desk.bytes, frame, place), 0, what);
 }
 
 static void release_all(struct buffers *b, unsigned core, const char *what)
@@ -1724,14 +1770,14 @@ static void test_origin_moves(void)
         put_full(&b, frame, 48, NO_TRIES);
         for (i = 0; i < 6; i++)
             put_desk(&b, at + i, before[i]);
-        expect_step(&b, frame / 3, RELEASE, 0, 0, 0, "moves, place 0");
+        expect_step(&b, frame / 3, RELEASE, 0, TRY + R, 0, "moves, place 0");
         check_desk(&b, at, after, 6, "moves, place 0");
         for (i = 0; i < 2; i++) {
             put_full(&b, frame, 48, NO_TRIES);
             for (at = 0; at < 6; at++)
                 put_desk(&b, 1250 + 6 * (size_t)frame + at, before[at]);
-            expect_step(&b, frame / 3, RELEASE, 46 + i, 0, 0,
-                        "moves, the last places");
+            expect_step(&b, frame / 3, RELEASE, 46 + i, i == 0 ? R : TRY + R,
+                        0, "moves, the last places");
             at = 1250 + 6 * (size_t)frame;
             check_desk(&b, at, before, 5, "moves, the last places");
             check_byte(&b, at + 5, without[i], "moves, the last places");
@@ -1752,9 +1798,9 @@ static void test_origin_last(void)
         expect_step(&b, 7, ACQUIRE, i, i == 47 ? TRY + R : R, 0,
                     "last bit, a try at place 47");
     check_byte(&b, 1393, 0x80, "last bit");
-    expect_step(&b, 7, RELEASE, 3, 0, 0, "last bit, release below");
+    expect_step(&b, 7, RELEASE, 3, R, 0, "last bit, release below");
     check_byte(&b, 1393, 0x40, "last bit, moved");
-    expect_step(&b, 7, RELEASE, 47, 0, 0, "last bit, release of the try");
+    expect_step(&b, 7, RELEASE, 47, TRY + R, 0, "last bit, release of the try");
     check_byte(&b, 1393, 0, "last bit, gone");
     free_buffers(&b);
 }
@@ -1837,7 +1883,7 @@ static void test_try_marks(void)
             expect_step(&b, 5, ACQUIRE, 6, R, 0, "an acquire after a try");
             check_byte(&b, MARKS_AT + 7, mark, "marks of a try, then acquire");
             put_desk(&b, MARKS_AT + 7, 0);
-            expect_step(&b, 5, RELEASE, 6, 0, 0, "a release after a try");
+            expect_step(&b, 5, RELEASE, 6, R, 0, "a release after a try");
             check_byte(&b, MARKS_AT + 7, mark, "marks of a try, then release");
             put_desk(&b, MARKS_AT + 6, 0);
             for (event = 0; event < 8; event++) {
@@ -1853,7 +1899,7 @@ static void test_try_marks(void)
                            "marks of a try, then an event");
                 put_desk(&b, STATES_AT + 5, state);
             }
-            expect_step(&b, 5, RELEASE, 7, 0, 0, "release of a try");
+            expect_step(&b, 5, RELEASE, 7, TRY + mode, 0, "release of a try");
         }
     }
     free_buffers(&b);
@@ -1870,13 +1916,13 @@ static void test_try_in_handlers(void)
     expect_step(&b, 0, ENTER_HARD, 0, 0, 0, "handlers, enter hard");
     expect_step(&b, 0, ACQUIRE, 2, TRY + r, 0, "handlers, hard, try 2r");
     expect_step(&b, 0, ACQUIRE, 3, E, 0, "handlers, hard, 3E");
-    expect_step(&b, 0, RELEASE, 3, 0, 0, "handlers, hard, release 3");
+    expect_step(&b, 0, RELEASE, 3, E, 0, "handlers, hard, release 3");
     check_byte(&b, MARKS_AT + 1, 4, "tried in the soft handler");
     check_byte(&b, MARKS_AT + 2, 0, "tried in the hard handler");
     check_byte(&b, MARKS_AT + 3, 1, "acquired in the hard handler");
-    expect_step(&b, 0, RELEASE, 2, 0, 0, "handlers, hard, release 2");
+    expect_step(&b, 0, RELEASE, 2, TRY + r, 0, "handlers, hard, release 2");
     expect_step(&b, 0, EXIT_HARD, 0, 0, 0, "handlers, exit hard");
-    expect_step(&b, 0, RELEASE, 1, 0, 0, "handlers, soft, release 1");
+    expect_step(&b, 0, RELEASE, 1, TRY + E, 0, "handlers, soft, release 1");
     expect_step(&b, 0, EXIT_SOFT, 0, 0, 0, "handlers, exit soft");
     expect_step(&b, 1, ACQUIRE, 1, E, 0, "handlers, task, 1E");
     expect_step(&b, 1, ACQUIRE, 2, E, 0, "handlers, task, 2E");
@@ -1925,7 +1971,7 @@ static void test_try_same_class(void)
         check_byte(&b, MARKS_AT + 1, 2, "same class, after another");
         check_byte(&b, MARKS_AT + 5, 0, "same class, the other");
         put_desk(&b, MARKS_AT + 1, 0);
-        expect_step(&b, 2, RELEASE, 1, 0, 0, "same class, release");
+        expect_step(&b, 2, RELEASE, 1, second, 0, "same class, release");
         check_byte(&b, MARKS_AT + 1, i == 0 ? 0 : 2, "same class, one is left");
         free_buffers(&b);
     }
@@ -1949,8 +1995,8 @@ static void test_try_other_frame(void)
     free_buffers(&b);
 }
 
-/* A release takes the newest lock of the class, whatever its mode and origin;
- * its own mode is 0. */
+/* A release takes the newest lock of the class and has its mode; then the older
+ * one is the newest. */
 static void test_try_release(void)
 {
     /* modes of the older and of the newer lock of class 1 */
@@ -1969,15 +2015,21 @@ static void test_try_release(void)
         expect_step(&b, 0, ACQUIRE, 1, older, 0, "release, older");
         expect_step(&b, 0, ACQUIRE, 1, newer, 0, "release, newer");
         check_byte(&b, HELD_AT + 1, 1 + 64 * (newer % TRY), "release, newer");
-        for (mode = 1; mode < 8; mode++)
-            expect_step(&b, 0, RELEASE, 1, mode, 3, "release with a mode");
-        expect_step(&b, 0, RELEASE, 1, 0, 0, "release of the newer");
+        for (mode = 0; mode < 8; mode++)
+            if (mode != newer)
+                expect_step(&b, 0, RELEASE, 1, mode, mode < MODES ? 5 : 3,
+                            "release in another mode");
+        expect_step(&b, 0, RELEASE, 1, newer, 0, "release of the newer");
         check_byte(&b, HELD_AT, 1 + 64 * (older % TRY), "release, older left");
         check_byte(&b, HELD_AT + 1, 0, "release, newer gone");
         check_byte(&b, ORIGINS_AT, older >= TRY, "release, origin bits");
-        expect_step(&b, 0, RELEASE, 1, 0, 0, "release of the older");
+        for (mode = 0; mode < MODES; mode++)
+            if (mode != older)
+                expect_step(&b, 0, RELEASE, 1, mode, 5,
+                            "release, not the older");
+        expect_step(&b, 0, RELEASE, 1, older, 0, "release of the older");
         check_byte(&b, ORIGINS_AT, 0, "release, no origin bits");
-        expect_step(&b, 0, RELEASE, 1, 0, 5, "release of none");
+        expect_step(&b, 0, RELEASE, 1, older, 5, "release of none");
         free_buffers(&b);
     }
 }
@@ -1998,9 +2050,406 @@ static void test_try_full(void)
     }
     expect_step(&b, 4, ACQUIRE, 1, MODES, 3, "full of tries, mode 6");
     expect_step(&b, 4, ACQUIRE, 8, MODES, 3, "full of tries, both");
-    for (i = 0; i < DEPTH; i++)
-        expect_step(&b, 4, RELEASE, i % 8, 0, 0, "release all tries");
-    expect_step(&b, 4, RELEASE, 0, 0, 5, "all tries released");
+    for (i = 0; i < DEPTH; i++) { /* of each class the newest first */
+        unsigned newest = DEPTH - 8 - i / 8 * 8 + i % 8;
+
+        expect_step(&b, 4, RELEASE, i % 8, TRY + newest % 3, 0,
+                    "release all tries");
+    }
+    expect_step(&b, 4, RELEASE, 0, TRY, 5, "all tries released");
+    free_buffers(&b);
+}
+
+/* ------------------------------------------------------ which releases fit */
+
+/* Every mode is refused with 5 but the one that fits; MODES: every mode. */
+static void expect_misfits(struct buffers *b, unsigned core, unsigned class_,
+                           unsigned fits, const char *what)
+{
+    unsigned mode;
+
+    for (mode = 0; mode < MODES; mode++)
+        if (mode != fits)
+            expect_step(b, core, RELEASE, class_, mode, 5, what);
+}
+
+/* Put a lock of the class and the mode at a place. */
+static void put_lock(struct buffers *b, unsigned frame, unsigned place,
+                     unsigned class_, unsigned mode)
+{
+    put_desk(b, 98 + 48 * frame + place, class_ + 64 * (mode % TRY));
+    put_origin(b, frame, place, mode >= TRY);
+}
+
+/* Frames of a task, a soft and a hard handler, of different cores, and a state
+ * for each in which nothing becomes unsafe. */
+static const uint8_t some_frames[] = { 0, 13, 23 };
+static const uint8_t some_states[] = { 3, 5, 8 };
+
+/* The table of docs/FORMATS.md. */
+static void test_release_table(void)
+{
+    static const struct {
+        uint8_t locks, held[2][2]; /* class and mode, the oldest first */
+        uint8_t class_, mode, answer;
+    } rows[] = {
+        { 1, { { 1, R } }, 1, R, 0 },
+        { 1, { { 1, R } }, 1, E, 5 },
+        { 1, { { 1, R } }, 1, r, 5 },
+        { 1, { { 1, R } }, 1, TRY + R, 5 },
+        { 1, { { 1, TRY + R } }, 1, R, 5 },
+        { 1, { { 1, TRY + R } }, 1, TRY + R, 0 },
+        { 2, { { 1, E }, { 1, TRY + R } }, 1, E, 5 },
+        { 2, { { 1, E }, { 1, TRY + R } }, 1, TRY + R, 0 },
+        { 2, { { 1, E }, { 2, R } }, 1, E, 0 },
+        { 2, { { 1, E }, { 2, R } }, 1, R, 5 },
+        { 0, { { 0, 0 } }, 1, E, 5 }
+    };
+    struct buffers b;
+    size_t i;
+    unsigned j;
+
+    for (i = 0; i < sizeof rows / sizeof rows[0]; i++) {
+        open_buffers(&b, 8, 1);
+        for (j = 0; j < rows[i].locks; j++)
+            expect_step(&b, 2, ACQUIRE, rows[i].held[j][0], rows[i].held[j][1],
+                        0, "which releases fit, an acquire");
+        expect_step(&b, 2, RELEASE, rows[i].class_, rows[i].mode,
+                    rows[i].answer, "which releases fit");
+        check_byte(&b, 10 + 6, rows[i].locks - (rows[i].answer == 0),
+                   "which releases fit, what is left");
+        if (i == 7)
+            expect_step(&b, 2, RELEASE, 1, E, 0, "and then the older");
+        free_buffers(&b);
+    }
+
+    /* Three of a class: the newest alone, whatever the others are. */
+    open_buffers(&b, 8, 0);
+    expect_step(&b, 2, ACQUIRE, 1, R, 0, "three of a class, 1R");
+    expect_step(&b, 2, ACQUIRE, 1, R, 0, "three of a class, 1R again");
+    expect_step(&b, 2, ACQUIRE, 1, TRY + R, 0, "three of a class, try 1R");
+    expect_misfits(&b, 2, 1, TRY + R, "three of a class, other modes");
+    expect_step(&b, 2, RELEASE, 1, TRY + R, 0, "three of a class, the newest");
+    expect_misfits(&b, 2, 1, R, "two of a class, other modes");
+    expect_step(&b, 2, RELEASE, 1, R, 0, "two of a class, the newer");
+    expect_step(&b, 2, RELEASE, 1, R, 0, "the last of a class");
+    expect_misfits(&b, 2, 1, MODES, "none of a class");
+    free_buffers(&b);
+}
+
+/* Acquired in every mode and released in every mode: the same two fit. So with
+ * one class, and with the last of 64. */
+static void test_release_modes(void)
+{
+    struct buffers b;
+    unsigned i, mode, k;
+
+    open_buffers(&b, 8, 0);
+    for (i = 0; i < 3; i++) {
+        unsigned frame = some_frames[i], core = frame / 3;
+
+        put_desk(&b, STATES_AT + core, some_states[i]);
+        for (mode = 0; mode < MODES; mode++) {
+            expect_misfits(&b, core, 2, MODES, "released, not held yet");
+            expect_step(&b, core, ACQUIRE, 2, mode, 0, "to be released");
+            check_byte(&b, 98 + 48 * frame, 2 + 64 * (mode % 3), "held byte");
+            check_byte(&b, 1250 + 6 * frame, mode >= 3, "origin bit");
+            expect_misfits(&b, core, 2, mode, "released in another mode");
+            expect_step(&b, core, RELEASE, 2, mode, 0, "released in its mode");
+            check_byte(&b, 10 + frame, 0, "released, depth");
+            check_byte(&b, 98 + 48 * frame, 0, "released, held byte");
+            check_byte(&b, 1250 + 6 * frame, 0, "released, origin bit");
+        }
+        expect_misfits(&b, core, 2, MODES, "released, no longer held");
+    }
+    free_buffers(&b);
+
+    for (k = 1; k <= 64; k += 63) {
+        open_buffers(&b, k, 0);
+        for (mode = 0; mode < MODES; mode++) {
+            expect_step(&b, 6, ACQUIRE, k - 1, mode, 0, "the last class");
+            expect_misfits(&b, 6, k - 1, mode, "the last class, other modes");
+            expect_step(&b, 6, RELEASE, k - 1, mode, 0, "the last class back");
+        }
+        free_buffers(&b);
+    }
+}
+
+/* Two locks of a class in every two modes, on a desk that is put so. The newer
+ * alone is compared, also where the older would fit; it goes with its origin
+ * bit, and the older stays with its own. */
+static void test_release_pairs(void)
+{
+    struct buffers b;
+    unsigned i, older, newer;
+
+    open_buffers(&b, 8, 0);
+    for (i = 0; i < 3; i++) {
+        unsigned frame = some_frames[i], core = frame / 3;
+
+        put_desk(&b, STATES_AT + core, some_states[i]);
+        for (older = 0; older < MODES; older++) {
+            for (newer = 0; newer < MODES; newer++) {
+                put_desk(&b, 10 + frame, 2);
+                put_lock(&b, frame, 0, 1, older);
+                put_lock(&b, frame, 1, 1, newer);
+                expect_misfits(&b, core, 1, newer, "a pair, not the newer");
+                check_byte(&b, 10 + frame, 2, "a pair, both are left");
+                expect_step(&b, core, RELEASE, 1, newer, 0,
+                            "a pair, the newer");
+                check_byte(&b, 10 + frame, 1, "a pair, one is left");
+                check_byte(&b, 98 + 48 * frame, 1 + 64 * (older % 3),
+                           "a pair, the older is left");
+                check_byte(&b, 99 + 48 * frame, 0, "a pair, the newer is gone");
+                check_byte(&b, 1250 + 6 * frame, older >= 3,
+                           "a pair, the origin bit that is left");
+                expect_misfits(&b, core, 1, older, "a pair, not the older");
+                expect_step(&b, core, RELEASE, 1, older, 0,
+                            "a pair, the older");
+                check_byte(&b, 98 + 48 * frame, 0, "a pair, both are gone");
+                check_byte(&b, 1250 + 6 * frame, 0, "a pair, no origin bits");
+            }
+        }
+    }
+    free_buffers(&b);
+}
+
+/* A newer lock of another class, in every two modes: it does not matter, and
+ * moves down with its origin bit. */
+static void test_release_classes(void)
+{
+    static const struct {
+        uint8_t k, class_, other;
+    } rows[] = { { 8, 1, 2 }, { 64, 0, 63 }, { 64, 63, 0 }, { 34, 1, 33 } };
+    struct buffers b;
+    unsigned i, mode, above;
+
+    for (i = 0; i < sizeof rows / sizeof rows[0]; i++) {
+        unsigned class_ = rows[i].class_, other = rows[i].other;
+
+        open_buffers(&b, rows[i].k, 0);
+        put_desk(&b, STATES_AT + 1, 3);
+        for (mode = 0; mode < MODES; mode++) {
+            for (above = 0; above < MODES; above++) {
+                if (rows[i].k > 8 && (mode + above) % 3 != 0)
+                    continue;
+                expect_step(&b, 1, ACQUIRE, class_, mode, 0, "below another");
+                expect_step(&b, 1, ACQUIRE, other, above, 0, "the other");
+                expect_misfits(&b, 1, class_, mode, "below, another mode");
+                expect_step(&b, 1, RELEASE, class_, mode, 0, "below, its mode");
+                check_byte(&b, 10 + 3, 1, "the other is left");
+                check_byte(&b, 98 + 144, other + 64 * (above % 3),
+                           "the other moves down");
+                check_byte(&b, 1250 + 18, above >= 3,
+                           "the other's origin bit moves down");
+                expect_misfits(&b, 1, class_, MODES, "below, no longer held");
+                expect_misfits(&b, 1, other, above, "the other, another mode");
+                expect_step(&b, 1, RELEASE, other, above, 0, "the other goes");
+            }
+        }
+        free_buffers(&b);
+    }
+}
+
+/* Locks of one class in the task, the soft and the hard handler of core 3 and
+ * in the task of core 4: a release finds that of its own frame alone. */
+static void test_release_frames(void)
+{
+    static const uint8_t rows[][4] = {
+        { E, TRY + E, r, R }, { r, R, TRY + r, E }, { TRY + R, E, R, TRY + E },
+        { TRY + E, TRY + r, TRY + R, r }, { R, R, TRY + R, TRY + R } };
+    struct buffers b;
+    unsigned i, level;
+
+    for (i = 0; i < sizeof rows / sizeof rows[0]; i++) {
+        open_buffers(&b, 8, 0);
+        for (level = 0; level < 4; level++) {
+            put_desk(&b, 10 + 9 + level, 1);
+            put_lock(&b, 9 + level, 0, 6, rows[i][level]);
+        }
+        put_desk(&b, STATES_AT + 4, 3);
+        for (level = 3; level-- > 0;) {
+            put_desk(&b, STATES_AT + 3, some_states[level]);
+            expect_misfits(&b, 3, 6, rows[i][level], "in another frame");
+            expect_step(&b, 3, RELEASE, 6, rows[i][level], 0, "in its frame");
+            check_byte(&b, 10 + 9 + level, 0, "in its frame");
+            expect_misfits(&b, 3, 6, MODES, "in other frames only");
+        }
+        expect_misfits(&b, 4, 6, rows[i][3], "core 4, another mode");
+        expect_misfits(&b, 5, 6, MODES, "core 5, none");
+        expect_step(&b, 4, RELEASE, 6, rows[i][3], 0, "core 4, its mode");
+        expect_misfits(&b, 4, 6, MODES, "core 4, none any more");
+        free_buffers(&b);
+    }
+}
+
+/* The modes of a full frame: of each class modulo 8 all six. */
+static unsigned mixed_mode(unsigned place)
+{
+    return (5 * place + place / 8) % 6;
+}
+
+/* A frame of so many locks of mixed modes, without the one at a place. */
+static void check_mixed(const struct buffers *b, unsigned frame, unsigned depth,
+                        unsigned classes, unsigned without, const char *what)
+{
+    uint8_t held[48] = { 0 }, origins[6] = { 0 };
+    unsigned i, at = 0;
+
+    for (i = 0; i < depth; i++) {
+        if (i == without)
+            continue;
+        held[at] = (uint8_t)(i % classes + 64 * (mixed_mode(i) % 3));
+        if (mixed_mode(i) >= 3)
+            origins[at / 8] |= (uint8_t)(1u << at % 8);
+        at++;
+    }
+    check_byte(b, 10 + frame, at, what);
+    check_desk(b, 98 + 48 * frame, held, sizeof held, what);
+    check_desk(b, 1250 + 6 * frame, origins, sizeof origins, what);
+}
+
+static void put_mixed(struct buffers *b, unsigned frame, unsigned classes)
+{
+    unsigned i;
+
+    put_desk(b, 10 + frame, 48);
+    for (i = 0; i < 48; i++)
+        put_lock(b, frame, i, i % classes, mixed_mode(i));
+}
+
+/* 48 locks of mixed modes, six of each class: from the top each is released in
+ * its own mode and in no other. */
+static void test_release_from_top(void)
+{
+    struct buffers b;
+    unsigned i, place;
+
+    for (i = 0; i < 3; i++) {
+        unsigned frame = some_frames[i], core = frame / 3;
+
+        open_buffers(&b, 8, 0);
+        put_desk(&b, STATES_AT + core, some_states[i]);
+        put_mixed(&b, frame, 8);
+        for (place = 48; place-- > 0;) {
+            expect_misfits(&b, core, place % 8, mixed_mode(place),
+                           "from the top, another mode");
+            expect_step(&b, core, RELEASE, place % 8, mixed_mode(place), 0,
+                        "from the top");
+            check_mixed(&b, frame, place, 8, place, "from the top");
+        }
+        expect_misfits(&b, core, 0, MODES, "from the top, none is left");
+        free_buffers(&b);
+    }
+}
+
+/* 48 locks of mixed modes and of as many classes, each released from the full
+ * frame. */
+static void test_release_places(void)
+{
+    struct buffers b;
+    unsigned i, place;
+
+    for (i = 0; i < 3; i++) {
+        unsigned frame = some_frames[i], core = frame / 3;
+
+        open_buffers(&b, 48, 0);
+        put_desk(&b, STATES_AT + core, some_states[i]);
+        for (place = 0; place < 48; place++) {
+            put_mixed(&b, frame, 48);
+            expect_misfits(&b, core, place, mixed_mode(place),
+                           "at a place, another mode");
+            expect_step(&b, core, RELEASE, place, mixed_mode(place), 0,
+                        "at a place");
+            check_mixed(&b, frame, 48, 48, place, "at a place");
+        }
+        free_buffers(&b);
+    }
+
+    /* Acquired so from opening on, and released in another order. */
+    open_buffers(&b, 64, 0);
+    for (place = 0; place < 48; place++)
+        expect_step(&b, 5, ACQUIRE, place, mixed_mode(place), 0, "48 of all");
+    check_mixed(&b, 15, 48, 48, 48, "48 of all");
+    for (place = 0; place < 48; place++) {
+        unsigned class_ = place * 11 % 48;
+
+        expect_misfits(&b, 5, class_, mixed_mode(class_), "48 of all, others");
+        expect_step(&b, 5, RELEASE, class_, mixed_mode(class_), 0,
+                    "48 of all, back");
+    }
+    check_byte(&b, 10 + 15, 0, "48 of all, all back");
+    free_buffers(&b);
+}
+
+/* Every mode from 0 to 255 of a release: 3 from 6 on, whatever the class is; 4
+ * for class K or more; 9 only where the release fits. A closed desk and an
+ * unfit one are before all. Class 1 is held in the mode. */
+static void expect_every_mode(unsigned held, unsigned k)
+{
+    struct buffers b;
+    unsigned mode, i;
+
+    open_buffers(&b, k, 3);
+    put_desk(&b, 10 + 21, 1);
+    put_lock(&b, 21, 0, 1, held);
+    for (i = 0; i < 4; i++) { /* open, full count, closed, unfit */
+        if (i == 1)
+            put_count(&b, UINT32_MAX);
+        if (i == 2)
+            put_desk(&b, CLOSED_AT, 1);
+        if (i == 3)
+            put_desk(&b, STATES_AT, 9);
+        for (mode = 0; mode < 256; mode++) {
+            unsigned before = i == 2 ? 10 : i == 3 ? 11 : mode >= MODES ? 3 : 0;
+
+            if (i > 0 && mode > 8 && mode % 64 > 2 && mode != 255)
+                continue; /* to save time */
+            if (i > 0 || mode != held)
+                expect_step(&b, 7, RELEASE, 1, mode, before ? before
+                            : mode == held ? 9 : 5, "every mode, held");
+            expect_step(&b, 7, RELEASE, 0, mode, before ? before : 5,
+                        "every mode, none held");
+            expect_step(&b, 7, RELEASE, k, mode, before ? before : 4,
+                        "every mode, class K");
+            expect_step(&b, 7, RELEASE, 65 + 64 * (mode % 3), mode,
+                        before ? before : 4, "every mode, a class of 64 more");
+        }
+    }
+    put_desk(&b, STATES_AT, 0);
+    put_desk(&b, CLOSED_AT, 0);
+    put_count(&b, 0);
+    expect_step(&b, 7, RELEASE, 1, held, 0, "every mode, the one that fits");
+    free_buffers(&b);
+}
+
+static void test_release_every_mode(void)
+{
+    expect_every_mode(E, 8);
+    expect_every_mode(TRY + R, 8);
+    expect_every_mode(r, 2);
+}
+
+/* Where a closed strong path stands already, a release that does not fit is
+ * refused all the same, and writes no slip; the one that fits is the fault. */
+static void test_release_fault(void)
+{
+    struct buffers b;
+    unsigned mode;
+
+    open_buffers(&b, 8, 0);
+    put_sheet(&b, 3, 5, PLUNGEROWL_SN);
+    put_sheet(&b, 5, 3, PLUNGEROWL_EN);
+    put_desk(&b, 10 + 18, 2);
+    put_lock(&b, 18, 0, 2, R);
+    put_lock(&b, 18, 1, 2, TRY + E);
+    expect_misfits(&b, 6, 2, TRY + E, "a fault stands, another mode");
+    expect_misfits(&b, 6, 3, MODES, "a fault stands, none held");
+    expect_step(&b, 6, RELEASE, 2, TRY + E, 1, "a fault stands, it fits");
+    for (mode = 0; mode <= MODES; mode++) {
+        expect_step(&b, 6, RELEASE, 2, mode, 10, "closed, any release");
+        expect_step(&b, 6, RELEASE, 8, mode, 10, "closed, of class K");
+    }
     free_buffers(&b);
 }
 
@@ -2354,14 +2803,17 @@ static void test_fullest(void)
     expect_step(&b, 7, ACQUIRE, 0, E, 8, "fullest, acquire");
     expect_step(&b, 7, EXIT_HARD, 0, 0, 7, "fullest, exit hard");
     expect_step(&b, 7, EXIT_SOFT, 0, 0, 6, "fullest, exit soft");
-    expect_step(&b, 7, RELEASE, 62, 0, 5, "fullest, release of 62");
-    expect_step(&b, 7, RELEASE, 63, 0, 9, "fullest, release of 63");
+    expect_step(&b, 7, RELEASE, 62, TRY + R, 5, "fullest, release of 62");
+    expect_step(&b, 7, RELEASE, 63, R, 5, "fullest, release of 63R");
+    expect_step(&b, 7, RELEASE, 63, TRY + R, 9, "fullest, release of 63");
     for (i = 0; i < 64; i++)
         for (j = 0; j < i; j++)
             put_seen(&b, i, j, UINT32_MAX - 1);
     put_count(&b, UINT32_MAX - 1);
-    expect_step(&b, 7, RELEASE, 63, 0, 1, "fullest but one, release of 63");
-    expect_step(&b, 7, RELEASE, 63, 0, 10, "fullest, closed");
+    expect_step(&b, 7, RELEASE, 63, E, 5, "fullest but one, release of 63E");
+    expect_step(&b, 7, RELEASE, 63, TRY + R, 1,
+                "fullest but one, release of 63");
+    expect_step(&b, 7, RELEASE, 63, TRY + R, 10, "fullest, closed");
     free_buffers(&b);
 }
 
@@ -2805,25 +3257,26 @@ static unsigned below(unsigned n)
 static void log_clean(struct log *log, unsigned core)
 {
     unsigned low = below(3), high = 3 + below(4);
+    unsigned mode = below(MODES), other = below(MODES), tried = TRY + below(3);
 
     switch (below(4)) {
     case 0:
-        log_record(log, core, ACQUIRE, low, below(MODES));
-        log_record(log, core, ACQUIRE, high, below(MODES));
-        log_record(log, core, RELEASE, low, 0);
-        log_record(log, core, RELEASE, high, 0);
+        log_record(log, core, ACQUIRE, low, mode);
+        log_record(log, core, ACQUIRE, high, other);
+        log_record(log, core, RELEASE, low, mode);
+        log_record(log, core, RELEASE, high, other);
         break;
     case 1:
         log_record(log, core, ENTER_HARD, 0, 0);
-        log_record(log, core, ACQUIRE, 7, below(MODES));
-        log_record(log, core, RELEASE, 7, 0);
+        log_record(log, core, ACQUIRE, 7, mode);
+        log_record(log, core, RELEASE, 7, mode);
         log_record(log, core, EXIT_HARD, 0, 0);
         break;
     case 2:
-        log_record(log, core, ACQUIRE, high, below(MODES));
-        log_record(log, core, ACQUIRE, low, TRY + below(3));
-        log_record(log, core, RELEASE, high, 0);
-        log_record(log, core, RELEASE, low, 0);
+        log_record(log, core, ACQUIRE, high, mode);
+        log_record(log, core, ACQUIRE, low, tried);
+        log_record(log, core, RELEASE, high, mode);
+        log_record(log, core, RELEASE, low, tried);
         break;
     default:
         log_record(log, core, SOFT_OFF, 0, 0);
@@ -2851,7 +3304,10 @@ static void log_ending(struct log *log, unsigned ending)
         break;
     case END_3: log_record(log, 0, HARD_ON, 1, 0); break;
     case END_4: log_record(log, 0, ACQUIRE, 8, E); break;
-    case END_5: log_record(log, 0, RELEASE, 1, 0); break;
+    case END_5: /* the read that may wait, where the try is held */
+        log_record(log, 0, ACQUIRE, 6, TRY + R);
+        log_record(log, 0, RELEASE, 6, R);
+        break;
     case END_6: log_record(log, 0, EXIT_SOFT, 0, 0); break;
     case END_7:
         log_record(log, 3, ENTER_SOFT, 0, 0);
@@ -2887,8 +3343,8 @@ static void make_p2(struct log *log)
     log_header(log, 3);
     log_record(log, 0, ACQUIRE, 1, E);
     log_record(log, 0, ACQUIRE, 2, E);
-    log_record(log, 0, RELEASE, 2, 0);
-    log_record(log, 0, RELEASE, 1, 0);
+    log_record(log, 0, RELEASE, 2, E);
+    log_record(log, 0, RELEASE, 1, E);
     log_record(log, 1, ACQUIRE, 2, E);
     log_record(log, 1, ACQUIRE, 1, E);
 }
@@ -3025,7 +3481,7 @@ static void test_feed_record(void)
 
             log_header(&log, 8);
             log_record(&log, 2, ACQUIRE, 1, E);
-            log_record(&log, 2, RELEASE, 1, 0);
+            log_record(&log, 2, RELEASE, 1, E);
             log.bytes[4 + 6 + place] = (uint8_t)value;
             start_again(&f);
             whole = feed_or_end(&f, log.bytes, log.size, "two records");
@@ -3039,6 +3495,9 @@ static void test_feed_record(void)
             expect_said(cut, whole.answer, whole.number, "record, cut");
             if (place < 2 && value != log.bytes[4 + place])
                 expect_said(cut, 3, 2, "record, wrong signature");
+            if (place == 5)
+                expect_said(cut, value == E ? 0 : value < MODES ? 5 : 3, 2,
+                            "record, the mode of a release");
         }
     }
     free_feed(&f);
@@ -3084,7 +3543,7 @@ static void test_feed_cuts(void)
     log_header(&log, 2);
     log_record(&log, 0, ACQUIRE, 1, E);
     feed_all_cuts(&f, &log, 0, 1, "cuts, one record");
-    log_record(&log, 0, RELEASE, 1, 0);
+    log_record(&log, 0, RELEASE, 1, E);
     if (sides == GUARD_BOTH)
         feed_all_cuts(&f, &log, 0, 2, "cuts, two records");
 
@@ -3095,7 +3554,7 @@ static void test_feed_cuts(void)
         feed_all_cuts(&f, &log, 1, 2, "cuts, a fault");
 
     log_header(&log, 2);
-    log_record(&log, 0, RELEASE, 1, 0);
+    log_record(&log, 0, RELEASE, 1, TRY + R);
     log_loose(&log, 4);
     feed_all_cuts(&f, &log, 5, 1, "cuts, a refusal and more");
 
@@ -3191,7 +3650,7 @@ static void test_feed_many(void)
     log.size = 0;
     for (i = 0; i < PAIRS; i++) {
         log_record(&log, 0, ACQUIRE, 0, E);
-        log_record(&log, 0, RELEASE, 0, 0);
+        log_record(&log, 0, RELEASE, 0, E);
     }
     for (i = 1; i <= PIECES; i++)
         expect_feed(&f, log.bytes, log.size, 0, 2 * PAIRS * (uint64_t)i,
@@ -3576,7 +4035,7 @@ static void test_feed_fit(void)
 /* A fit feed that did not come from start goes on as it stands. */
 static void test_feed_by_hand(void)
 {
-    static const uint8_t rest[] = { E, 0x4C, 0x4B, 0, RELEASE, 1, 0 };
+    static const uint8_t rest[] = { E, 0x4C, 0x4B, 0, RELEASE, 1, E };
     static const uint8_t loose[] = { 0x4C, 0x4B, 0, ACQUIRE, 1 };
     static const uint8_t header[] = { 0x4C, 0x48, 1, 8 };
     struct feeding f;
@@ -3606,8 +4065,8 @@ static void test_feed_number(void)
 
     log.size = 0;
     log_record(&log, 0, ACQUIRE, 1, E);
-    log_record(&log, 0, RELEASE, 1, 0);
-    log_record(&log, 0, RELEASE, 1, 0);
+    log_record(&log, 0, RELEASE, 1, E);
+    log_record(&log, 0, RELEASE, 1, E);
     log_loose(&log, 1);
     start_feed(&f, 8, 0);
     expect_open(&f.b, 8, 0, "opening");
@@ -3745,6 +4204,58 @@ static void test_feed_other_writer(void)
     expect_feed(&f, log.bytes + 15, 20, 11, 2, "unfit, a record");
     put_desk(&f.b, STATES_AT + 7, 0);
     expect_stopped(&f, 11, 2, "no longer unfit");
+    free_feed(&f);
+}
+
+/* Logs in which releases fit or do not, in one piece, cut once at every byte,
+ * and at all of them: the mode comes with the last byte of the record. Behind
+ * an answer but 0 stands more. */
+static void test_feed_releases(void)
+{
+    static const struct {
+        uint8_t answer, number, records;
+        uint8_t record[5][3]; /* kind, class, mode */
+    } rows[] = {
+        { 0, 2, 2, { { ACQUIRE, 1, TRY + R }, { RELEASE, 1, TRY + R } } },
+        { 5, 2, 2, { { ACQUIRE, 1, TRY + R }, { RELEASE, 1, R } } },
+        { 5, 2, 2, { { ACQUIRE, 1, R }, { RELEASE, 1, E } } },
+        { 5, 3, 3, { { ACQUIRE, 1, E }, { ACQUIRE, 1, TRY + R },
+                     { RELEASE, 1, E } } },
+        { 0, 4, 4, { { ACQUIRE, 1, E }, { ACQUIRE, 1, TRY + R },
+                     { RELEASE, 1, TRY + R }, { RELEASE, 1, E } } },
+        { 0, 4, 4, { { ACQUIRE, 1, r }, { ACQUIRE, 2, TRY + E },
+                     { RELEASE, 1, r }, { RELEASE, 2, TRY + E } } },
+        { 5, 3, 3, { { ACQUIRE, 1, E }, { ENTER_HARD, 0, 0 },
+                     { RELEASE, 1, E } } },
+        { 5, 4, 4, { { ACQUIRE, 1, TRY + r }, { ENTER_HARD, 0, 0 },
+                     { ACQUIRE, 1, TRY + E }, { RELEASE, 1, TRY + r } } },
+        { 3, 2, 2, { { ACQUIRE, 1, E }, { RELEASE, 1, MODES } } },
+        { 3, 2, 2, { { HARD_ON, 0, 0 }, { HARD_ON, 0, TRY + R } } },
+        { 4, 1, 1, { { RELEASE, 8, TRY + R } } },
+        { 3, 1, 1, { { RELEASE, 8, MODES } } }
+    };
+    static struct log log;
+    struct feeding f;
+    size_t i, j;
+
+    start_feed(&f, 8, 0);
+    for (i = 0; i < sizeof rows / sizeof rows[0]; i++) {
+        unsigned answer = rows[i].answer, number = rows[i].number;
+
+        log_header(&log, 8);
+        for (j = 0; j < rows[i].records; j++)
+            log_record(&log, 6, rows[i].record[j][0], rows[i].record[j][1],
+                       rows[i].record[j][2]);
+        if (answer != 0) {
+            log_record(&log, 6, ACQUIRE, 0, E);
+            log_loose(&log, 3);
+        }
+        feed_cut(&f, &log, 0, answer, number, "releases in one piece");
+        feed_cut(&f, &log, UINT64_MAX, answer, number, "releases by bytes");
+        for (j = 0; j + 1 < log.size; j++)
+            feed_cut(&f, &log, BIT(j), answer, number,
+                     "releases in two pieces");
+    }
     free_feed(&f);
 }
 
@@ -4128,7 +4639,7 @@ static void test_shown_by_any_record(void)
     } records[] = {
         { 0, HARD_ON, 0, 0 }, { 7, SOFT_OFF, 0, 0 }, { 3, ACQUIRE, 7, E },
         { 3, ACQUIRE, 0, R }, { 3, ACQUIRE, 1, E }, { 3, ACQUIRE, 2, R },
-        { 4, ACQUIRE, 3, TRY + E }, { 5, RELEASE, 6, 0 }, { 5, ACQUIRE, 7, E },
+        { 4, ACQUIRE, 3, TRY + E }, { 5, RELEASE, 6, E }, { 5, ACQUIRE, 7, E },
         { 5, ENTER_HARD, 0, 0 }
     };
     struct buffers b;
@@ -4193,7 +4704,7 @@ static void log_marks(struct log *log, unsigned class_, unsigned marks)
         for (j = 1; j < 5; j++) {
             if (j == 3) {
                 log_record(log, 1, ACQUIRE, class_, ways[i][0]);
-                log_record(log, 1, RELEASE, class_, 0);
+                log_record(log, 1, RELEASE, class_, ways[i][0]);
             }
             if (ways[i][j] != 0)
                 log_record(log, 1, ways[i][j], 0, 0);
@@ -4231,8 +4742,8 @@ static void log_shown(struct log *log, const struct shown *s)
                 continue;
             log_record(log, 0, ACQUIRE, d->from, held_mode(kind));
             log_record(log, 0, ACQUIRE, d->to, acquired_mode(kind));
-            log_record(log, 0, RELEASE, d->to, 0);
-            log_record(log, 0, RELEASE, d->from, 0);
+            log_record(log, 0, RELEASE, d->to, acquired_mode(kind));
+            log_record(log, 0, RELEASE, d->from, held_mode(kind));
         }
     }
     for (d = s->drawn; d->kinds != 0; d++)
@@ -4462,7 +4973,7 @@ static void test_shown_random_logs(void)
             if (kind == ACQUIRE && depth > 2) {
                 kind = RELEASE;
                 class_ = b.desk.bytes[HELD_AT + DEPTH * frame] % 64;
-                mode = 0;
+                mode = newest_mode(b.desk.bytes, frame, class_);
             }
             record[2] = (uint8_t)core;
             record[3] = (uint8_t)kind;
@@ -4688,12 +5199,13 @@ static void test_count(void)
         { 0, ACQUIRE, 2, E, 0, 3 },
         { 0, ACQUIRE, 2, MODES, 3, 3 },
         { 0, ACQUIRE, 8, E, 4, 3 },
-        { 0, RELEASE, 3, 0, 5, 3 },
+        { 0, RELEASE, 3, E, 5, 3 },
+        { 0, RELEASE, 2, TRY + E, 5, 3 },
         { 0, EXIT_SOFT, 0, 0, 6, 3 },
-        { 0, RELEASE, 2, 0, 0, 4 },
+        { 0, RELEASE, 2, E, 0, 4 },
         { 0, ACQUIRE, 2, E, 0, 5 }, /* draws what is drawn */
         { 0, ACQUIRE, 1, TRY + E, 0, 6 },
-        { 0, RELEASE, 1, 0, 0, 7 },
+        { 0, RELEASE, 1, TRY + E, 0, 7 },
         { 7, SOFT_ON, 0, 0, 0, 8 },
         { 7, SOFT_OFF, 0, 0, 0, 9 },
         { 7, HARD_OFF, 0, 0, 0, 10 },
@@ -4704,7 +5216,7 @@ static void test_count(void)
         { 7, ENTER_SOFT, 0, 0, 0, 15 },
         { 7, ACQUIRE, 7, R, 0, 16 },
         { 7, EXIT_SOFT, 0, 0, 7, 16 },
-        { 7, RELEASE, 7, 0, 0, 17 },
+        { 7, RELEASE, 7, R, 0, 17 },
         { 7, EXIT_SOFT, 0, 0, 0, 18 },
         { 1, ACQUIRE, 2, E, 0, 19 },
         { 1, ACQUIRE, 1, E, 1, 20 }, /* a fault is accepted */
@@ -4767,7 +5279,7 @@ static void test_count_carries(void)
 
         put_sheet(&b, 1, 2, 0);
         put_count(&b, counts[i]);
-        expect_step(&b, 0, RELEASE, 1, 0, 0, "one more, a release");
+        expect_step(&b, 0, RELEASE, 1, E, 0, "one more, a release");
         check_count(&b, counts[i] + 1, "one more, a release");
         put_count(&b, counts[i]);
         expect_step(&b, 0, ACQUIRE, 2, E, 1, "one more, a fault");
@@ -4806,11 +5318,13 @@ static void test_count_full(void)
             expect_step(&b, 4, ACQUIRE, 5, mode, 9, "full count, a dependency");
             expect_step(&b, 4, ACQUIRE, 3, mode, 9, "full count, its class");
         }
-        expect_step(&b, 4, RELEASE, 3, 0, 9, "full count, a release");
+        for (mode = 0; mode < MODES; mode++)
+            expect_step(&b, 4, RELEASE, 3, mode, mode == R ? 9 : 5,
+                        "full count, a release");
         expect_no_reach(&b, 3, 0, "full count, ask");
 
         put_count(&b, UINT32_MAX - 1);
-        expect_step(&b, 4, RELEASE, 3, 0, 0, "the last to be counted");
+        expect_step(&b, 4, RELEASE, 3, R, 0, "the last to be counted");
         check_count(&b, UINT32_MAX, "the last to be counted");
         expect_step(&b, 5, HARD_ON, 0, 0, 9, "and no more");
         expect_step(&b, 4, ACQUIRE, 3, R, 9, "and no more");
@@ -4875,14 +5389,20 @@ static void test_count_order(void)
     expect_step(&b, 0, HARD_ON, 1, 0, 3, "3 before 9, class of an event");
     expect_step(&b, 0, ACQUIRE, 8, E, 4, "4 before 9");
     expect_step(&b, 0, ACQUIRE, 255, TRY + E, 4, "4 before 9, a try");
-    expect_step(&b, 0, RELEASE, 8, 0, 4, "4 before 9, a release");
+    expect_step(&b, 0, RELEASE, 8, E, 4, "4 before 9, a release");
+    expect_step(&b, 0, RELEASE, 8, TRY + R, 4, "4 before 9, a try's release");
+    expect_step(&b, 3, RELEASE, 0, MODES, 3, "3 before 9, a release");
     expect_step(&b, 0, EXIT_HARD, 0, 0, 6, "6 before 9");
     expect_step(&b, 4, ENTER_SOFT, 0, 0, 6, "6 before 9, in a handler");
     expect_step(&b, 4, EXIT_HARD, 0, 0, 7, "7 before 9");
-    expect_step(&b, 0, RELEASE, 0, 0, 5, "5 before 9");
+    expect_step(&b, 0, RELEASE, 0, E, 5, "5 before 9");
+    expect_step(&b, 3, RELEASE, 0, E, 5, "5 before 9, another mode");
+    expect_step(&b, 3, RELEASE, 0, TRY + R, 5, "5 before 9, no try");
+    expect_step(&b, 4, RELEASE, 1, E, 5, "5 before 9, a try");
     for (i = 0; i < MODES; i++)
         expect_step(&b, 3, ACQUIRE, 2, i, 8, "8 before 9");
-    expect_step(&b, 3, RELEASE, 0, 0, 9, "9");
+    expect_step(&b, 3, RELEASE, 0, R, 9, "9");
+    expect_step(&b, 4, RELEASE, 1, TRY + E, 9, "9, a try's release");
 
     put_desk(&b, CLOSED_AT, 1);
     expect_step(&b, 0, HARD_ON, 0, 0, 10, "10 before 9");
@@ -4968,18 +5488,18 @@ static void test_seen_later_kind(void)
     expect_step(&b, 0, ACQUIRE, 1, R, 0, "later kind, 1R");
     expect_step(&b, 0, ACQUIRE, 2, E, 0, "later kind, 2E: 1 SN 2");
     check_seen(&b, 1, 2, 2, "the first kind");
-    expect_step(&b, 0, RELEASE, 2, 0, 0, "later kind, release 2");
+    expect_step(&b, 0, RELEASE, 2, E, 0, "later kind, release 2");
     expect_step(&b, 0, ACQUIRE, 2, E, 0, "later kind, 2E again");
     check_seen(&b, 1, 2, 2, "the same kind again");
-    expect_step(&b, 0, RELEASE, 2, 0, 0, "later kind, release 2 again");
-    expect_step(&b, 0, RELEASE, 1, 0, 0, "later kind, release 1");
+    expect_step(&b, 0, RELEASE, 2, E, 0, "later kind, release 2 again");
+    expect_step(&b, 0, RELEASE, 1, R, 0, "later kind, release 1");
     expect_step(&b, 5, ACQUIRE, 1, E, 0, "later kind, core 5, 1E");
     expect_step(&b, 5, ACQUIRE, 2, R, 0, "later kind, core 5, 2R: 1 ER 2");
     check_seen(&b, 1, 2, 2, "a second kind");
     check(b.sheet.bytes[8 + 2] == 9, "later kind: both kinds");
     expect_step(&b, 5, ACQUIRE, 3, E, 0, "later kind, core 5, 3E");
     check_seen(&b, 1, 3, 9, "another pair");
-    expect_step(&b, 5, RELEASE, 2, 0, 0, "later kind, core 5, release 2");
+    expect_step(&b, 5, RELEASE, 2, R, 0, "later kind, core 5, release 2");
     expect_step(&b, 5, ACQUIRE, 2, TRY + E, 0, "later kind, core 5, try 2E");
     check_seen(&b, 1, 2, 2, "after a try");
     expect_step(&b, 6, HARD_ON, 0, 0, 0, "later kind, a hard on");
@@ -5002,7 +5522,7 @@ static void test_seen_try(void)
     expect_step(&b, 0, ACQUIRE, 1, TRY + R, 0, "numbers and tries, try 1R");
     check_seen(&b, 1, 1, 0, "a try of its class");
     check_seen(&b, 2, 1, 0, "a try over a try");
-    expect_step(&b, 0, RELEASE, 2, 0, 0, "numbers and tries, release 2");
+    expect_step(&b, 0, RELEASE, 2, TRY + E, 0, "numbers and tries, release 2");
     expect_step(&b, 0, ACQUIRE, 2, E, 0, "numbers and tries, 2E");
     check_seen(&b, 1, 2, 5, "an acquire after a try");
     free_buffers(&b);
@@ -5019,15 +5539,16 @@ static void test_seen_refused(void)
     open_buffers(&b, 8, 0);
     expect_step(&b, 0, ACQUIRE, 1, E, 0, "between refusals, 1E");
     for (i = 0; i < 300; i++) {
-        expect_step(&b, 0, RELEASE, 2, 0, 5, "a refused release");
-        expect_step(&b, 9, RELEASE, 2, 0, 3, "a malformed record");
+        expect_step(&b, 0, RELEASE, 2, E, 5, "a refused release");
+        expect_step(&b, 0, RELEASE, 1, R, 5, "a release in another mode");
+        expect_step(&b, 9, RELEASE, 2, E, 3, "a malformed record");
         expect_step(&b, 0, ACQUIRE, 9, E, 4, "a refused acquire");
         expect_step(&b, 0, EXIT_HARD, 0, 0, 6, "a refused event");
     }
     expect_step(&b, 0, ACQUIRE, 2, E, 0, "between refusals, 2E");
     check_seen(&b, 1, 2, 2, "between refusals");
     expect_step(&b, 1, ACQUIRE, 2, E, 0, "between refusals, core 1, 2E");
-    expect_step(&b, 1, RELEASE, 7, 0, 5, "between refusals, one more");
+    expect_step(&b, 1, RELEASE, 7, E, 5, "between refusals, one more");
     expect_step(&b, 1, ACQUIRE, 1, E, 1, "between refusals, core 1, 1E");
     check_whole_slip(&b, slip, "between refusals");
     free_buffers(&b);
@@ -5052,13 +5573,13 @@ static void test_seen_by_marks(void)
         open_buffers(&b, 8, 0);
         expect_step(&b, 0, enter, 0, 0, 0, "by marks, enter");
         expect_step(&b, 0, ACQUIRE, 1, R, 0, "by marks, 1R in the handler");
-        expect_step(&b, 0, RELEASE, 1, 0, 0, "by marks, release 1");
+        expect_step(&b, 0, RELEASE, 1, R, 0, "by marks, release 1");
         expect_step(&b, 0, enter + 1, 0, 0, 0, "by marks, exit");
         expect_step(&b, 0, ACQUIRE, 0, E, 0, "by marks, 0E");
         expect_step(&b, 0, off, 0, 0, 0, "by marks, off");
         expect_step(&b, 0, ACQUIRE, 1, E, 0, "by marks, 1E: 0 EN 1");
-        expect_step(&b, 0, RELEASE, 1, 0, 0, "by marks, release 1 again");
-        expect_step(&b, 0, RELEASE, 0, 0, 0, "by marks, release 0");
+        expect_step(&b, 0, RELEASE, 1, E, 0, "by marks, release 1 again");
+        expect_step(&b, 0, RELEASE, 0, E, 0, "by marks, release 0");
         expect_step(&b, 1, off, 0, 0, 0, "by marks, core 1, off");
         expect_step(&b, 1, ACQUIRE, 1, E, 0, "by marks, core 1, 1E");
         expect_step(&b, 1, ACQUIRE, 0, E, 1, "by marks, core 1, 0E: 1 EN 0");
@@ -5070,7 +5591,7 @@ static void test_seen_by_marks(void)
     open_buffers(&b, 8, 0);
     expect_step(&b, 0, ENTER_HARD, 0, 0, 0, "by its marks, enter hard");
     expect_step(&b, 0, ACQUIRE, 3, R, 0, "by its marks, 3R");
-    expect_step(&b, 0, RELEASE, 3, 0, 0, "by its marks, release 3");
+    expect_step(&b, 0, RELEASE, 3, R, 0, "by its marks, release 3");
     expect_step(&b, 0, EXIT_HARD, 0, 0, 0, "by its marks, exit hard");
     expect_step(&b, 0, ACQUIRE, 3, R, 0, "by its marks, task, 3R");
     expect_step(&b, 0, ACQUIRE, 3, E, 1, "by its marks, 3E: 3 SN 3");
@@ -5099,8 +5620,8 @@ static void test_seen_of_the_fault(void)
     open_buffers(&b, 3, 0);
     expect_step(&b, 0, ACQUIRE, 0, E, 0, "the fault, 0E");
     expect_step(&b, 0, ACQUIRE, 1, E, 0, "the fault, 1E: 0 EN 1");
-    expect_step(&b, 0, RELEASE, 1, 0, 0, "the fault, release 1");
-    expect_step(&b, 0, RELEASE, 0, 0, 0, "the fault, release 0");
+    expect_step(&b, 0, RELEASE, 1, E, 0, "the fault, release 1");
+    expect_step(&b, 0, RELEASE, 0, E, 0, "the fault, release 0");
     expect_step(&b, 1, ACQUIRE, 1, E, 0, "the fault, core 1, 1E");
     expect_step(&b, 1, ACQUIRE, 2, E, 0, "the fault, core 1, 2E");
     expect_step(&b, 1, ACQUIRE, 0, E, 1, "the fault, core 1, 0E");
@@ -5112,8 +5633,8 @@ static void test_seen_of_the_fault(void)
     open_buffers(&b, 3, 0);
     expect_step(&b, 0, ACQUIRE, 1, R, 0, "an old one, 1R");
     expect_step(&b, 0, ACQUIRE, 0, R, 0, "an old one, 0R: 1 SR 0");
-    expect_step(&b, 0, RELEASE, 0, 0, 0, "an old one, release 0");
-    expect_step(&b, 0, RELEASE, 1, 0, 0, "an old one, release 1");
+    expect_step(&b, 0, RELEASE, 0, R, 0, "an old one, release 0");
+    expect_step(&b, 0, RELEASE, 1, R, 0, "an old one, release 1");
     expect_step(&b, 7, SOFT_OFF, 0, 0, 0, "an old one, soft off");
     expect_step(&b, 1, ACQUIRE, 0, E, 0, "an old one, core 1, 0E");
     expect_step(&b, 1, ACQUIRE, 1, E, 1, "an old one, core 1, 1E: 0 EN 1");
@@ -5132,13 +5653,13 @@ static void test_seen_long(void)
     open_buffers(&b, 2, 0);
     for (i = 0; i < 300; i += 2) {
         expect_step(&b, 0, ACQUIRE, 1, E, 0, "a long log, 1E");
-        expect_step(&b, 0, RELEASE, 1, 0, 0, "a long log, release 1");
+        expect_step(&b, 0, RELEASE, 1, E, 0, "a long log, release 1");
     }
     expect_step(&b, 0, ACQUIRE, 0, E, 0, "a long log, 0E");
     expect_step(&b, 0, ACQUIRE, 1, E, 0, "a long log, 1E: 0 EN 1");
     check_seen(&b, 0, 1, 302, "a long log");
     for (i = 0; i < 69700; i += 2) {
-        expect_step(&b, 0, RELEASE, 1, 0, 0, "a long log, release 1 again");
+        expect_step(&b, 0, RELEASE, 1, E, 0, "a long log, release 1 again");
         expect_step(&b, 0, ACQUIRE, 1, E, 0, "a long log, 1E again");
     }
     check_count(&b, 70002, "a long log");
@@ -5242,10 +5763,10 @@ static void test_seen_older_not_shown(void)
     log_header(&log, 8);
     log_record(&log, 0, ACQUIRE, 0, E);
     log_record(&log, 0, ACQUIRE, 2, E);
-    log_record(&log, 0, RELEASE, 2, 0);
+    log_record(&log, 0, RELEASE, 2, E);
     log_record(&log, 0, ACQUIRE, 1, E);
-    log_record(&log, 0, RELEASE, 1, 0);
-    log_record(&log, 0, RELEASE, 0, 0);
+    log_record(&log, 0, RELEASE, 1, E);
+    log_record(&log, 0, RELEASE, 0, E);
     log_record(&log, 1, ACQUIRE, 2, E);
     log_record(&log, 1, ACQUIRE, 1, E);
     log_record(&log, 1, ACQUIRE, 0, E);
@@ -5477,8 +5998,8 @@ static void test_feed_count_full(void)
     log_header(&log, 8);
     log_record(&log, 0, ACQUIRE, 1, E);
     log_record(&log, 0, ACQUIRE, 2, E);
-    log_record(&log, 0, RELEASE, 2, 0);
-    log_record(&log, 0, RELEASE, 1, 0);
+    log_record(&log, 0, RELEASE, 2, E);
+    log_record(&log, 0, RELEASE, 1, E);
     log_loose(&log, 2);
     start_feed(&f, 8, 4);
     expect_feed(&f, log.bytes, 10, 0, 1, "full count, the first record");
@@ -5524,6 +6045,7 @@ static void test_depth_limit(void)
     for (frame = 0; frame < 24; frame++) {
         for (mode = 0; mode < MODES; mode++) {
             unsigned core = frame / 3, count = 100 * (MODES * frame + mode);
+            unsigned of_5 = is_try(mode, 5) ? TRY + R : R;
 
             put_full(&b, frame, 47, mode); /* a pattern of its own */
             put_count(&b, count);
@@ -5541,16 +6063,18 @@ static void test_depth_limit(void)
             for (i = 0; i < MODES; i++)
                 expect_step(&b, core, ACQUIRE, 62, i, 8, "8 before 9");
             expect_step(&b, core, ACQUIRE, 255, mode, 4, "4 before 8 and 9");
-            expect_step(&b, core, RELEASE, 5, 0, 9, "9 for a release");
+            expect_step(&b, core, RELEASE, 5, of_5, 9, "9 for a release");
             put_count(&b, count + 50);
             put_desk(&b, CLOSED_AT, 1);
             expect_step(&b, core, ACQUIRE, 62, mode, 10, "10 before 8");
             put_desk(&b, CLOSED_AT, 0);
             expect_no_reach(&b, 62, 0, "asked with full frames");
-            expect_step(&b, core, RELEASE, 5, 0, 0, "room again");
+            expect_step(&b, core, RELEASE, 5, of_5, 0, "room again");
             expect_step(&b, core, ACQUIRE, 62, mode, 0, "the 48th again");
             expect_step(&b, core, ACQUIRE, 5, mode, 8, "the 49th again");
-            expect_step(&b, core, RELEASE, 62, 0, 0, "room at the end");
+            expect_step(&b, core, RELEASE, 62, (mode + 1) % MODES, 5,
+                        "no room by another mode");
+            expect_step(&b, core, RELEASE, 62, mode, 0, "room at the end");
             expect_step(&b, core, ACQUIRE, 62, TRY + mode % TRY, 0,
                         "the 48th by a try");
             expect_step(&b, core, ACQUIRE, 5, R, 8, "full once more");
@@ -5585,10 +6109,13 @@ static void test_depth_steps(void)
         expect_step(&b, core, ACQUIRE, 48, E, 8, "48 steps, one more");
         expect_step(&b, core, ACQUIRE, 48, TRY + R, 8, "48 steps, a try more");
         check_byte(&b, 10 + frame, 48, "48 steps, no more");
-        for (i = 48; i-- > 0;)
-            expect_step(&b, core, RELEASE, (i * 7 + 3) % 48, 0, 0,
-                        "48 steps, back");
-        expect_step(&b, core, RELEASE, 3, 0, 5, "48 steps, all released");
+        for (i = 48; i-- > 0;) {
+            unsigned class_ = (i * 7 + 3) % 48;
+
+            expect_step(&b, core, RELEASE, class_, class_ % 3 == 2 ? TRY + E
+                        : E, 0, "48 steps, back");
+        }
+        expect_step(&b, core, RELEASE, 3, E, 5, "48 steps, all released");
         free_buffers(&b);
     }
 }
@@ -5674,7 +6201,7 @@ static void test_depth_faults(void)
                     tried ? TRY + E : E);
             put_count(&b, 0x40000000);
             expect_step(&b, core, ACQUIRE, 2, TRY + E, 0, "a try draws none");
-            expect_step(&b, core, RELEASE, 2, 0, 0, "a try released");
+            expect_step(&b, core, RELEASE, 2, TRY + E, 0, "a try released");
             expect_step(&b, core, ACQUIRE, 2, E, 1, "from one place");
             memcpy(due, slip, sizeof due);
             set_low_first(due + 4, 0x40000003);
@@ -5754,15 +6281,16 @@ static void test_depth_marks(void)
             expect_step(&b, 7, ACQUIRE, 2, R, 0, "the 48th in a handler");
             check_byte(&b, MARKS_AT + 1, safe, "the 48th in a handler");
             put_desk(&b, MARKS_AT + 1, 0);
-            expect_step(&b, 7, RELEASE, 2, 0, 0, "47 in a handler");
+            expect_step(&b, 7, RELEASE, 2, R, 0, "47 in a handler");
             check_byte(&b, MARKS_AT + 1, safe, "47 in a handler");
         }
     }
     free_buffers(&b);
 }
 
-/* Of two locks of a class, at any two places, the newer is released; one alone
- * is found at every place, and none is found where there is none. */
+/* Of two locks of a class, at any two places, the newer is compared and
+ * released; one alone is found at every place, and none is found where there is
+ * none. */
 static void test_depth_newest(void)
 {
     static const unsigned frames[] = { 0, 22 };
@@ -5780,14 +6308,16 @@ static void test_depth_newest(void)
                     continue;
                 put_one(&b, frames[i], 48, newer, TRY + r);
                 put_desk(&b, at + older, 1 + 64 * (older == newer ? r : R));
-                expect_step(&b, frames[i] / 3, RELEASE, 1, 0, 0, "the newer");
+                expect_step(&b, frames[i] / 3, RELEASE, 1, R, 5, "the older");
+                expect_step(&b, frames[i] / 3, RELEASE, 1, TRY + r, 0,
+                            "the newer");
                 check_byte(&b, at + older, older != newer ? 1 + 64 * R
                            : older < 47 ? 64 * R : 0, "the older stays");
                 check_byte(&b, at + newer, newer < 47 ? 64 * R : 0,
                            "the newer goes");
-                expect_step(&b, frames[i] / 3, RELEASE, 2, 0, 5, "no lock");
+                expect_step(&b, frames[i] / 3, RELEASE, 2, R, 5, "no lock");
                 if (older == newer)
-                    expect_step(&b, frames[i] / 3, RELEASE, 1, 0, 5,
+                    expect_step(&b, frames[i] / 3, RELEASE, 1, TRY + r, 5,
                                 "no lock any more");
             }
         }
@@ -5798,10 +6328,10 @@ static void test_depth_newest(void)
 
 /* The answer to a record that is not malformed, by the copies: no fault. */
 static unsigned deep_answer(const struct buffers *b, unsigned core,
-                            unsigned kind, unsigned class_)
+                            unsigned kind, unsigned class_, unsigned mode)
 {
     const uint8_t *desk = b->want_desk.bytes;
-    unsigned frame = current_frame(desk, core), i = 0;
+    unsigned frame = current_frame(desk, core);
     unsigned depth = desk[10 + frame];
 
     if (kind >= HARD_ON)
@@ -5809,13 +6339,12 @@ static unsigned deep_answer(const struct buffers *b, unsigned core,
                : depth > 0 && (kind == EXIT_SOFT || kind == EXIT_HARD) ? 7 : 0;
     if (kind == ACQUIRE)
         return depth < 48 ? 0 : 8;
-    while (i < depth && desk[98 + 48 * frame + i] % 64 != class_)
-        i++;
-    return i < depth ? 0 : 5;
+    return newest_mode(desk, frame, class_) == mode ? 0 : 5;
 }
 
 /* Random records over deep frames, read locks and tries only: none is a fault.
- * There are times of many acquires and times of many releases. */
+ * There are times of many acquires and times of many releases; a release has
+ * the mode of any lock of the frame, or of the newest of its class. */
 static void test_depth_random(void)
 {
     static const unsigned modes[] = { R, R, TRY + r, TRY + R };
@@ -5826,20 +6355,24 @@ static void test_depth_random(void)
     open_buffers(&b, 40, 0);
     for (i = 0; i < 6000; i++) {
         unsigned core = below(3) == 0 ? 7 : 4 * below(2);
-        unsigned class_ = below(40), kind, answer;
+        unsigned class_ = below(40), mode = modes[below(4)], kind, answer;
         unsigned frame = current_frame(b.desk.bytes, core);
         unsigned depth = b.desk.bytes[10 + frame];
 
         kind = (below(6) == 0) == (i / 700 % 2 == 0) ? RELEASE : ACQUIRE;
         if (below(25) == 0 || (depth == 0 && below(4) == 0))
             kind = HARD_ON + below(8);
-        if (kind == RELEASE && depth > 0 && below(20) != 0)
-            class_ = b.desk.bytes[98 + 48 * frame + below(depth)] % 64;
-        answer = deep_answer(&b, core, kind, class_);
+        if (kind == RELEASE && depth > 0 && below(20) != 0) {
+            unsigned place = below(depth);
+
+            class_ = b.desk.bytes[98 + 48 * frame + place] % 64;
+            mode = below(3) == 0 ? mode_at(b.desk.bytes, frame, place)
+                   : newest_mode(b.desk.bytes, frame, class_);
+        }
+        answer = deep_answer(&b, core, kind, class_, mode);
         met[answer]++;
         expect_step(&b, core, kind, kind >= HARD_ON ? 0 : class_,
-                    kind == ACQUIRE ? modes[below(4)] : 0, answer,
-                    "deep and random");
+                    kind >= HARD_ON ? 0 : mode, answer, "deep and random");
     }
     for (i = 0; i < 9; i++)
         check(met[i] > 5 || (i >= 1 && i <= 4),
@@ -5867,7 +6400,7 @@ static void test_depth_fed(void)
     check_byte(&f.b, 10 + 16, 48, "fed, 48 in the handler");
     expect_end(&f, 0, 97, "fed, 48 and 48, end");
     log_record(&log, 5, ACQUIRE, 1, TRY + R);
-    log_record(&log, 5, RELEASE, 1, 0);
+    log_record(&log, 5, RELEASE, 1, R);
     expect_feed(&f, log.bytes + log.size - 12, 12, 8, 98, "fed, the 49th");
     expect_end(&f, 8, 98, "fed, the 49th, end");
     for (size = 1; size < 300; size += 37) {
@@ -5937,7 +6470,7 @@ static void test_old_lengths(void)
         put_desk(&b, 1, 0);
         put_desk(&b, 10, 1);
         put_desk(&b, 98, 3);
-        expect_step(&b, 0, RELEASE, 3, 0, 11, "an old desk, release");
+        expect_step(&b, 0, RELEASE, 3, E, 11, "an old desk, release");
         expect_no_reach(&b, 3, 11, "an old desk, a held lock, ask");
         free_buffers(&b);
     }
@@ -5962,7 +6495,7 @@ static void test_old_lengths_fed(void)
 
     log_header(&log, 8);
     log_record(&log, 0, ACQUIRE, 1, E);
-    log_record(&log, 0, RELEASE, 1, 0);
+    log_record(&log, 0, RELEASE, 1, E);
     for (i = 0; i < OLD_LENGTHS; i++) {
         start_sized(&f, 8, FEED_SIZE, old_lengths[i], 64, 256, 57);
         expect_feed(&f, log.bytes, 3, 0, 0, "an old desk, a feed");
@@ -6006,7 +6539,7 @@ static void expect_old_unfit(struct buffers *b, unsigned core, const char *what)
 {
     expect_unfit(b, what);
     expect_step(b, core, ACQUIRE, 1, R, 11, what);
-    expect_step(b, core, RELEASE, 1, 0, 11, what);
+    expect_step(b, core, RELEASE, 1, R, 11, what);
 }
 
 /* A desk of before in a longer buffer is read by the places of now. */
@@ -6058,18 +6591,18 @@ static void test_old_desks(void)
         for (i = 0; i <= place; i++)
             put_old_held(&b, 0, i, 1 + i % 7 + 64 * R, 0);
         expect_no_reach(&b, 1, 0, "core 0's task alone, ask");
-        expect_step(&b, 0, RELEASE, 0, 0, 5, "core 0's task alone, none held");
+        expect_step(&b, 0, RELEASE, 0, R, 5, "core 0's task alone, none held");
         expect_step(&b, 0, ACQUIRE, 0, R, 0, "core 0's task alone, acquire");
         check_byte(&b, 98 + place + 1, 64 * R, "core 0's task alone");
         check_byte(&b, 638, 0, "core 0's task alone, where a count was");
         check_byte(&b, 1394, 1, "core 0's task alone, the count");
-        expect_step(&b, 0, RELEASE, 1, 0, 0, "core 0's task alone, release");
+        expect_step(&b, 0, RELEASE, 1, R, 0, "core 0's task alone, release");
         free_buffers(&b);
     }
     /* A lock of class 0, exclusive, is the byte 0. */
     open_buffers(&b, 8, 0);
     put_old_held(&b, 3, 0, 0, 0);
-    expect_step(&b, 1, RELEASE, 0, 0, 0, "class 0 is read the same");
+    expect_step(&b, 1, RELEASE, 0, E, 0, "class 0 is read the same");
     free_buffers(&b);
 
     /* Behind the old desk whatever is there. */
@@ -6195,7 +6728,7 @@ static unsigned balances_due(const uint8_t *piece, size_t length,
             continue;
         if (at[3] == ACQUIRE && at[5] < MODES)
             acquires[at[4]]++;
-        if (at[3] == RELEASE && at[5] == 0)
+        if (at[3] == RELEASE && at[5] < MODES)
             releases[at[4]]++;
     }
     for (i = 0; i < CLASSES; i++)
@@ -6218,13 +6751,15 @@ static void no_records(struct log *piece)
     piece->size = 0;
 }
 
+/* Acquires and releases in all modes in turn. */
 static void add_records(struct log *piece, unsigned count, unsigned kind,
                         unsigned class_)
 {
     unsigned i;
 
     for (i = 0; i < count; i++)
-        log_record(piece, i % CORES, kind, class_, 0);
+        log_record(piece, i % CORES, kind, class_, kind <= RELEASE ? i % MODES
+                                                                   : 0);
 }
 
 /* Records that are malformed, each for another reason; all of them but those
@@ -6240,8 +6775,8 @@ static const uint8_t malformed[][RECORD_SIZE] = {
     { 0x4C, 0x4B, 0, 128, 5, 0 }, { 0x4C, 0x4B, 0, 255, 5, 0 },
     { 0x4C, 0x4B, 0, ACQUIRE, 5, 6 }, { 0x4C, 0x4B, 0, ACQUIRE, 5, 7 },
     { 0x4C, 0x4B, 0, ACQUIRE, 5, 8 }, { 0x4C, 0x4B, 0, ACQUIRE, 5, 255 },
-    { 0x4C, 0x4B, 0, RELEASE, 5, 1 }, { 0x4C, 0x4B, 0, RELEASE, 5, 3 },
-    { 0x4C, 0x4B, 0, RELEASE, 5, 5 }, { 0x4C, 0x4B, 0, RELEASE, 5, 6 },
+    { 0x4C, 0x4B, 0, RELEASE, 5, 6 }, { 0x4C, 0x4B, 0, RELEASE, 5, 7 },
+    { 0x4C, 0x4B, 0, RELEASE, 5, 8 }, { 0x4C, 0x4B, 0, RELEASE, 5, 255 },
     { 0x4C, 0x4B, 0, HARD_ON, 5, 0 }, { 0x4C, 0x4B, 0, EXIT_HARD, 5, 0 },
     { 0x4C, 0x4B, 0, HARD_OFF, 0, 1 }, { 0x4C, 0x4B, 0, ENTER_HARD, 5, 3 },
     { 0, 0, 0, 0, 0, 0 }, { 255, 255, 255, 255, 255, 255 },
@@ -6266,7 +6801,7 @@ static void test_balance_example(void)
 
     no_records(&piece);
     expect_no_balance(piece.bytes, 0, 0, "no records");
-    log_record(&piece, 0, RELEASE, 9, 0);
+    log_record(&piece, 0, RELEASE, 9, r);
     expect_one_balance(&piece, 9, -1, "a release alone");
     log_record(&piece, 1, ACQUIRE, 2, R);
     log_record(&piece, 2, ACQUIRE, 10, E);
@@ -6275,8 +6810,8 @@ static void test_balance_example(void)
     log_record(&piece, 0, ACQUIRE, 64, E);
     log_record(&piece, 0, HARD_ON, 0, 0);
     log_record(&piece, 1, ACQUIRE, 2, R);
-    log_record(&piece, 2, RELEASE, 10, 0);
-    log_record(&piece, 1, RELEASE, 2, 0);
+    log_record(&piece, 2, RELEASE, 10, E);
+    log_record(&piece, 1, RELEASE, 2, R);
     due[2] = 1;
     due[9] = -1;
     due[63] = 1;
@@ -6284,7 +6819,7 @@ static void test_balance_example(void)
     no_records(&piece);
     log_record(&piece, 0, ACQUIRE, 0, E);
     expect_one_balance(&piece, 0, 1, "an acquire alone");
-    log_record(&piece, 0, RELEASE, 0, 0);
+    log_record(&piece, 0, RELEASE, 0, E);
     expect_no_balance(piece.bytes, piece.size, 0, "an even piece");
 }
 
@@ -6299,7 +6834,7 @@ static void test_balance_written(void)
     no_records(&piece);
     add_records(&piece, 3, ACQUIRE, 7);
     log_record(&piece, 0, ACQUIRE, 8, E); /* comes out even */
-    log_record(&piece, 0, RELEASE, 8, 0);
+    log_record(&piece, 0, RELEASE, 8, E);
     add_records(&piece, MOST_RECORDS, HARD_ON, 0);
     for (fill = 0; fill < 256; fill++) {
         static const struct {
@@ -6467,7 +7002,7 @@ static void test_balance_bytes(void)
 
     for (i = 0; i < sizeof classes; i++) {
         for (kind = ACQUIRE; kind <= EXIT_HARD; kind++) {
-            for (mode = 0; mode < (kind == ACQUIRE ? 6 : 1); mode++) {
+            for (mode = 0; mode < (kind <= RELEASE ? 6 : 1); mode++) {
                 const uint8_t base[RECORD_SIZE] = {
                     0x4C, 0x4B, (uint8_t)(kind % CORES), (uint8_t)kind,
                     kind <= RELEASE ? classes[i] : 0, (uint8_t)mode };
@@ -6567,7 +7102,7 @@ static void test_balance_cores(void)
         log_record(&piece, core, ACQUIRE, 11, TRY + r);
         expect_one_balance(&piece, 11, core < 8 ? 1 : 0, "a core acquires");
         no_records(&piece);
-        log_record(&piece, core, RELEASE, 11, 0);
+        log_record(&piece, core, RELEASE, 11, TRY + R);
         expect_one_balance(&piece, 11, core < 8 ? -1 : 0, "a core releases");
     }
 }
@@ -6605,11 +7140,11 @@ static void test_balance_kinds(void)
     }
 }
 
-/* An acquire has any of six modes, a release 0. */
+/* An acquire has any of six modes, and so has a release. */
 static void test_balance_modes(void)
 {
     static struct log piece;
-    unsigned mode, class_;
+    unsigned mode, other, class_;
 
     for (mode = 0; mode < 256; mode++) {
         for (class_ = 0; class_ < CLASSES; class_ += 21) {
@@ -6619,18 +7154,58 @@ static void test_balance_modes(void)
                                "an acquire with a mode");
             no_records(&piece);
             log_record(&piece, 3, RELEASE, class_, mode);
-            expect_one_balance(&piece, class_, mode == 0 ? -1 : 0,
+            expect_one_balance(&piece, class_, mode <= 5 ? -1 : 0,
                                "a release with a mode");
         }
     }
 
-    /* A take by a try that is given back comes out even. */
+    /* Acquired and released comes out even, whether or not the modes are the
+     * same. */
+    for (mode = 0; mode < MODES; mode++) {
+        for (other = 0; other < MODES; other++) {
+            no_records(&piece);
+            log_record(&piece, 3, ACQUIRE, 8, mode);
+            log_record(&piece, 3, RELEASE, 8, other);
+            expect_no_balance(piece.bytes, piece.size, 0,
+                              "acquired and released");
+        }
+    }
+}
+
+/* Releases that fit and others count alike: of the newest lock of the class, of
+ * an older one, of one of another core, and of none. */
+static void test_balance_releases(void)
+{
+    static struct log piece;
+    int32_t due[CLASSES] = { 0 };
+    unsigned mode, i;
+
     for (mode = 0; mode < MODES; mode++) {
         no_records(&piece);
-        log_record(&piece, 3, ACQUIRE, 8, mode);
-        log_record(&piece, 3, RELEASE, 8, 0);
-        expect_no_balance(piece.bytes, piece.size, 0, "taken and given back");
+        log_record(&piece, 1, ACQUIRE, 7, E);
+        log_record(&piece, 1, ACQUIRE, 7, TRY + R);
+        log_record(&piece, 2, ACQUIRE, 7, r);
+        log_record(&piece, 1, RELEASE, 7, mode);
+        expect_one_balance(&piece, 7, 2, "a release of three");
+        log_record(&piece, 1, RELEASE, 7, mode);
+        log_record(&piece, 2, RELEASE, 7, mode);
+        log_record(&piece, 1, RELEASE, 7, mode);
+        expect_one_balance(&piece, 7, -1, "one release too many");
+        log_record(&piece, 1, RELEASE, 7, MODES);
+        log_record(&piece, 1, HARD_ON, 0, mode);
+        log_record(&piece, 1, RELEASE, 64, mode);
+        expect_one_balance(&piece, 7, -1, "and what does not count");
     }
+
+    /* Each mode on a class of its own, up to the most records. */
+    no_records(&piece);
+    for (i = 0; i < MOST_RECORDS; i++) {
+        mode = i % MODES;
+        log_record(&piece, i % CORES, i < 6000 ? RELEASE : ACQUIRE, 10 + mode,
+                   i < 6000 ? mode : TRY - mode % TRY);
+        due[10 + mode] += i < 6000 ? -1 : 1;
+    }
+    expect_balances(piece.bytes, piece.size, 0, due, "each mode, the most");
 }
 
 /* 64 classes, each for itself; from 64 on they count for nothing. */
@@ -6648,7 +7223,7 @@ static void test_balance_classes(void)
         expect_one_balance(&piece, at, class_ < CLASSES ? 1 : 0,
                            "a class acquired");
         no_records(&piece);
-        log_record(&piece, 1, RELEASE, class_, 0);
+        log_record(&piece, 1, RELEASE, class_, TRY + r);
         expect_one_balance(&piece, at, class_ < CLASSES ? -1 : 0,
                            "a class released");
     }
@@ -6669,9 +7244,9 @@ static void test_balance_classes(void)
     for (class_ = CLASSES; class_ < 256; class_++) {
         no_records(&piece);
         log_record(&piece, 1, ACQUIRE, class_, E);
-        log_record(&piece, 1, RELEASE, 3, 0);
-        log_record(&piece, 1, RELEASE, class_, 0);
-        log_record(&piece, 1, RELEASE, 3, 0);
+        log_record(&piece, 1, RELEASE, 3, E);
+        log_record(&piece, 1, RELEASE, class_, R);
+        log_record(&piece, 1, RELEASE, 3, TRY + E);
         expect_one_balance(&piece, 3, -2, "behind classes from 64 on");
     }
 }
@@ -6700,7 +7275,7 @@ static void test_balance_malformed(void)
                         continue;
                     }
                     log_record(&piece, i, i % 3 == 2 ? RELEASE : ACQUIRE,
-                               2 + i, 0);
+                               2 + i, (sort + i) % MODES);
                     due[2 + i] = i % 3 == 2 ? -1 : 1;
                 }
                 expect_balances(piece.bytes, piece.size, 0, due,
@@ -6730,7 +7305,7 @@ static void test_balance_malformed_long(void)
         no_records(&piece);
         for (j = 0; j < before; j++)
             add_malformed(&piece, j % SORTS);
-        log_record(&piece, 7, RELEASE, 62, 0);
+        log_record(&piece, 7, RELEASE, 62, R);
         for (j = 0; j < behind; j++)
             add_malformed(&piece, j % SORTS);
         expect_one_balance(&piece, 62, -1, "many malformed");
@@ -6819,15 +7394,15 @@ static void test_balance_order(void)
     /* Two classes against each other, one record in turn. */
     no_records(&piece);
     for (j = 0; j < 5000; j++) {
-        log_record(&piece, 0, RELEASE, 12, 0);
+        log_record(&piece, 0, RELEASE, 12, j % MODES);
         log_record(&piece, 1, ACQUIRE, 13, E);
     }
     expect_by_rule(piece.bytes, piece.size, "two classes in turn");
     no_records(&piece);
     for (j = 0; j < 3000; j++) {
-        log_record(&piece, 0, RELEASE, 12, 0);
+        log_record(&piece, 0, RELEASE, 12, E);
         log_record(&piece, 1, ACQUIRE, 12, E);
-        log_record(&piece, 2, RELEASE, 12, 0);
+        log_record(&piece, 2, RELEASE, 12, r);
     }
     expect_one_balance(&piece, 12, -3000, "back and forth");
 }
@@ -6849,12 +7424,20 @@ static void test_balance_not_accepted(void)
     expect_one_balance(&piece, 4, 300, "a frame that is long full");
 
     no_records(&piece); /* 5: not held, by nobody, elsewhere, in a handler */
-    log_record(&piece, 0, RELEASE, 3, 0);
+    log_record(&piece, 0, RELEASE, 3, E);
     log_record(&piece, 0, ACQUIRE, 3, E);
-    log_record(&piece, 1, RELEASE, 3, 0);
+    log_record(&piece, 1, RELEASE, 3, E);
     log_record(&piece, 0, ENTER_HARD, 0, 0);
-    log_record(&piece, 0, RELEASE, 3, 0);
+    log_record(&piece, 0, RELEASE, 3, E);
     expect_one_balance(&piece, 3, -2, "releases of what is not held");
+
+    no_records(&piece); /* 5: the newest is held in another mode */
+    log_record(&piece, 0, ACQUIRE, 3, E);
+    log_record(&piece, 0, ACQUIRE, 3, TRY + R);
+    log_record(&piece, 0, RELEASE, 3, E);
+    log_record(&piece, 0, RELEASE, 3, R);
+    log_record(&piece, 0, RELEASE, 3, TRY + E);
+    expect_one_balance(&piece, 3, -1, "releases in another mode");
 
     no_records(&piece); /* 6 */
     log_record(&piece, 0, EXIT_HARD, 0, 0);
@@ -6875,8 +7458,8 @@ static void test_balance_not_accepted(void)
     log_record(&piece, 0, ACQUIRE, 61, E);
     log_record(&piece, 1, ACQUIRE, 61, E);
     log_record(&piece, 1, ACQUIRE, 60, E);
-    log_record(&piece, 1, RELEASE, 61, 0);
-    log_record(&piece, 0, RELEASE, 61, 0);
+    log_record(&piece, 1, RELEASE, 61, E);
+    log_record(&piece, 0, RELEASE, 61, E);
     log_record(&piece, 0, ACQUIRE, 60, E);
     expect_one_balance(&piece, 60, 3, "behind a fault");
 
@@ -6892,9 +7475,11 @@ static void add_random_record(struct log *piece, unsigned classes)
     switch (below(8)) {
     case 0: add_malformed(piece, below(SORTS)); break;
     case 1: log_record(piece, below(9), below(11), below(2), below(2)); break;
-    case 2: log_record(piece, below(CORES), ACQUIRE, class_, below(8)); break;
+    case 2: log_record(piece, below(CORES), kind, class_, below(8)); break;
     case 3: log_record(piece, below(CORES), kind, below(256), 0); break;
-    default: log_record(piece, below(CORES), kind, class_, 0); break;
+    default:
+        log_record(piece, below(CORES), kind, class_, below(MODES));
+        break;
     }
 }
 
@@ -7108,6 +7693,9 @@ static const struct test tests[] = {
     TEST(try_dependencies), TEST(try_crosswise), TEST(try_marks),
     TEST(try_in_handlers), TEST(try_over_hard_on), TEST(try_same_class),
     TEST(try_other_frame), TEST(try_release), TEST(try_full),
+    TEST(release_table), TEST(release_modes), TEST(release_pairs),
+    TEST(release_classes), TEST(release_frames), TEST(release_from_top),
+    TEST(release_places), TEST(release_every_mode), TEST(release_fault),
     TEST(unfit_lengths), TEST(short_buffers), TEST(old_slip), TEST(unfit_heads),
     TEST(unfit_held), TEST(unfit_origins), TEST(unfit_frames),
     TEST(unfit_marks), TEST(fullest), TEST(unfit_sheet),
@@ -7118,7 +7706,7 @@ static const struct test tests[] = {
     TEST(feed_end_loose), TEST(feed_end_order), TEST(feed_not_looked_at),
     TEST(feed_short), TEST(feed_unfit), TEST(feed_fit), TEST(feed_by_hand),
     TEST(feed_number), TEST(feed_lengths), TEST(feed_classes),
-    TEST(feed_other_writer),
+    TEST(feed_other_writer), TEST(feed_releases),
     TEST(shown_by_hand), TEST(shown_kinds), TEST(shown_sources),
     TEST(shown_ring), TEST(shown_ties), TEST(shown_by_any_record),
     TEST(shown_in_logs), TEST(shown_all_tried), TEST(shown_layers),
@@ -7139,7 +7727,7 @@ static const struct test tests[] = {
     TEST(balance_longer), TEST(balance_huge), TEST(balance_header),
     TEST(balance_bytes), TEST(balance_pairs), TEST(balance_as_step),
     TEST(balance_cores), TEST(balance_kinds), TEST(balance_modes),
-    TEST(balance_classes), TEST(balance_malformed),
+    TEST(balance_releases), TEST(balance_classes), TEST(balance_malformed),
     TEST(balance_malformed_long), TEST(balance_numbers), TEST(balance_most),
     TEST(balance_order), TEST(balance_not_accepted), TEST(balance_random),
     TEST(balance_joined), TEST(balance_again), TEST(balance_places),

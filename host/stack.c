@@ -441,15 +441,19 @@ static void put_full_frames(struct input *in)
     }
 }
 
-/* All full, core 0's task too: its oldest lock, of the last class, is released,
- * which moves 47 and their origin bits; or hard interrupts come on, which marks
- * 48. */
+/* All full, core 0's task too: its oldest lock, of the last class and by a try,
+ * is released, which moves 47 and their origin bits; or hard interrupts come
+ * on, which marks 48. Where K is 1 all are of the last class, and the newest,
+ * which is by no try, is released. */
 static void put_fullest(struct input *in, unsigned kind)
 {
-    const uint8_t record[] = { 0x4C, 0x4B, 0, (uint8_t)kind,
-                               (uint8_t)(kind == PLUNGEROWL_RELEASE ? in->k - 1
-                                                                    : 0), 0 };
+    uint8_t record[] = { 0x4C, 0x4B, 0, (uint8_t)kind, 0, 0 };
 
+    if (kind == PLUNGEROWL_RELEASE) {
+        record[4] = (uint8_t)(in->k - 1);
+        record[5] = in->k == 1 ? PLUNGEROWL_RECURSIVE_READ
+                               : PLUNGEROWL_TRY_RECURSIVE_READ;
+    }
     put_full_frames(in);
     memcpy(in->record, record, sizeof record);
     in->desk[PLUNGEROWL_DEPTHS_AT] = PLUNGEROWL_MAX_DEPTH;
@@ -555,8 +559,8 @@ static void put_random(struct input *in)
         put_fullest(in, PLUNGEROWL_RELEASE + below(2));
 }
 
-/* Records of all kinds, every fourth of any bytes: each input balances the
- * first so many of them. */
+/* Acquires and releases in all modes and hard ons, every fourth of any bytes:
+ * each input balances the first so many of them. */
 static void make_piece(void)
 {
     size_t at;
@@ -570,7 +574,9 @@ static void make_piece(void)
         piece[at + 2] = (uint8_t)below(any ? 256 : PLUNGEROWL_CORES);
         piece[at + 3] = (uint8_t)below(any ? 256 : 3);
         piece[at + 4] = (uint8_t)below(any ? 256 : PLUNGEROWL_MAX_CLASSES);
-        piece[at + 5] = (uint8_t)(any ? below(256) : 0);
+        piece[at + 5] = (uint8_t)(any ? below(256)
+                                  : piece[at + 3] <= PLUNGEROWL_RELEASE
+                                  ? below(2 * PLUNGEROWL_TRY_EXCLUSIVE) : 0);
     }
 }
 

@@ -142,7 +142,7 @@ extern "C" {
 #define PLUNGEROWL_STACK_FEED_START 16
 #define PLUNGEROWL_STACK_FEED 13312
 #define PLUNGEROWL_STACK_FEED_END 4096
-#define PLUNGEROWL_STACK_BALANCE 32
+#define PLUNGEROWL_STACK_BALANCE 16
 
 /*
  * Answers. "frame" is the current frame of the core named by the record.
@@ -169,7 +169,8 @@ enum plungerowl_answer {
     PLUNGEROWL_BAD_RECORD = 3,
     /* step: acquire or release of class K or more; ask: class K or more */
     PLUNGEROWL_BAD_CLASS = 4,
-    /* step: release of a class not held in the frame */
+    /* step: release, but the frame's newest held lock of the class was acquired
+     * in another mode, or there is none */
     PLUNGEROWL_NOT_HELD = 5,
     /* step: interrupt event that the core's state does not allow */
     PLUNGEROWL_BAD_EVENT = 6,
@@ -206,10 +207,10 @@ enum plungerowl_kind {
 };
 
 /*
- * Modes of an acquire (byte 5 of a record). Those with TRY are successful
- * tries: such an acquire did not wait, and once held it is a lock of the mode
- * of that name without TRY. A try that failed is not in a log. Every release,
- * also of a try, has 0.
+ * Modes of an acquire and of the release that ends it (byte 5 of a record).
+ * Those with TRY are successful tries: such an acquire did not wait, and once
+ * held it is a lock of the mode of that name without TRY; its release has the
+ * mode with TRY. A try that failed is not in a log. Other kinds have 0.
  */
 enum plungerowl_mode {
     PLUNGEROWL_EXCLUSIVE = 0,

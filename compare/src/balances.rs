@@ -87,8 +87,8 @@ pub const WAYS: [&str; 12] = [
     "a core over 8",
     "mode 6 of an acquire",
     "a mode over 6 of an acquire",
-    "a release's mode up to 5",
-    "a release's mode over 5",
+    "mode 6 of a release",
+    "a mode over 6 of a release",
     "kind 10",
     "a kind over 10",
     "the class of an event",
@@ -107,8 +107,8 @@ fn wrong_by(six: &[u8]) -> impl Iterator<Item = usize> {
         core > 8,
         acquire && mode == 6,
         acquire && mode > 6,
-        release && (1..6).contains(&mode),
-        release && mode > 5,
+        release && mode == 6,
+        release && mode > 6,
         kind == 10,
         kind > 10,
         event && class != 0,
@@ -124,9 +124,9 @@ pub struct Tally {
     /// Records malformed in one way alone that would otherwise count for a class under 64, or be events or other kinds.
     pub only_by: [usize; WAYS.len()],
     pub malformed: usize,
-    /// Acquires by their modes, releases, and events by their kinds.
+    /// Acquires and releases by their modes, and events by their kinds.
     pub acquires: [usize; 6],
-    pub releases: usize,
+    pub releases: [usize; 6],
     pub events: [usize; 10],
     /// Acquires and releases by class, 64 and above too.
     pub classes: Vec<usize>,
@@ -141,14 +141,19 @@ pub struct Tally {
     /// The balances, and how far they were below 0 on the way.
     pub balances: Vec<i32>,
     pub lowest: Vec<i32>,
-    /// Whether a class is acquired by one core and released by another alone.
+    /// Whether a class that is acquired before is released by a core that has not acquired it, and in a mode in which it has not
+    /// been.
     pub other_core: bool,
+    pub other_mode: bool,
+    /// How often the class is acquired that is acquired most often.
+    pub most: usize,
 }
 
 impl Tally {
     pub fn of(piece: &[u8]) -> Tally {
         let mut t = Tally { classes: vec![0; 256], balances: vec![0; 256], lowest: vec![0; 256], ..Tally::default() };
-        let (mut acquired, mut released) = (vec![0u8; 256], vec![0u8; 256]);
+        // By class: the cores and the modes of the acquires so far, and their number.
+        let (mut acquired, mut acquires) = ([[0u8; 2]; 64], [0; 64]);
         let mut malformed_before = false;
         let pieces = piece.chunks_exact(6);
         t.records = pieces.len();
@@ -165,7 +170,7 @@ impl Tally {
                 t.cores[usize::from(core)] += usize::from(counts);
                 match kind {
                     0 => t.acquires[usize::from(mode)] += usize::from(counts),
-                    1 => t.releases += usize::from(counts),
+                    1 => t.releases[usize::from(mode)] += usize::from(counts),
                     _ => t.events[usize::from(kind)] += 1,
                 }
             }
@@ -173,7 +178,16 @@ impl Tally {
                 t.classes[class] += 1;
                 t.balances[class] += 1 - 2 * i32::from(kind);
                 t.lowest[class] = t.lowest[class].min(t.balances[class]);
-                [&mut acquired, &mut released][usize::from(kind)][class] |= 1 << core;
+            }
+            if counts {
+                let [cores, modes] = &mut acquired[class];
+                if kind == 0 {
+                    (*cores, *modes) = (*cores | 1 << core, *modes | 1 << mode);
+                    acquires[class] += 1;
+                } else {
+                    t.other_core |= *cores != 0 && *cores >> core & 1 == 0;
+                    t.other_mode |= *modes != 0 && *modes >> mode & 1 == 0;
+                }
             }
             t.right_behind |= counts && malformed_before;
             t.behind |= counts && t.malformed > 0;
@@ -181,7 +195,7 @@ impl Tally {
             t.last = counts;
             malformed_before = way.is_some();
         }
-        t.other_core = (0..64).any(|class| acquired[class] != 0 && released[class] & !acquired[class] != 0);
+        t.most = acquires.into_iter().max().unwrap_or(0);
         t
     }
     pub fn counted(&self) -> usize {
@@ -239,12 +253,10 @@ fn malformed_by(rng: &mut Rng, way: usize, class: u8) -> Rec {
         _ => rng.under(2) as u8,
     };
     let mode = match way {
-        4 => 6,
-        5 => rng.pick(&[7, 8, 9, 16, 64, 67, 128, 131, 255]),
-        6 => rng.between(1, 5) as u8,
-        7 => rng.pick(&[6, 7, 8, 64, 128, 255]),
+        4 | 6 => 6,
+        5 | 7 => rng.pick(&[7, 8, 9, 16, 64, 67, 128, 131, 255]),
         11 => rng.pick(&[1, 2, 3, 5, 6, 255]),
-        _ if kind == 0 => rng.under(6) as u8,
+        _ if kind < 2 => rng.under(6) as u8,
         _ => 0,
     };
     let class = match way {
@@ -273,10 +285,8 @@ fn any_record(rng: &mut Rng, mix: &Mix) -> Rec {
     if rng.mille(mix.events) {
         return Rec::new(core, rng.between(2, 9) as u8, 0, 0);
     }
-    if rng.mille(mix.acquires) {
-        return Rec::new(core, 0, class, rng.under(6) as u8);
-    }
-    Rec::new(core, 1, class, 0)
+    let kind = u8::from(!rng.mille(mix.acquires));
+    Rec::new(core, kind, class, rng.under(6) as u8)
 }
 
 fn piece_of(rng: &mut Rng, mix: &Mix, records: usize) -> Vec<u8> {
@@ -406,7 +416,7 @@ fn long(rng: &mut Rng) -> Case {
     let turn = rng.under(12);
     // One class, all acquires or all releases, or any.
     let mut piece = if rng.mille(700) {
-        let record = Rec::new(rng.under(8) as u8, rng.under(2) as u8, rng.pick(&[0, 31, 63]), 0);
+        let record = Rec::new(rng.under(8) as u8, rng.under(2) as u8, rng.pick(&[0, 31, 63]), rng.under(6) as u8);
         record.slice().repeat(records)
     } else {
         let malformed = rng.pick(&[0, 10, 500]);
@@ -550,26 +560,33 @@ pub const EACH_CUT: &str = "each cut of a log as a piece";
 pub const HAND_LOGS: &str = "hand logs and their balances";
 
 /// Worked out by hand: the records as in gen::read, and the lines that the program of 02 f prints.
-const HAND_PIECES: [(&str, &[(usize, i32)]); 22] = [
+const HAND_PIECES: [(&str, &[(usize, i32)]); 28] = [
     ("", &[]),
     ("0:9E", &[(9, 1)]),
     // The take may be before the piece.
-    ("0:-9", &[(9, -1)]),
-    ("0:9E -9", &[]),
-    ("0:-9 9E", &[]),
-    ("0:-9 -9 9E", &[(9, -1)]),
+    ("0:-9E", &[(9, -1)]),
+    ("0:9E -9E", &[]),
+    ("0:-9E 9E", &[]),
+    ("0:-9E -9E 9E", &[(9, -1)]),
     ("0:9E 9r 9R", &[(9, 3)]),
     ("0:t9E t9r t9R", &[(9, 3)]),
-    ("0:9E t9E 9r t9r 9R t9R -9", &[(9, 5)]),
+    ("0:9E t9E 9r t9r 9R t9R -t9R", &[(9, 5)]),
+    // Released in whichever mode.
+    ("0:-9r -9R", &[(9, -2)]),
+    ("0:-t9E -t9r -t9R", &[(9, -3)]),
+    ("0:9E -t9R", &[]),
+    ("0:t9R 9r -9E -9E -9R", &[(9, -1)]),
+    ("0:-? -9r", &[(9, -1)]),
+    ("0:9E -? -9R -?", &[]),
     // Of whichever cores.
-    ("0:9E 1:9E 7:-9", &[(9, 1)]),
-    ("0:9E 1:-9", &[]),
-    ("3:0E 63r -1 -62", &[(0, 1), (1, -1), (62, -1), (63, 1)]),
+    ("0:9E 1:9E 7:-9E", &[(9, 1)]),
+    ("0:9E 1:-9E", &[]),
+    ("3:0E 63r -1E -62E", &[(0, 1), (1, -1), (62, -1), (63, 1)]),
     ("0:63E 64E 127E 128E 255E", &[(63, 1)]),
-    ("0:-63 -64 -127 -128 -255", &[(63, -1)]),
+    ("0:-63r -64E -127R -t128E -t255R", &[(63, -1)]),
     // Events, also such as no desk allows.
     ("0:h- h+ s- s+ S+ S- H+ H-", &[]),
-    ("0:H- S- 4E S- -5 H-", &[(4, 1), (5, -1)]),
+    ("0:H- S- 4E S- -5E H-", &[(4, 1), (5, -1)]),
     ("0:1E ? 2E", &[(1, 1), (2, 1)]),
     ("? ? 2E ?", &[(2, 1)]),
     ("? ?", &[]),
@@ -579,9 +596,9 @@ const HAND_PIECES: [(&str, &[(usize, i32)]); 22] = [
          5R 5R 5R 5R 5R 5R 5R 5R 5R 5R",
         &[(5, 50)],
     ),
-    ("0:1E H+ -1", &[]),
+    ("0:1E H+ -1E", &[]),
     // After a fault.
-    ("0:1E 2E -2 -1 1:2E 1E 3E 4E -4", &[(1, 1), (2, 1), (3, 1)]),
+    ("0:1E 2E -2E -1E 1:2E 1E 3E 4E -4E", &[(1, 1), (2, 1), (3, 1)]),
 ];
 
 fn by_hand(_: &mut Rng, each: &mut dyn FnMut(Case) -> bool) -> bool {
@@ -604,26 +621,26 @@ fn lengths() -> impl Iterator<Item = usize> {
 fn each_length(rng: &mut Rng, each: &mut dyn FnMut(Case) -> bool) -> bool {
     let mix = Mix { classes: (0..=255).collect(), acquires: 600, events: 100, malformed: 100 };
     let any = piece_of(rng, &mix, 2000);
-    let full = [bytes_of(&[Rec::new(1, 0, 5, 3)]), bytes_of(&[Rec::new(7, 1, 63, 0)]), any, vec![0]];
+    let full = [bytes_of(&[Rec::new(1, 0, 5, 3)]), bytes_of(&[Rec::new(7, 1, 63, 4)]), any, vec![0]];
     let all = lengths().flat_map(|length| full.iter().map(move |with| (length, with)));
     all.map(|(length, with)| with.iter().copied().cycle().take(length).collect()).all(|piece| each(balances(vec![piece])))
 }
 
 /// Each byte of a record of each kind with each value, between two that count.
 fn each_byte(_: &mut Rng, each: &mut dyn FnMut(Case) -> bool) -> bool {
-    let (before, behind) = (Rec::new(3, 0, 20, 4), Rec::new(4, 1, 40, 0));
+    let (before, behind) = (Rec::new(3, 0, 20, 4), Rec::new(4, 1, 40, 5));
     let bytes = (0..=10).flat_map(|kind| (0..6).map(move |at| (kind, at)));
     let mut all = bytes.flat_map(|(kind, at)| (0..=255).map(move |value| (kind, at, value)));
     all.all(|(kind, at, value)| {
-        let mut record = Rec::new(5, kind, if kind < 2 { 30 } else { 0 }, if kind == 0 { 2 } else { 0 });
+        let mut record = Rec::new(5, kind, if kind < 2 { 30 } else { 0 }, if kind < 2 { 2 } else { 0 });
         record.bytes[at] = value;
         each(balances(vec![bytes_of(&[before, record, behind])]))
     })
 }
 
 fn each_class(_: &mut Rng, each: &mut dyn FnMut(Case) -> bool) -> bool {
-    let sorts = [(0, 0), (0, 1), (0, 2), (0, 3), (0, 4), (0, 5), (0, 6), (1, 0), (1, 1)];
-    let mut all = (0..=255).flat_map(|class| sorts.map(|(kind, mode)| (class, kind, mode)));
+    let sorts = || [0, 1].into_iter().flat_map(|kind| (0..7).map(move |mode| (kind, mode)));
+    let mut all = (0..=255).flat_map(|class| sorts().map(move |(kind, mode)| (class, kind, mode)));
     all.all(|(class, kind, mode)| each(balances(vec![bytes_of(&[Rec::new(0, kind, class, mode)])])))
 }
 
@@ -639,14 +656,14 @@ fn many(_: &mut Rng, each: &mut dyn FnMut(Case) -> bool) -> bool {
         let mut balance = [0; 64];
         balance[class] = if kind == 0 { n } else { -n };
         let meant = Meant { answers: vec![0], balances: Some(balance), ..Meant::default() };
-        let piece = Rec::new(0, kind, class as u8, 0).slice().repeat(n as usize);
+        let piece = Rec::new(0, kind, class as u8, (n % 6) as u8).slice().repeat(n as usize);
         each(Case { meant: Some(meant), ..balances(vec![piece]) })
     })
 }
 
 /// Malformed in each way at each place of six records that count, and at two of them.
 fn each_place(rng: &mut Rng, each: &mut dyn FnMut(Case) -> bool) -> bool {
-    let good: Vec<Rec> = (0..6u8).map(|i| Rec::new(i, i % 2, 10 * i, 0)).collect();
+    let good: Vec<Rec> = (0..6u8).map(|i| Rec::new(i, i % 2, 10 * i, i)).collect();
     let places = (0..6).flat_map(|a| (a..6).map(move |b| [a, b]));
     let mut all = places.flat_map(|places| (0..WAYS.len()).map(move |way| (places, way)));
     all.all(|(places, way)| {
@@ -661,7 +678,7 @@ fn each_place(rng: &mut Rng, each: &mut dyn FnMut(Case) -> bool) -> bool {
 /// Of 10,000 records one that counts, the others malformed or events; and the other way round.
 fn alone(_: &mut Rng, each: &mut dyn FnMut(Case) -> bool) -> bool {
     let places = [0, 1, 255, 256, 682, 683, 1365, 2730, 4095, 4096, 5000, 5461, 8191, 8192, 9998, 9999];
-    let two = [(Rec::new(2, 0, 63, 5), Rec::new(2, 0, 63, 6)), (Rec::new(2, 1, 7, 0), Rec::new(2, 9, 0, 0))];
+    let two = [(Rec::new(2, 0, 63, 5), Rec::new(2, 0, 63, 6)), (Rec::new(2, 1, 7, 5), Rec::new(2, 9, 0, 0))];
     let mut all = places.into_iter().flat_map(|place| two.into_iter().flat_map(move |(a, b)| [(place, a, b), (place, b, a)]));
     all.all(|(place, one, others)| {
         let mut records = vec![others; 10_000];
@@ -672,7 +689,7 @@ fn alone(_: &mut Rng, each: &mut dyn FnMut(Case) -> bool) -> bool {
 
 /// A header before records, or among them: 14 for its four bytes; with two more it is a malformed record.
 fn headers(_: &mut Rng, each: &mut dyn FnMut(Case) -> bool) -> bool {
-    let good = [Rec::new(0, 0, 3, 0), Rec::new(1, 0, 4, 1), Rec::new(2, 1, 5, 0)];
+    let good = [Rec::new(0, 0, 3, 0), Rec::new(1, 0, 4, 1), Rec::new(2, 1, 5, 2)];
     let all = [0, 1, 8, 64, 65, 255].into_iter().flat_map(|k| (0..=3).map(move |records| (k, records)));
     let mut all = all.flat_map(|(k, records)| [(0, false), (0, true), (2, false), (2, true)].map(|more| (k, records, more)));
     all.all(|(k, records, (more, behind))| {
@@ -685,7 +702,7 @@ fn headers(_: &mut Rng, each: &mut dyn FnMut(Case) -> bool) -> bool {
 
 /// Of a log with its header all that lies between two bytes of it.
 fn each_cut(_: &mut Rng, each: &mut dyn FnMut(Case) -> bool) -> bool {
-    let log = feeds::log_of(8, &read("0:1E 2r -2 t3R 1:-1 h- 7E ? -9"));
+    let log = feeds::log_of(8, &read("0:1E 2r -2r t3R 1:-1E h- 7E ? -t9r"));
     let mut all = (0..=log.len()).flat_map(|a| (a..=log.len()).map(move |b| (a, b)));
     all.all(|(a, b)| each(balances(vec![log[a..b].to_vec()])))
 }
@@ -694,7 +711,7 @@ fn each_cut(_: &mut Rng, each: &mut dyn FnMut(Case) -> bool) -> bool {
 fn of_hand_logs(rng: &mut Rng, each: &mut dyn FnMut(Case) -> bool) -> bool {
     hand_logs().into_iter().all(|log| {
         let mut records = log.records;
-        records.extend([Rec::new(0, 1, 62, 0), Rec::new(0, 0, 61, 3), Rec::new(0, 9, 0, 0), Rec::new(0, 1, 0, 0)]);
+        records.extend([Rec::new(0, 1, 62, 4), Rec::new(0, 0, 61, 3), Rec::new(0, 9, 0, 0), Rec::new(0, 1, 0, 5)]);
         let steps = (0..records.len()).flat_map(|at| [Call::Balance(bytes_of(&records[..at])), Call::Step(records[at])]);
         let end = Call::Balance(bytes_of(&records));
         let calls = [Call::Open(log.k as u64)].into_iter().chain(steps).chain([end]).collect();

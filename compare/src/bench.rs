@@ -20,6 +20,7 @@ type AskFn = fn(&[u8], &[u8], &[u8], u64, &mut u64, &mut u32) -> u8;
 
 const ROUNDS: usize = 15;
 const DEEP: &str = "step that fills a frame, or makes room";
+const BY_TRY: &str = "step by a try of a recursive read";
 
 /// A clean drawing: arrows only upwards, unsafe marks below and safe marks above.
 /// Sparse: each class to the next, no marks. Dense: each class to all higher ones by
@@ -285,10 +286,11 @@ fn row(name: &str, (lib, quick): (f64, f64), calls: usize) {
 pub fn run() -> bool {
     let mut well = true;
     println!("{:54} {:>9} {:>9} {:>7} {:>12} {:>12}", "", "lib us", "fast us", "lib/fast", "lib /s", "fast /s");
-    // A take and a release in turn, so that the desk comes back to where it was.
-    for (k, what) in [(8usize, "step"), (16, "step"), (64, "step"), (8, DEEP), (64, DEEP)] {
+    // An acquire and a release in turn, so that the desk comes back to where it was.
+    for (k, what) in [(8usize, "step"), (16, "step"), (64, "step"), (8, DEEP), (64, DEEP), (8, BY_TRY), (64, BY_TRY)] {
         for dense in [false, true] {
-            let pair = [Rec::new(0, 0, k as u8 - 1, 0), Rec::new(0, 1, k as u8 - 1, 0)];
+            let mode = if what == BY_TRY { 5 } else { 0 };
+            let pair = [0, 1].map(|kind| Rec::new(0, kind, k as u8 - 1, mode));
             let n = 20_000;
             let mut results = [0u64; 2];
             let time = |step: StepFn, result: &mut u64| {

@@ -69,6 +69,20 @@ fn of_one(s: &Sketch) -> Option<Vec<u8>> {
 
 // --------------------------------------------------------------------- records
 
+/// The marks that a lock acquired in this mode gives its class in a state.
+pub fn marks_of(state: u8, mode: u8) -> u8 {
+    let safe = if mode >= 3 { 0 } else if mode == 2 { 2 } else { 1 };
+    let is_unsafe = if mode % 3 == 0 { 4 } else { 8 };
+    match state {
+        0 => 17 * is_unsafe,
+        1 => is_unsafe,
+        4 => 16 * safe | is_unsafe,
+        5 => 16 * safe,
+        6..9 => safe,
+        _ => 0,
+    }
+}
+
 /// How a record marks a class: a core in this state acquires it in this mode; or holds it so when, of two locks of the
 /// class, the newest is released; or when an event comes.
 #[derive(Clone, Copy)]
@@ -96,16 +110,7 @@ impl Way {
         if self.kind > 0 && !may_hold(self.state, self.frame()) {
             return 0;
         }
-        let safe = if self.mode >= 3 { 0 } else if self.mode == 2 { 2 } else { 1 };
-        let is_unsafe = if self.mode % 3 == 0 { 4 } else { 8 };
-        match state {
-            0 => 17 * is_unsafe,
-            1 => is_unsafe,
-            4 => 16 * safe | is_unsafe,
-            5 => 16 * safe,
-            6..9 => safe,
-            _ => 0,
-        }
+        marks_of(state, self.mode)
     }
     /// The record on a core, and what it needs on the desk.
     fn record(self, core: usize, class: usize, desk: &mut [u8]) -> Rec {
@@ -117,8 +122,9 @@ impl Way {
         push(desk, frame, class + 64 * (self.mode % 3), self.mode >= 3);
         if self.kind == 1 {
             push(desk, frame, class + 64 * 2, false);
+            return Rec::new(named, 1, class, 2);
         }
-        Rec::new(named, self.kind, if self.kind == 1 { class } else { 0 }, 0)
+        Rec::new(named, self.kind, 0, 0)
     }
 }
 
@@ -152,7 +158,7 @@ fn nothing(turn: usize, k: usize, desk: &mut [u8]) -> Rec {
         4 => Rec::new(named, 0, class, 3 + mode),
         _ => {
             push(desk, 3 * core, class + 64 * mode, false);
-            Rec::new(named, 1, class, 0)
+            Rec::new(named, 1, class, mode)
         }
     }
 }
@@ -163,7 +169,11 @@ pub fn refused(answer: u8, core: usize, desk: &mut [u8]) -> Rec {
     match answer {
         3 => Rec::new(named, 0, 0, 6),
         4 => Rec::new(named, 0, desk[0], 0),
-        5 => Rec::new(named, 1, 0, 0),
+        5 => {
+            // By its origin alone.
+            push(desk, 3 * core, 2 * 64, true);
+            Rec::new(named, 1, 0, 2)
+        }
         6 => Rec::new(named, 9, 0, 0),
         7 => {
             desk[STATES + core] = 6;
@@ -286,8 +296,9 @@ fn log(rng: &mut Rng) -> Case {
         if !up {
             two.reverse();
         }
-        log.extend(two.map(|class| Rec::new(0, 0, class as u8, rng.under(3) as u8)));
-        log.extend([two[1], two[0]].map(|class| Rec::new(0, 1, class as u8, 0)));
+        let two = two.map(|class| (class as u8, rng.under(3) as u8));
+        log.extend(two.map(|(class, mode)| Rec::new(0, 0, class, mode)));
+        log.extend([two[1], two[0]].map(|(class, mode)| Rec::new(0, 1, class, mode)));
     }
     let mut acquire = |core: u8, state: u8, mode: u8| {
         log.extend(INTO[usize::from(state)].iter().map(|&kind| Rec::new(core, kind, 0, 0)));

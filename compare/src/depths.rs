@@ -3,7 +3,8 @@
 
 use crate::drawing::{FRAME, NEXT, X};
 use crate::gen::{
-    any_buffers, any_class, any_style, case, damaged, hold_at, may_hold, origin_at, push, steps, Buffers, Kind, Style,
+    any_buffers, any_class, any_release, any_style, case, damaged, hold_at, may_hold, origin_at, push, release, steps, Buffers,
+    Kind, Style,
 };
 use crate::numbers;
 use crate::older;
@@ -146,7 +147,7 @@ fn on_desk(rng: &mut Rng) -> Case {
             }
             4..8 if depth > 0 => {
                 let place = any_place(rng, 0, depth);
-                Rec::new(core as u8, 1, shadow.desk[hold_at(frame, place)] % 64, 0)
+                any_release(rng, &shadow.desk, frame, shadow.desk[hold_at(frame, place)] % 64, 150)
             }
             8 => damaged(rng, k),
             _ => {
@@ -194,14 +195,15 @@ fn filled(_: &mut Rng, each: &mut dyn FnMut(Case) -> bool) -> bool {
         let mut calls = vec![Call::Open(K as u64)];
         calls.extend(into.map(|kind| Call::Step(Rec::new(core, kind, 0, 0))));
         let mut answers = vec![0; calls.len()];
+        // Recursive reads where they wait: whatever is drawn is clean.
+        let is_try = |at: usize| how == 1 || how == 2 && (at * at + frame) % 3 == 0;
+        let mode = |at: usize| if is_try(at) { 3 + (at % 3) as u8 } else { 2 };
         // Accepted so far, and the number of each pair.
         let (mut accepted, mut pairs) = (calls.len() as u32 - 1, vec![0; K * K]);
         for at in 0..DEEPEST {
-            // Recursive reads where they wait: whatever is drawn is clean.
-            let is_try = how == 1 || how == 2 && (at * at + frame) % 3 == 0;
-            calls.push(Call::Step(Rec::new(core, 0, at as u8, if is_try { 3 + (at % 3) as u8 } else { 2 })));
+            calls.push(Call::Step(Rec::new(core, 0, at as u8, mode(at))));
             accepted += 1;
-            if !is_try {
+            if mode(at) == 2 {
                 (0..at).for_each(|older| pairs[older * K + at] = accepted);
             }
         }
@@ -210,7 +212,7 @@ fn filled(_: &mut Rng, each: &mut dyn FnMut(Case) -> bool) -> bool {
         answers.resize(calls.len(), 8);
         for at in 0..DEEPEST {
             let class = [DEEPEST - 1 - at, at, at * 29 % DEEPEST][(how + frame / 3) % 3];
-            calls.push(Call::Step(Rec::new(core, 1, class as u8, 0)));
+            calls.push(Call::Step(Rec::new(core, 1, class as u8, mode(class))));
         }
         calls.push(Call::Step(Rec::new(core, 0, DEEPEST as u8, 5)));
         answers.resize(calls.len(), 0);
@@ -270,7 +272,7 @@ fn each_place(rng: &mut Rng, each: &mut dyn FnMut(Case) -> bool) -> bool {
                 push(desk, other, i as u8 + 64 * 2, rng.mille(600));
             }
         }
-        let calls = vec![Call::Step(Rec::new(core as u8, 1, place as u8, 0)), Call::Ask(0)];
+        let calls = vec![Call::Step(release(desk, frame, place as u8)), Call::Ask(0)];
         buffers.slip.fill(9);
         each(Case { name: EACH_PLACE, ..case(buffers, calls) })
     })

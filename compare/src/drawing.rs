@@ -22,7 +22,7 @@ pub const NEXT: [[u8; 8]; 9] = [
 /// The frame by state: 0 task, 1 soft, 2 hard.
 pub const FRAME: [usize; 9] = [0, 0, 0, 0, 1, 1, 2, 2, 2];
 
-#[derive(Clone, Copy)]
+#[derive(Clone, Copy, PartialEq)]
 struct HeldLock {
     class: usize,
     /// 0 exclusive, 1 read, 2 recursive read.
@@ -106,8 +106,8 @@ impl Drawing {
                 held.push(lock);
             }
             1 => match held.iter().rposition(|h| h.class == lock.class) {
-                Some(newest) => drop(held.remove(newest)),
-                None => return,
+                Some(newest) if held[newest] == lock => drop(held.remove(newest)),
+                _ => return,
             },
             _ => match NEXT[usize::from(core.state)][usize::from(kind) - 2] {
                 X => return,

@@ -461,7 +461,7 @@ fn step_with<const PLAIN: bool>(
         return 10;
     }
     let &[0x4C, 0x4B, core, kind, class, mode] = record else { return 3 };
-    if core > 7 || kind > 9 || mode > 5 || (kind >= 1 && mode != 0) || (kind >= 2 && class != 0) {
+    if core > 7 || kind > 9 || mode > 5 || (kind >= 2 && (class | mode) != 0) {
         return 3;
     }
     let core = usize::from(core);
@@ -506,13 +506,16 @@ fn step_with<const PLAIN: bool>(
             let Some(at) = desk[first..first + depth].iter().rposition(|&h| h & 63 == class) else {
                 return 5;
             };
+            let above = origins(desk, here) >> at;
+            if (desk[first + at] >> 6) + 3 * (above as u8 & 1) != mode {
+                return 5;
+            }
             if count == u32::MAX {
                 return 9;
             }
             desk.copy_within(first + at + 1..first + depth, first + at);
             desk[first + depth - 1] = 0;
             desk[DEPTHS + here] -= 1;
-            let above = origins(desk, here) >> at;
             if above != 0 {
                 flip_origins(desk, here, (above ^ above >> 1) << at);
             }
@@ -738,10 +741,9 @@ pub fn balance(piece: &[u8], balances: &mut [i32; 64]) -> u8 {
     let mut last = [0; 24];
     last[..rest.len()].copy_from_slice(rest);
     note_four(&last, &mut tables);
-    for (class, balance) in balances.iter_mut().enumerate() {
-        let noted = |at: usize| i32::from(tables[0][at]) + i32::from(tables[1][at]);
-        let acquired: i32 = (0..6).map(|mode| noted(mode << 8 | class)).sum();
-        *balance = acquired - noted(1 << 11 | class);
-    }
+    // No more than 10,000 of either kind.
+    let noted = |at: usize| tables[0][at] as i16 + tables[1][at] as i16;
+    let balance_of = |class: usize| (0..6).map(|mode| noted(mode << 8 | class) - noted(1 << 11 | mode << 8 | class)).sum::<i16>();
+    *balances = std::array::from_fn::<i16, 64, _>(balance_of).map(i32::from);
     0
 }

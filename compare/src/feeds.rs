@@ -125,10 +125,15 @@ fn any_log(rng: &mut Rng) -> (Vec<u8>, Buffers) {
     let faults = !full && rng.mille(350);
     let k = if faults && rng.mille(700) { rng.pick(&[1, 1, 2, 4]) } else { any_k(rng) };
     let mut style = if full { depths::filling(rng, k) } else { any_style(rng, k) };
-    style.damaged = rng.pick(&[0, 0, 10, 100]);
+    (style.damaged, style.random) = (rng.pick(&[0, 0, 10, 100]), rng.pick(&[0, 10, 30, 100, 200]));
+    // Releases in another mode, and what they stop.
+    let wrong = !full && !faults && rng.mille(200);
     if full {
         (style.damaged, style.random) = (0, 0);
         style.cores.truncate(1);
+    }
+    if wrong {
+        (style.wrong, style.weights) = (300, [4, 4, 1]);
     }
     if faults {
         // Over tries of one class in several modes there are several cycles.
@@ -136,7 +141,7 @@ fn any_log(rng: &mut Rng) -> (Vec<u8>, Buffers) {
         style.weights = [6, 1, 1];
         style.cores.truncate(2);
     }
-    let refused = if full { 1000 } else { rng.pick(&[0, 0, 300, 1000]) };
+    let refused = if full || wrong { 1000 } else { rng.pick(&[0, 0, 300, 1000]) };
     let most = rng.pick(match (full, faults) {
         (true, _) => &[60, 80],
         (_, true) => &[5, 20, 30],
@@ -333,16 +338,22 @@ fn violate_feed(rng: &mut Rng, clause: usize, feed: &mut Vec<u8>) {
 fn any_calls(rng: &mut Rng) -> Case {
     let k = any_k(rng);
     let opened = rng.mille(750);
-    let record = if rng.mille(850) { Rec::new(rng.under(8) as u8, rng.pick(&[0, 2, 2, 3, 8]), 0, 0) } else { damaged(rng, k) };
+    let core = rng.under(8) as u8;
+    let record = match rng.under(20) {
+        0..3 => damaged(rng, k),
+        3 => Rec::new(core, rng.under(2) as u8, k as u8, rng.under(6) as u8),
+        4 => Rec::new(core, 1, rng.under(k) as u8, rng.under(6) as u8),
+        _ => Rec::new(core, rng.pick(&[0, 2, 2, 3, 8]), 0, 0),
+    };
     let item = if opened { Rec { len: 6, ..record } } else { Rec::of(&header(k as u8)) };
     let mut feed = any_feed(rng, opened, item.slice());
     let extra = rng.pick(&[0, 0, 1, 7]);
     feed.extend(rng.bytes(extra));
     // An opened desk, one that no opening leads to, a closed one, or an unfit one.
     let mut buffers = fit_desk(rng, k);
-    match rng.under(9) {
+    match rng.under(10) {
         0 => buffers = Buffers::opened(k),
-        7 | 8 => buffers = older::any(rng, k),
+        7..10 => buffers = older::any(rng, k),
         1 | 2 => buffers.desk[1] = 1,
         // At the last count, or a few before it.
         3 | 4 => {
@@ -391,7 +402,7 @@ fn any_calls(rng: &mut Rng) -> Case {
 /// An end over each number of loose bytes and each sort of desk, and what comes after it.
 fn end_over_loose(rng: &mut Rng) -> Case {
     let k = any_k(rng);
-    let opened = rng.mille(850);
+    let opened = rng.mille(800);
     let item = if opened { Rec::new(rng.under(8) as u8, 2, 0, 0) } else { Rec::of(&header(k as u8)) };
     let kept = if rng.mille(100) { 0 } else { rng.between(1, item.slice().len() - 1) };
     let mut loose = item.slice()[..kept].to_vec();

@@ -8,6 +8,7 @@ use crate::fast;
 use crate::feeds;
 use crate::numbers;
 use crate::older;
+use crate::releases;
 use crate::rng::Rng;
 use crate::run::{Call, Case, Rec};
 use crate::sights::ORIGIN;
@@ -91,6 +92,51 @@ pub fn push(desk: &mut [u8], frame: usize, lock: u8, is_try: bool) {
     desk[DEPTHS + frame] += 1;
 }
 
+/// The mode of the acquire by which the lock at a place is held.
+pub fn mode_at(desk: &[u8], frame: usize, place: usize) -> u8 {
+    let (byte, bit) = origin_at(frame, place);
+    desk[hold_at(frame, place)] / 64 + if desk[byte] & bit != 0 { 3 } else { 0 }
+}
+
+/// The places of a frame's locks of a class, the oldest first.
+pub fn places_of(desk: &[u8], frame: usize, class: u8) -> impl DoubleEndedIterator<Item = usize> + '_ {
+    (0..usize::from(desk[DEPTHS + frame])).filter(move |&place| desk[hold_at(frame, place)] % 64 == class)
+}
+
+/// The release of a frame's newest lock of a class in its own mode.
+pub fn release(desk: &[u8], frame: usize, class: u8) -> Rec {
+    let mode = places_of(desk, frame, class).next_back().map_or(0, |newest| mode_at(desk, frame, newest));
+    Rec::new((frame / 3) as u8, 1, class, mode)
+}
+
+/// The same, and in so many of 1000 another release: in the mode of an older lock of the class, by the other origin, in another
+/// mode, or of a lock held in another frame.
+pub fn any_release(rng: &mut Rng, desk: &[u8], frame: usize, class: u8, wrong: usize) -> Rec {
+    let right = release(desk, frame, class);
+    if !rng.mille(wrong) {
+        return right;
+    }
+    let (core, newest) = (right.bytes[2], right.bytes[5]);
+    let older: Vec<u8> = places_of(desk, frame, class).map(|place| mode_at(desk, frame, place)).filter(|&mode| mode != newest).collect();
+    match rng.under(6) {
+        0..3 if !older.is_empty() => Rec::new(core, 1, class, rng.pick(&older)),
+        0 | 1 => Rec::new(core, 1, class, (newest + 3) % 6),
+        2 | 3 => Rec::new(core, 1, class, newest / 3 * 3 + (newest + rng.between(1, 2) as u8) % 3),
+        4 => {
+            // Of the same core, or of any.
+            let other = if rng.mille(500) { frame - frame % 3 + rng.under(3) } else { rng.under(FRAMES) };
+            match usize::from(desk[DEPTHS + other]) {
+                0 => Rec::new(core, 1, class, (newest + rng.between(1, 5) as u8) % 6),
+                depth => {
+                    let place = rng.under(depth);
+                    Rec::new(core, 1, desk[hold_at(other, place)] % 64, mode_at(desk, other, place))
+                }
+            }
+        }
+        _ => Rec::new(core, 1, class, (newest + rng.between(1, 5) as u8) % 6),
+    }
+}
+
 /// Takes all held locks out of a frame.
 fn empty(desk: &mut [u8], frame: usize) {
     desk[DEPTHS + frame] = 0;
@@ -123,8 +169,9 @@ pub struct Style {
     pub modes: [usize; 6],
     /// Whether a frame has all classes, each acquire one or two above the last: so it gets full in that order too.
     pub packed: bool,
-    /// In 1000: records with anything in them, damaged records, questions, acquires that
-    /// heed no order of classes, and proposals that fault and are then proposed anew.
+    /// In 1000: releases in another mode than the newest lock's, records with anything in them, damaged records, questions,
+    /// acquires that heed no order of classes, and proposals that fault and are then proposed anew.
+    pub wrong: usize,
     pub random: usize,
     pub damaged: usize,
     pub asks: usize,
@@ -155,6 +202,7 @@ pub fn any_style(rng: &mut Rng, k: usize) -> Style {
         weights: rng.pick(&[[5, 3, 3], [6, 1, 1], [9, 1, 0], [4, 4, 4], [2, 2, 6], [5, 5, 1]]),
         modes: any_modes(rng),
         packed: false,
+        wrong: rng.pick(&[0, 0, 20, 50, 200]),
         random: rng.pick(&[0, 10, 30, 30, 200]),
         damaged: rng.pick(&[0, 5, 10, 20, 100]),
         asks: rng.pick(&[0, 10, 30, 100]),
@@ -166,7 +214,7 @@ pub fn any_style(rng: &mut Rng, k: usize) -> Style {
 pub fn clean_style(k: usize) -> Style {
     Style {
         k, cores: (0..8).collect(), weights: [4, 4, 2], modes: [2, 1, 1, 0, 0, 0], packed: false,
-        random: 0, damaged: 0, asks: 0, unordered: 0, avoid: 1000,
+        wrong: 0, random: 0, damaged: 0, asks: 0, unordered: 0, avoid: 1000,
     }
 }
 
@@ -178,7 +226,7 @@ pub fn try_style(k: usize) -> Style {
 pub fn damaged(rng: &mut Rng, k: usize) -> Rec {
     let kind = rng.under(10) as u8;
     let class = if kind < 2 { rng.under(k) as u8 } else { 0 };
-    let mode = if kind == 0 { rng.under(6) as u8 } else { 0 };
+    let mode = if kind < 2 { rng.under(6) as u8 } else { 0 };
     let mut bytes = vec![0x4C, 0x4B, rng.under(8) as u8, kind, class, mode];
     match rng.under(6) {
         0 => {
@@ -205,18 +253,14 @@ pub fn damaged(rng: &mut Rng, k: usize) -> Rec {
             match rng.under(7) {
                 0 => bytes[2] = rng.pick(&[8, 9, 16, 128, 255]),
                 1 => bytes[3] = rng.pick(&[10, 11, 16, 32, 255]),
-                2 => {
-                    bytes[3] = 0;
+                2 | 3 => {
+                    bytes[3] = rng.under(2) as u8;
                     bytes[5] = rng.pick(&[6, 6, 6, 7, 8, 9, 12, 64, 67, 128, 255]);
                 }
                 6 => {
-                    bytes[3] = 0;
+                    bytes[3] = rng.under(2) as u8;
                     bytes[4] = rng.pick(&[k, 64, 255]) as u8;
                     bytes[5] = rng.pick(&[6, 6, 7, 255]);
-                }
-                3 => {
-                    bytes[3] = 1;
-                    bytes[5] = rng.pick(&[1, 2, 3, 4, 5, 6]);
                 }
                 4 => {
                     bytes[3] = rng.between(2, 9) as u8;
@@ -258,7 +302,7 @@ fn propose(rng: &mut Rng, s: &Style, desk: &[u8]) -> Rec {
             _ => 0,
         };
         rng.next();
-        return Rec::new(core, kind, class, if kind == 0 { rng.under(7) as u8 } else { 0 });
+        return Rec::new(core, kind, class, if kind < 2 { rng.under(7) as u8 } else { 0 });
     }
     let state = usize::from(desk[STATES + usize::from(core)]);
     let frame = FRAME[state];
@@ -289,7 +333,8 @@ fn propose(rng: &mut Rng, s: &Style, desk: &[u8]) -> Rec {
         what = 1;
     }
     if what == 1 && depth > 0 {
-        return Rec::new(core, 1, rng.pick(held) % 64, 0);
+        let class = rng.pick(held) % 64;
+        return any_release(rng, desk, here, class, s.wrong);
     }
     let allowed: Vec<u8> = (2..10u8)
         .filter(|&kind| NEXT[state][usize::from(kind) - 2] != X)
@@ -301,7 +346,8 @@ fn propose(rng: &mut Rng, s: &Style, desk: &[u8]) -> Rec {
         return Rec::new(core, rng.pick(&usual), 0, 0);
     }
     if depth > 0 && !rng.mille(100) {
-        return Rec::new(core, 1, rng.pick(held) % 64, 0);
+        let class = rng.pick(held) % 64;
+        return any_release(rng, desk, here, class, s.wrong);
     }
     Rec::new(core, if allowed.is_empty() { 2 } else { rng.pick(&allowed) }, 0, 0)
 }
@@ -572,7 +618,7 @@ pub fn violate(rng: &mut Rng, clause: usize, b: &mut Buffers) -> bool {
         let part = rng.clone().between(ORIGINS, COUNT - 1);
         let [a, b, c] = older::SIZES;
         let n = rng.pick(&[
-            DESK - 1, DESK - 1, DESK - 1, COUNT, COUNT, COUNT + 2, part, part, ORIGINS, ORIGINS - 1, ORIGINS - 1,
+            DESK - 1, DESK - 1, DESK - 1, COUNT, COUNT, COUNT, COUNT + 2, part, part, ORIGINS, ORIGINS - 1, ORIGINS - 1,
             rng.clone().under(ORIGINS), a, b, c, a, b, c,
         ]);
         desk.truncate(n);
@@ -900,7 +946,7 @@ const KINDS: [Kind; 10] = [
 ];
 
 /// A part of the random cases: those with feeds, those with balances, the others, and of the others those with clashes,
-/// those about numbers and those about depths.
+/// those about numbers, those about depths and those about releases.
 #[derive(Clone, Copy, PartialEq, Eq)]
 pub enum Part {
     Feeds,
@@ -909,6 +955,7 @@ pub enum Part {
     Clashes,
     Numbers,
     Depths,
+    Releases,
 }
 
 /// A random case, or None if it is not of the part that is wanted.
@@ -918,6 +965,7 @@ pub fn random(rng: &mut Rng, only: Option<Part>) -> Option<Case> {
         (&numbers::KINDS, Part::Numbers),
         (&clashes::KINDS, Part::Clashes),
         (&depths::KINDS, Part::Depths),
+        (&releases::KINDS, Part::Releases),
         (&feeds::KINDS, Part::Feeds),
         (&balances::KINDS, Part::Balances),
     ];
@@ -933,8 +981,9 @@ pub fn random(rng: &mut Rng, only: Option<Part>) -> Option<Case> {
 
 // ---------------------------------------------------------------------- fixed
 
-/// Records in short: "c:w" on core c, w an acquire as 3E, 3r, 3R, a try as t3E, a release as -3, or an event:
-/// h+ h- s+ s- (hard or soft on or off), S+ S- H+ H- (enter or exit a handler); or ? for a malformed one.
+/// Records in short: "c:w" on core c, w an acquire as 3E, 3r, 3R, a try as t3E, the release of such a lock as -3E or -t3E, or
+/// an event: h+ h- s+ s- (hard or soft on or off), S+ S- H+ H- (enter or exit a handler); or ? for a malformed acquire, -? for
+/// a malformed release.
 pub fn read(text: &str) -> Vec<Rec> {
     let mut core = 0;
     let mut list = Vec::new();
@@ -949,13 +998,14 @@ pub fn read(text: &str) -> Vec<Rec> {
         let event = ["h+", "h-", "s+", "s-", "S+", "S-", "H+", "H-"].iter().position(|e| *e == word);
         list.push(match event {
             Some(i) => Rec::new(core, 2 + i as u8, 0, 0),
-            None if word == "?" => Rec::new(core, 0, 0, 6),
-            None if word.starts_with('-') => Rec::new(core, 1, word[1..].parse().unwrap(), 0),
             None => {
+                let (word, kind) = word.strip_prefix('-').map_or((word, 0), |lock| (lock, 1));
                 let (lock, tried) = word.strip_prefix('t').map_or((word, 0), |lock| (lock, 3));
                 let (class, mode) = lock.split_at(lock.len() - 1);
-                let mode = "ErR".find(mode).unwrap() as u8 + tried;
-                Rec::new(core, 0, class.parse().unwrap(), mode)
+                match mode {
+                    "?" => Rec::new(core, kind, 0, 6),
+                    _ => Rec::new(core, kind, class.parse().unwrap(), "ErR".find(mode).unwrap() as u8 + tried),
+                }
             }
         });
     }
@@ -979,13 +1029,13 @@ pub fn hand_logs() -> Vec<HandLog> {
     let over_full_of_tries = full_of_tries.clone() + "t0E";
     let try_over_full = full.clone() + "t0E";
     let over_full_by_a_wait = full_of_tries.clone() + "0R";
-    let full_again = full.clone() + "-0 0R t0E";
+    let full_again = full.clone() + "-0R 0R t0E";
     let full_in_a_handler = "H+ ".to_string() + &full + "0R";
     let full_twice = full.clone() + "S+ " + &full + "t0r";
     let rows: Vec<(&'static str, usize, &str, u8)> = vec![
         ("P1", 8, "", 0),
-        ("P2", 8, "0:1E 2E -2 -1 1:2E 1E", 1),
-        ("P2 with K = 3", 3, "0:1E 2E -2 -1 1:2E 1E", 1),
+        ("P2", 8, "0:1E 2E -2E -1E 1:2E 1E", 1),
+        ("P2 with K = 3", 3, "0:1E 2E -2E -1E 1:2E 1E", 1),
         ("P3", 8, "0:0R 1E 1:1R 0E", 1),
         ("P4", 8, "0:0E 1R 1:1R 0E", 0),
         ("P5", 8, "0:0E 1R 1:1E 0R", 1),
@@ -993,81 +1043,99 @@ pub fn hand_logs() -> Vec<HandLog> {
         ("P7", 8, "0:0R 0r", 1),
         ("P8", 8, "0:0E 0R", 1),
         ("P9", 8, "0:0E 1R 2E 1:2E 0E", 1),
-        ("P10", 8, "0:3E -3 H+ 3E", 1),
-        ("P10 both R", 8, "0:3R -3 H+ 3R", 0),
-        ("P11", 8, "0:H+ 4E -4 H- h- 4E 5E -5 -4 h+ 5E", 1),
-        ("P12", 8, "0:s- 6E -6 s+ S+ 6E", 0),
-        ("P12 without", 8, "0:6E -6 S+ 6E", 1),
+        ("P10", 8, "0:3E -3E H+ 3E", 1),
+        ("P10 both R", 8, "0:3R -3R H+ 3R", 0),
+        ("P11", 8, "0:H+ 4E -4E H- h- 4E 5E -5E -4E h+ 5E", 1),
+        ("P12", 8, "0:s- 6E -6E s+ S+ 6E", 0),
+        ("P12 without", 8, "0:6E -6E S+ 6E", 1),
         ("exit hard with a held lock", 8, "0:H+ 1E H-", 7),
         ("exit soft with a held lock", 8, "0:S+ 1E S-", 7),
         ("exit hard in state 0", 8, "0:H-", 6),
-        ("release of what isn't held", 8, "0:1E -2", 5),
-        ("release in another frame", 8, "0:1E S+ -1", 5),
+        ("release of what isn't held", 8, "0:1E -2E", 5),
+        ("release in another frame", 8, "0:1E S+ -1E", 5),
         ("class 8 of 8", 8, "0:8E", 4),
         // Errors that show in no answer from opening, only in bytes.
         ("across frames: task, soft", 8, "0:0E S+ 1E", 0),
         ("across frames: task, hard", 8, "0:0E H+ 1E", 0),
         ("across frames: soft, hard", 8, "0:S+ 0E H+ 1E", 0),
-        ("across frames: all three, reads", 8, "3:0r S+ 1R H+ 2r -2 H- 3R -3 -1 S- -0", 0),
+        ("across frames: all three, reads", 8, "3:0r S+ 1R H+ 2r -2r H- 3R -3R -1R S- -0r", 0),
         ("across frames: soft off, hard", 8, "5:s- 0E 1R H+ 2R 3E", 0),
-        ("across frames: back in the task", 8, "0:0E S+ 5E -5 S- 1E", 0),
-        ("oldest released: modes", 8, "0:0r 0R -0", 0),
-        ("oldest released: order", 8, "0:0R 1R 0R -0", 0),
-        ("oldest released: order and dependencies", 8, "0:0R 1E 0R -0 2E -2 -1 -0", 0),
-        ("oldest released: in a handler", 8, "7:H+ 3r 3R 3R -3 -3 -3 H-", 0),
+        ("across frames: back in the task", 8, "0:0E S+ 5E -5E S- 1E", 0),
+        ("oldest released: modes", 8, "0:0r 0R -0R", 0),
+        ("oldest released: order", 8, "0:0R 1R 0R -0R", 0),
+        ("oldest released: order and dependencies", 8, "0:0R 1E 0R -0R 2E -2E -1E -0R", 0),
+        ("oldest released: in a handler", 8, "7:H+ 3r 3R 3R -3R -3R -3r H-", 0),
         // Reach by class alone.
-        ("class once", 8, "0:0E 1R -1 -0 0E 2E -2 -0 2E 1E -1 -2 1R 0E", 1),
-        ("class once, other numbers", 8, "0:3E 0R -0 -3 3E 5E -5 -3 5E 0E -0 -5 0r 3E", 1),
-        ("class once, N walked before R", 8, "0:0E 1E -1 -0 1E 2R -2 -1 0E 3E -3 -0 3E 2E -2 -3 2R 0E", 1),
+        ("class once", 8, "0:0E 1R -1R -0E 0E 2E -2E -0E 2E 1E -1E -2E 1R 0E", 1),
+        ("class once, other numbers", 8, "0:3E 0R -0R -3E 3E 5E -5E -3E 5E 0E -0E -5E 0r 3E", 1),
+        ("class once, N walked before R", 8, "0:0E 1E -1E -0E 1E 2R -2R -1E 0E 3E -3E -0E 3E 2E -2E -3E 2R 0E", 1),
         // Marks at other records than acquires.
-        ("mark at hard on", 8, "0:H+ 1E -1 H- h- 1E h+", 1),
-        ("mark at soft on", 8, "0:S+ 1E -1 S- s- 1E s+", 1),
+        ("mark at hard on", 8, "0:H+ 1E -1E H- h- 1E h+", 1),
+        ("mark at soft on", 8, "0:S+ 1E -1E S- s- 1E s+", 1),
         ("mark at exit hard", 8, "0:h- s- 1E h+ H+ H- s+", 0),
-        ("mark at exit soft", 8, "2:S+ h- 1E h+ -1 S- 2E s-", 0),
-        ("mark at a release", 8, "0:h- 1E 2E h+ -2", 0),
-        ("mark in a soft handler", 8, "1:S+ h- 1E h+ H+ 2E -2 H- -1 S-", 0),
+        ("mark at exit soft", 8, "2:S+ h- 1E h+ -1E S- 2E s-", 0),
+        ("mark at a release", 8, "0:h- 1E 2E h+ -2E", 0),
+        ("mark in a soft handler", 8, "1:S+ h- 1E h+ H+ 2E -2E H- -1E S-", 0),
         ("newest held lock only", 8, "0:0E 1R 2E 3R 4E 1:4E 0E", 1),
-        ("hard over 1", 8, "0:s- H+ 1E -1 H- s+", 0),
+        ("hard over 1", 8, "0:s- H+ 1E -1E H- s+", 0),
         ("all states", 8, "0:h- h- h+ h+ s- s- h- h- s+ s- h+ s+ S+ h- h- h+ h+ H+ H- S- s- H+ H- s+ H+ H-", 0),
         ("exit soft in a task", 1, "0:0R S- ", 6),
-        ("K of 1", 1, "0:0R 0R -0 0R 1:0R 2:0R H+ 0R", 0),
-        ("K of 1, fault", 1, "0:0r -0 H+ 0r", 1),
+        ("K of 1", 1, "0:0R 0R -0R 0R 1:0R 2:0R H+ 0R", 0),
+        ("K of 1, fault", 1, "0:0r -0r H+ 0r", 1),
         // Tries.
         ("try on a held class", 8, "0:1E t1E t1r t1R", 0),
         ("wait on a tried class", 8, "0:t1E 1E", 1),
         ("read wait on a read try", 8, "0:t1r 1R", 0),
         ("recursive wait on an exclusive try", 8, "0:t1E 1R", 1),
-        ("P2 with the last a try", 8, "0:1E 2E -2 -1 1:2E t1E", 0),
-        ("P2 with the first of core 1 a try", 8, "0:1E 2E -2 -1 1:t2E 1E", 1),
-        ("P2 with both of core 1 tries", 8, "0:1E 2E -2 -1 1:t2E t1E 3E", 0),
+        ("P2 with the last a try", 8, "0:1E 2E -2E -1E 1:2E t1E", 0),
+        ("P2 with the first of core 1 a try", 8, "0:1E 2E -2E -1E 1:t2E 1E", 1),
+        ("P2 with both of core 1 tries", 8, "0:1E 2E -2E -1E 1:t2E t1E 3E", 0),
         ("P2 from a try onwards", 8, "0:1E t2E 3E 1:3E 2E", 1),
-        ("try over tries", 8, "0:t2E t3r 4R t5R t6E 7R -3 -7 -4 -2", 0),
-        ("P10 by a try in the handler", 8, "0:3E -3 H+ t3E 4R -4 t5r -5 -3 H-", 0),
-        ("P10 by a try in the task", 8, "0:t3E -3 H+ 3E", 1),
-        ("P12 by a try in the handler", 8, "0:6E -6 S+ t6E h- 7R h+ -7 -6 S-", 0),
-        ("P12 by a try in the task", 8, "0:t6E -6 S+ 6R", 1),
+        ("try over tries", 8, "0:t2E t3r 4R t5R t6E 7R -t3r -7R -4R -t2E", 0),
+        ("P10 by a try in the handler", 8, "0:3E -3E H+ t3E 4R -4R t5r -t5r -t3E H-", 0),
+        ("P10 by a try in the task", 8, "0:t3E -t3E H+ 3E", 1),
+        ("P12 by a try in the handler", 8, "0:6E -6E S+ t6E h- 7R h+ -7R -t6E S-", 0),
+        ("P12 by a try in the task", 8, "0:t6E -t6E S+ 6R", 1),
         ("try held over hard on", 8, "1:H+ 3E 0:h- t3E h+", 1),
         ("try held over soft on", 8, "1:S+ 3R 0:s- t3E s+", 1),
         ("try in a soft handler, hard-unsafe", 8, "0:S+ t3E 1:H+ 3E", 1),
-        ("try over state 8", 8, "0:S+ t3r H+ t4E t5R -4 5R -5 -5 H- -3 S-", 0),
-        ("try over state 7", 8, "0:s- t1r H+ t4r 5R -5 -4 H- s+", 0),
-        ("one class both ways in a handler, other letter", 8, "0:H+ 3R t3E -3 4R", 0),
+        ("try over state 8", 8, "0:S+ t3r H+ t4E t5R -t4E 5R -5R -t5R H- -t3r S-", 0),
+        ("try over state 7", 8, "0:s- t1r H+ t4r 5R -5R -t4r H- s+", 0),
+        ("one class both ways in a handler, other letter", 8, "0:H+ 3R t3E -t3E 4R", 0),
         ("one class both ways in a handler, same letter", 8, "0:S+ 3E t3r h- h+", 0),
-        ("one class both ways in a handler, the try first", 8, "0:H+ t3R 3R -3 4R", 0),
+        ("one class both ways in a handler, the try first", 8, "0:H+ t3R 3R -3R 4R", 0),
         ("class tried in the handler, waited in the task", 8, "0:h- 3E 1:H+ t3E 4R", 0),
-        ("newest whatever its origin", 8, "0:1E t1r 2R t1R t3E -1 -1 -1 -2 -3", 0),
-        ("newest a wait over a try", 8, "0:t1R 1R t2E -1 -1 -2", 0),
+        ("the newest each time, in its own mode", 8, "0:1E t1r 2R t1R t3E -t1R -t1r -1E -2R -t3E", 0),
+        ("newest a wait over a try", 8, "0:t1R 1R t2E -1R -t1R -t2E", 0),
         ("try of class 8 of 8", 8, "0:t8E", 4),
         ("try still held at exit hard", 8, "0:H+ t1E H-", 7),
-        ("try released twice", 8, "0:t1E -1 -1", 5),
-        ("try released in another frame", 8, "0:t1E S+ -1", 5),
+        ("try released twice", 8, "0:t1E -t1E -t1E", 5),
+        ("try released in another frame", 8, "0:t1E S+ -t1E", 5),
         ("two cycles of one class", 1, "0:t0E t0R 0E", 1),
+        // Each release in the mode of its acquire.
+        ("read released", 8, "0:1R -1R", 0),
+        ("read released as a write", 8, "0:1R -1E", 5),
+        ("one read released as the other", 8, "0:1R -1r", 5),
+        ("write released as a read", 8, "0:1E -1r", 5),
+        ("wait released as a try", 8, "0:1R -t1R", 5),
+        ("try released as a wait", 8, "0:t1R -1R", 5),
+        ("try released", 8, "0:t1R -t1R", 0),
+        ("older lock of the class that would fit", 8, "0:1E t1R -1E", 5),
+        ("newest first, then the older one", 8, "0:1E t1R -t1R -1E", 0),
+        ("newer lock of another class", 8, "0:1E 2R -1E", 0),
+        ("mode of a newer lock of another class", 8, "0:1E 2R -1R", 5),
+        ("release of nothing", 8, "0:-1E", 5),
+        ("mode in another frame", 8, "0:1r S+ t1R -1r", 5),
+        ("mode on another core", 8, "0:t1r 1:1R -t1r", 5),
+        ("log of an earlier version", 8, "0:1E 2R -2E", 5),
+        ("malformed release", 8, "0:0E -?", 3),
+        ("release of class 8 of 8 in mode 5", 8, "0:-t8R", 4),
         // Marks of one class.
-        ("E with safe R at hard", 8, "0:3E -3 H+ 3R", 1),
+        ("E with safe R at hard", 8, "0:3E -3E H+ 3R", 1),
         ("S with safe N at hard, by a hard on", 8, "1:H+ 3E 0:h- 3R h+", 1),
-        ("S with safe R at soft", 8, "0:3R -3 S+ 3R", 0),
-        ("S with safe N at soft", 8, "0:3R -3 S+ 3r", 1),
-        ("clash of class 63", 64, "0:63E -63 H+ 63E", 1),
+        ("S with safe R at soft", 8, "0:3R -3R S+ 3R", 0),
+        ("S with safe N at soft", 8, "0:3R -3R S+ 3r", 1),
+        ("clash of class 63", 64, "0:63E -63E H+ 63E", 1),
         // Deep frames.
         ("21 held locks", 8, &one_over_20, 0),
         ("full frame", 8, &full, 0),
@@ -1084,20 +1152,20 @@ pub fn hand_logs() -> Vec<HandLog> {
 }
 
 /// The kinds of fixed cases, and how many there are of each.
-pub const FIXED: [(&str, u64); 47] = [
-    (HAND_LOGS, 90),
+pub const FIXED: [(&str, u64); 58] = [
+    (HAND_LOGS, 107),
     (HAND_DRAWINGS, 48),
     (EACH_RING, 64 * ties::RINGS_OF_EACH),
     (SOME_TIES, 1200),
     (EACH_OPENING, 6657),
     (EACH_CLAUSE, 3000),
-    (EACH_DESK_BYTE, 33_174),
+    (EACH_DESK_BYTE, 33_286),
     (EACH_STATE, 21_600),
     (ALL_OF_1, 4352),
     (ALL_OF_2, 65_536),
     (ALL_MARKS_OF_2, 20_736),
     (numbers::BY_HAND, 18),
-    (numbers::EACH_COUNT, 775),
+    (numbers::EACH_COUNT, 837),
     (numbers::EACH_PAIR, 4926),
     (numbers::EACH_BYTE, 12_288),
     (numbers::KINDS_IN_TURN, 324),
@@ -1115,20 +1183,31 @@ pub const FIXED: [(&str, u64); 47] = [
     (depths::PAST_DEPTH, 8064),
     (depths::EACH_SIZE, 426),
     (older::OLD_DESKS, 1818),
+    (releases::OLDER_AND_NEWER, 1080),
+    (releases::EACH_MODE, 864),
+    (releases::OF_THREE, 648),
+    (releases::ELSEWHERE, 1260),
+    (releases::EACH_CLASS, 384),
+    (releases::MODE_BYTE, 1024),
+    (releases::REFUSED, 144),
+    (releases::OVER_CYCLE, 36),
+    (releases::FULL_FRAME, 1728),
+    (releases::OF_HAND_LOGS, 600),
+    (releases::IN_PAIRS, 123),
     (feeds::EACH_FEED_SIZE, 160),
     (feeds::EACH_STAND, 2160),
     (feeds::EACH_COUNT, 900),
     (feeds::EACH_FEED_BYTE, 5922),
-    (feeds::HAND_LOGS, 3883),
+    (feeds::HAND_LOGS, 4214),
     (feeds::EACH_CUT, 39_956),
     (feeds::LONG_PIECES, 7),
-    (balances::BY_HAND, 22),
-    (balances::EACH_CLASS, 2304),
+    (balances::BY_HAND, 28),
+    (balances::EACH_CLASS, 3584),
     (balances::EACH_PLACE, 252),
     (balances::EACH_BYTE, 16_896),
     (balances::HEADERS, 96),
     (balances::EACH_CUT, 1770),
-    (balances::HAND_LOGS, 90),
+    (balances::HAND_LOGS, 107),
     (balances::EACH_LENGTH, 612),
     (balances::MANY, 168),
     (balances::ALONE, 64),
@@ -1149,7 +1228,7 @@ const ALL_MARKS_OF_2: &str = "all marks of K = 2";
 /// feeds and with balances come last.
 pub fn fixed(each: &mut dyn FnMut(Case) -> bool) {
     let mut going = true;
-    for fixed in [fixed_calls, numbers::fixed, clashes::fixed, depths::fixed, feeds::fixed, balances::fixed] {
+    for fixed in [fixed_calls, numbers::fixed, clashes::fixed, depths::fixed, releases::fixed, feeds::fixed, balances::fixed] {
         if going {
             fixed(&mut |case| {
                 going = each(case);

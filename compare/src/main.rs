@@ -17,6 +17,7 @@ mod needs;
 mod numbers;
 mod older;
 mod planted;
+mod releases;
 mod rng;
 mod run;
 mod selftest;
@@ -179,14 +180,16 @@ fn report(met: &Met, limits: &Limits) -> bool {
     println!("pieces whose balances were added over a split {}, held to the locks on a desk {}", random.added, random.held);
     let [none, second, both] = random.pair_faults;
     println!(
-        "pairs of lists ({} records in the second lists): no fault {none}, fault in the second only {second}, in both {both}; other numbers {}",
-        random.pair_records, random.pair_numbers
+        "pairs of lists ({} records in the second lists): no fault {none}, fault in the second only {second}, in both {both}; other numbers {}; \
+         releases of mode 1 to 5 put in: accepted {}, 5 {}",
+        random.pair_records, random.pair_numbers, random.pair_released, random.pair_not_fitting
     );
     println!(
         "questions answered on closed desks {}, on open desks where the class reaches itself {}",
         random.asked_closed, random.asked_itself
     );
     println!("frames filled from opening {}, acquires refused by them {}", random.filled, random.over_full);
+    println!("releases that an older lock fits, by the newest lock's mode and the release's: {:?}", random.older_fits);
     let shown = random.shown.iter().zip(["ER", "EN", "SR", "SN"]).map(|(by_source, kind)| format!("{kind} {by_source:?}"));
     println!("cycles: longest {}, dependencies by source [hold, hard, soft]: {}", random.longest_cycle, shown.collect::<Vec<_>>().join(", "));
     for (name, cases, calls) in fixed.by_name.iter().chain(&random.by_name) {

@@ -39,6 +39,11 @@ pub enum Need {
     FaultInBoth,
     /// Two lists that gave two classes another number each.
     OtherNumbers,
+    /// A release of mode 1 to 5 put in, that was accepted, and that was refused with 5.
+    ReleasePutIn,
+    NotFittingPutIn,
+    /// A release in the second mode, which an older lock of the class has, while the newest has the first.
+    OlderFits(u8, u8),
     Filled,
     OverFull,
     /// A dependency in a cycle, of this kind (as 0 to 3) and source.
@@ -57,12 +62,17 @@ const SOURCES: [&str; 3] = ["hold", "hard", "soft"];
 /// How often each kind and source is to be seen in a cycle.
 const SHOWN: [[u64; 3]; 4] = [[2100, 180, 84], [3300, 140, 74], [550, 32, 13], [3700, 120, 68]];
 
+/// The modes of an acquire and a release.
+const MODES: [&str; 6] = ["E", "r", "R", "try E", "try r", "try R"];
+
 /// The kinds of random cases; named here too, so that one is missed that is no longer made.
-const RANDOM: [(&str, u64); 34] = [
+const RANDOM: [(&str, u64); 36] = [
     ("log from opening", 740),
     ("deep log", 250),
     ("deep frame", 490),
     ("desk of an earlier version", 200),
+    ("releases on a desk", 320),
+    ("log of releases", 130),
     ("long log", 20),
     ("fit desk", 830),
     ("desk with tries", 330),
@@ -106,7 +116,7 @@ pub fn all() -> Vec<(Need, u64)> {
         (
             Step,
             &[
-                (0, 210_000), (1, 2500), (3, 4700), (4, 1300), (5, 340), (6, 4900), (7, 600), (8, 1000), (9, 4200),
+                (0, 210_000), (1, 2500), (3, 4700), (4, 1300), (5, 3700), (6, 4900), (7, 600), (8, 1000), (9, 4200),
                 (10, 10_000), (11, 5600),
             ],
         ),
@@ -115,7 +125,7 @@ pub fn all() -> Vec<(Need, u64)> {
         (
             Piece,
             &[
-                (0, 14_000), (1, 410), (2, 6400), (3, 2800), (4, 100), (5, 61), (6, 220), (7, 61), (8, 83), (9, 870),
+                (0, 14_000), (1, 410), (2, 6400), (3, 2800), (4, 100), (5, 130), (6, 220), (7, 61), (8, 83), (9, 870),
                 (10, 440), (11, 4700),
             ],
         ),
@@ -142,6 +152,9 @@ pub fn all() -> Vec<(Need, u64)> {
     }
     all.extend([2300, 1000, 2300].into_iter().enumerate().map(|(part, least)| (Need::Promise(part), least)));
     all.extend([(Need::FaultInSecond, 80), (Need::FaultInBoth, 66), (Need::OtherNumbers, 180)]);
+    all.extend([(Need::ReleasePutIn, 190), (Need::NotFittingPutIn, 44)]);
+    let modes = (0..6).flat_map(|newest| (0..6).map(move |mode| (newest, mode)));
+    all.extend(modes.filter(|(newest, mode)| newest != mode).map(|(newest, mode)| (Need::OlderFits(newest, mode), 28)));
     all.extend([(Need::Filled, 2300), (Need::OverFull, 870)]);
     for (kind, by_source) in SHOWN.iter().enumerate() {
         all.extend(by_source.iter().enumerate().map(|(source, &least)| (Need::Shown(kind, source), least)));
@@ -177,6 +190,11 @@ impl Need {
             Need::FaultInSecond => "pair with a fault in the second list only".into(),
             Need::FaultInBoth => "pair with a fault in both lists".into(),
             Need::OtherNumbers => "pair whose lists give other numbers".into(),
+            Need::ReleasePutIn => "pair with an accepted release of mode 1 to 5 put in".into(),
+            Need::NotFittingPutIn => "pair with a release of mode 1 to 5 put in that got 5".into(),
+            Need::OlderFits(newest, mode) => {
+                format!("older {} released over a newest {}", MODES[usize::from(mode)], MODES[usize::from(newest)])
+            }
             Need::Filled => "frame filled from opening".into(),
             Need::OverFull => "acquire refused by a frame filled from opening".into(),
             Need::Shown(kind, source) => format!("{} {} in a cycle", KINDS[kind], SOURCES[source]),
@@ -209,6 +227,9 @@ impl Need {
             Need::FaultInSecond => random.pair_faults[1],
             Need::FaultInBoth => random.pair_faults[2],
             Need::OtherNumbers => random.pair_numbers,
+            Need::ReleasePutIn => random.pair_released,
+            Need::NotFittingPutIn => random.pair_not_fitting,
+            Need::OlderFits(newest, mode) => random.older_fits[usize::from(newest)][usize::from(mode)],
             Need::Filled => random.filled,
             Need::OverFull => random.over_full,
             Need::Shown(kind, source) => random.shown[kind][source],
@@ -234,7 +255,12 @@ impl Need {
                 let kept = play(case, |seen| seen.answer != 1, Some(&in_first));
                 keep(case, &kept);
             }
-            (Need::FaultInSecond | Need::FaultInBoth | Need::OtherNumbers, None) => {}
+            (Need::ReleasePutIn | Need::NotFittingPutIn, Some((_, in_first))) => {
+                let by_mode = |call: &Call| matches!(call, Call::Step(record) if record.releases_by_mode());
+                let kept: Vec<bool> = case.calls.iter().zip(in_first).map(|(call, first)| *first || !by_mode(call)).collect();
+                keep(case, &kept);
+            }
+            (Need::FaultInSecond | Need::FaultInBoth | Need::OtherNumbers | Need::ReleasePutIn | Need::NotFittingPutIn, None) => {}
             // A pair is run twice with two answers to a record.
             (_, Some(_)) => return false,
             // A case without a call of the feed is held to no promise.
@@ -282,25 +308,8 @@ impl Need {
             }
             Need::Added => matches!(seen.call, Call::Balance(piece) if seen.answer == 0 && piece.len() >= 12),
             Need::Held => matches!(seen.call, Call::Balance(piece) if !piece.is_empty()) && seen.history.steps.is_some(),
-            Need::Sight(i) => SIGHTS[i].met(&Look {
-                call: seen.call,
-                before: &before.desk,
-                after: &after.desk,
-                answer: seen.answer,
-                clause: seen.clause(),
-                sheet: &before.sheet,
-                sheet_after: &after.sheet,
-                seen: &before.seen,
-                seen_after: &after.seen,
-                slip: &after.slip,
-                feed: &seen.feed,
-                feed_after: &seen.feed_after,
-                history: seen.history,
-                shown: OnceCell::new(),
-                clashes: OnceCell::new(),
-                numbers: OnceCell::new(),
-                tally: OnceCell::new(),
-            }),
+            Need::OlderFits(newest, mode) => seen.look().older_fits() == Some((newest, mode)),
+            Need::Sight(i) => SIGHTS[i].met(&seen.look()),
             _ => false,
         }
     }
@@ -319,6 +328,28 @@ struct Seen<'a> {
 }
 
 impl Seen<'_> {
+    fn look(&self) -> Look<'_> {
+        let (before, after) = (&self.before, &self.after);
+        Look {
+            call: self.call,
+            before: &before.desk,
+            after: &after.desk,
+            answer: self.answer,
+            clause: self.clause(),
+            sheet: &before.sheet,
+            sheet_after: &after.sheet,
+            seen: &before.seen,
+            seen_after: &after.seen,
+            slip: &after.slip,
+            feed: &self.feed,
+            feed_after: &self.feed_after,
+            history: self.history,
+            shown: OnceCell::new(),
+            clashes: OnceCell::new(),
+            numbers: OnceCell::new(),
+            tally: OnceCell::new(),
+        }
+    }
     /// With answer 11: the first clause that is violated.
     fn clause(&self) -> Option<&'static str> {
         if self.call.of_feed() {

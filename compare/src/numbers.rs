@@ -294,21 +294,21 @@ pub const EACH_SIZE: &str = "each size of second sheet and slip";
 type Row<'a> = (usize, &'a str, &'a str, u32, &'a str, &'a str);
 
 fn by_hand(each: &mut dyn FnMut(Case) -> bool) -> bool {
-    let long = "0:0E -0 ".repeat(130) + "0E 1E 1:1E 0E";
+    let long = "0:0E -0E ".repeat(130) + "0E 1E 1:1E 0E";
     let long_answers = "0".repeat(263) + "1";
     let rows: [Row; 18] = [
         // P2.
-        (3, "0:1E 2E -2 -1 1:2E 1E", "000001", 6, "1>2=2 2>1=6", "1 EN hold 2, 2 EN hold 6"),
+        (3, "0:1E 2E -2E -1E 1:2E 1E", "000001", 6, "1>2=2 2>1=6", "1 EN hold 2, 2 EN hold 6"),
         // Refused ones stand between: 3, 5, 4, 6, 3.
-        (3, "0:? 1E -2 2E 3E H- -2 -1 1:2E ? 1E", "30504600031", 6, "1>2=2 2>1=6", "1 EN hold 2, 2 EN hold 6"),
+        (3, "0:? 1E -2E 2E 3E H- -2E -1E 1:2E ? 1E", "30504600031", 6, "1>2=2 2>1=6", "1 EN hold 2, 2 EN hold 6"),
         // Nothing is counted after a fault.
-        (8, "0:3E -3 H+ 3E -3 4E", "00011010", 4, "", "3 EN hard 0"),
+        (8, "0:3E -3E H+ 3E -3E 4E", "00011010", 4, "", "3 EN hard 0"),
         // A second kind, a third and a fourth; the same once more.
-        (3, "0:0E 1E -1 1R -1 -0 0r 1R -1 1r -1 1E", "000000000000", 12, "0>1=2", ""),
+        (3, "0:0E 1E -1E 1R -1R -0E 0r 1R -1R 1r -1r 1E", "000000000000", 12, "0>1=2", ""),
         // Closed by the second kind of 0 > 1.
         (2, "0:0E 1R 1:1R 0E 2:0E 1E", "000001", 6, "0>1=2 1>0=4", "0 EN hold 2, 1 SN hold 4"),
         // 0 has the hard-unsafe E from record 5, 1 the hard-safe R from record 7; 0 ER 1 hard is less than 0 EN 1.
-        (2, "0:h- 0E 1E -1 h+ 1:H+ 1R -1 H- 2:h- s- 1E 0E", "0000000000001", 13, "0>1=3 1>0=13", "0 ER hard 0, 1 EN hold 13"),
+        (2, "0:h- 0E 1E -1E h+ 1:H+ 1R -1R H- 2:h- s- 1E 0E", "0000000000001", 13, "0>1=3 1>0=13", "0 ER hard 0, 1 EN hold 13"),
         // Two kinds by one record.
         (2, "0:0E t0r 1E", "000", 3, "0>1=3", ""),
         // Tries draw nothing, and are drawn from.
@@ -317,12 +317,12 @@ fn by_hand(each: &mut dyn FnMut(Case) -> bool) -> bool {
         (1, "0:0R 0R 0r", "001", 3, "0>0=2", "0 SN hold 2"),
         // 0 > 2 has the less number, and 0 > 1 is shown: only class, kind and source are compared.
         (
-            3, "0:h- s- 0E 2E -2 -0 0E 1E -1 -0 1:h- s- t1E t2E 0E", "000000000000001", 15,
+            3, "0:h- s- 0E 2E -2E -0E 0E 1E -1E -0E 1:h- s- t1E t2E 0E", "000000000000001", 15,
             "0>1=8 0>2=4 1>0=15 2>0=15", "0 EN hold 8, 1 EN hold 15",
         ),
         // The other way round, so that the first does not pass by chance.
         (
-            3, "0:h- s- 0E 1E -1 -0 0E 2E -2 -0 1:h- s- t1E t2E 0E", "000000000000001", 15,
+            3, "0:h- s- 0E 1E -1E -0E 0E 2E -2E -0E 1:h- s- t1E t2E 0E", "000000000000001", 15,
             "0>1=4 0>2=8 1>0=15 2>0=15", "0 EN hold 4, 1 EN hold 15",
         ),
         // Numbers of two bytes.
@@ -330,15 +330,15 @@ fn by_hand(each: &mut dyn FnMut(Case) -> bool) -> bool {
         // Only events.
         (1, "0:h- h- h+ s- s+ S+ S- H+ H-", "000000000", 9, "", ""),
         // Events that are refused, and exits with a lock held.
-        (1, "0:S- H- H+ 0E H- -0 H-", "6600700", 4, "", ""),
+        (1, "0:S- H- H+ 0E H- -0E H-", "6600700", 4, "", ""),
         // Later held locks draw to one class at one record.
         (4, "0:0R 1R 2R 3R", "0000", 4, "0>1=2 0>2=3 1>2=3 0>3=4 1>3=4 2>3=4", ""),
         // Another core's locks do not count.
         (3, "0:0E 1:1E 2:2E 0:1E 1:2E", "00000", 5, "0>1=4 1>2=5", ""),
         // Each frame for itself.
-        (3, "0:0R S+ 1R H+ 2R 0R -0 -2 H- 2R", "0000000000", 10, "1>2=10 2>0=6", ""),
+        (3, "0:0R S+ 1R H+ 2R 0R -0R -2R H- 2R", "0000000000", 10, "1>2=10 2>0=6", ""),
         // Released and acquired again: the first number stays.
-        (2, "0:0R 1R -1 -0 0R 1R -1 -0 1:0R 1R", "0000000000", 10, "0>1=2", ""),
+        (2, "0:0R 1R -1R -0R 0R 1R -1R -0R 1:0R 1R", "0000000000", 10, "0>1=2", ""),
     ];
     let mut rows = rows.into_iter();
     rows.all(|(k, log, answers, accepted, numbers, slip)| {
@@ -378,6 +378,12 @@ fn over(desk: &mut [u8], held: &[u8], record: Rec) -> Rec {
     record
 }
 
+/// A record over a recursive read of class 1 by a try.
+fn over_try(desk: &mut [u8], record: Rec) -> Rec {
+    push(desk, 0, 1 + 64 * 2, true);
+    record
+}
+
 /// An event of core 0 in this state.
 fn event(desk: &mut [u8], state: u8, kind: u8) -> Rec {
     desk[STATES] = state;
@@ -390,7 +396,7 @@ fn closed(desk: &mut [u8]) -> Rec {
     Rec::new(0, 0, 0, 0)
 }
 
-const SORTS: [Sort; 25] = [
+const SORTS: [Sort; 27] = [
     // Acquires: over nothing, of a new pair, of a new kind, of the same kind, of two pairs, by a try; one that faults.
     (|desk| over(desk, &[], Rec::new(0, 0, 0, 0)), 0, None),
     (|desk| over(desk, &[0], Rec::new(0, 0, 2, 0)), 0, Some(2)),
@@ -399,8 +405,9 @@ const SORTS: [Sort; 25] = [
     (|desk| over(desk, &[0, 64], Rec::new(0, 0, 2, 2)), 0, Some(2)),
     (|desk| over(desk, &[0], Rec::new(0, 0, 2, 3)), 0, None),
     (|desk| over(desk, &[0], Rec::new(0, 0, 0, 0)), 1, Some(0)),
-    // A release, and each event.
+    // A release, of a try too, and each event.
     (|desk| over(desk, &[1], Rec::new(0, 1, 1, 0)), 0, None),
+    (|desk| over_try(desk, Rec::new(0, 1, 1, 5)), 0, None),
     (|desk| event(desk, 3, 2), 0, None),
     (|desk| event(desk, 3, 3), 0, None),
     (|desk| event(desk, 3, 4), 0, None),
@@ -413,6 +420,7 @@ const SORTS: [Sort; 25] = [
     (|desk| clashes::refused(3, 0, desk), 3, None),
     (|desk| clashes::refused(4, 0, desk), 4, None),
     (|desk| clashes::refused(5, 0, desk), 5, None),
+    (|desk| over_try(desk, Rec::new(0, 1, 1, 4)), 5, None),
     (|desk| clashes::refused(6, 0, desk), 6, None),
     (|desk| clashes::refused(7, 0, desk), 7, None),
     (|desk| clashes::refused(8, 0, desk), 8, None),
@@ -524,9 +532,9 @@ fn kinds_in_turn(each: &mut dyn FnMut(Case) -> bool) -> bool {
         let off = |core| [Rec::new(core, 3, 0, 0), Rec::new(core, 5, 0, 0)];
         let (a, b) = (from as u8, to as u8);
         let draw = |core, (held, acquired)| [Rec::new(core, 0, a, held), Rec::new(core, 0, b, acquired)];
-        let release = |core| [Rec::new(core, 1, b, 0), Rec::new(core, 1, a, 0)];
+        let release = |core, (held, acquired)| [Rec::new(core, 1, b, acquired), Rec::new(core, 1, a, held)];
         let back = [Rec::new(1, 0, b, 0), Rec::new(1, 0, a, 0)];
-        let log = [off(0), draw(0, one), release(0), draw(0, other), off(1), back].concat();
+        let log = [off(0), draw(0, one), release(0, one), draw(0, other), off(1), back].concat();
         // The first kind came by record 4, the second by record 8, and the way back by record 12.
         let there = entry(a, kind(one).min(kind(other)), 0, 4);
         let back = entry(b, EN, 0, 12);

@@ -1,7 +1,7 @@
 //! Desks of earlier versions, which had 20 held locks per frame: 578 bytes, 638 with the origin bits and 642 with the count.
 //! They are made here, and what is to come of the ones by hand is worked out here from the documents; no judge is asked.
 
-use crate::gen::{any_buffers, any_k, any_style, case, fit_desk, hold_at, origin_at, push, some_calls, Buffers};
+use crate::gen::{any_buffers, any_k, any_release, any_style, case, fit_desk, hold_at, origin_at, push, some_calls, Buffers};
 use crate::numbers;
 use crate::rng::Rng;
 use crate::run::{Call, Case, Meant, Rec};
@@ -136,6 +136,10 @@ pub fn on_desk(rng: &mut Rng) -> Case {
     let buffers = any(rng, k);
     let mut calls = some_calls(rng, k, 2);
     calls.insert(rng.under(3), Call::Ask(rng.under(k) as u64));
+    if buffers.desk.len() >= DESK_NOW && buffers.desk[DEPTHS] > 0 {
+        let class = buffers.desk[HOLDS] % 64;
+        calls.insert(0, Call::Step(any_release(rng, &buffers.desk, 0, class, 500)));
+    }
     if rng.mille(300) {
         calls.push(Call::Open(k as u64));
         calls.extend(some_calls(rng, k, 2));
@@ -173,8 +177,8 @@ const ROWS: [Row; 14] = [
     (&[(3, 0, false), (6, 0, false)], 0, true),
 ];
 
-/// Those by hand, in each length, with nothing behind, with zeros, and with one byte behind that is not 0; then those of
-/// some runs.
+/// Those by hand, in each length, with nothing behind, with zeros, and with one byte behind that is not 0: a question, an event of
+/// another core, and where they are fit core 0's locks released; then those of some runs.
 pub fn fixed(rng: &mut Rng, each: &mut dyn FnMut(Case) -> bool) -> bool {
     let tick = Call::Step(Rec::new(5, 2, 0, 0));
     let lengths = || SIZES.into_iter().chain([DESK + 1, DESK_NOW - 1, DESK_NOW, DESK_NOW + 1, DESK_NOW + 700]);
@@ -186,6 +190,12 @@ pub fn fixed(rng: &mut Rng, each: &mut dyn FnMut(Case) -> bool) -> bool {
         locks.iter().for_each(|&(frame, lock, is_try)| push(&mut desk, frame, lock, is_try));
         numbers::set_count(&mut desk, count);
         let old = old(&desk);
+        // Out of the handlers, then the newest first: as tries, which no fit one is, and as they were acquired.
+        let mut releases = vec![(Rec::new(0, 9, 0, 0), 0), (Rec::new(0, 7, 0, 0), 0)];
+        for (_, lock, _) in locks.iter().rev().filter(|lock| lock.0 == 0) {
+            let release = |mode: u8| Rec::new(0, 1, lock % 64, mode);
+            releases.extend([(release(lock / 64 + 3), 5), (release(lock / 64), 0)]);
+        }
         let (in_task, tries) = (locks.iter().all(|lock| lock.0 == 0), locks.iter().any(|lock| lock.2));
         for size in SIZES {
             // The shorter ones have no count, and the shortest no tries.
@@ -206,9 +216,16 @@ pub fn fixed(rng: &mut Rng, each: &mut dyn FnMut(Case) -> bool) -> bool {
                     // Behind the desk of today nothing matters, and a count may be any.
                     let still = matches!(behind, None | Some(COUNT_NOW));
                     let fits = length >= DESK_NOW && fit && still;
-                    let answers = if fits { vec![0, 0] } else { vec![11, 11] };
+                    let (mut calls, mut answers) = (vec![Call::Ask(0), tick.clone()], vec![0, 0]);
+                    for (record, answer) in &releases {
+                        calls.push(Call::Step(*record));
+                        answers.push(*answer);
+                    }
+                    if !fits {
+                        answers.fill(11);
+                    }
                     let meant = Some(Meant { answers, ..Meant::default() });
-                    if !each(Case { name: OLD_DESKS, meant, ..case(b, vec![Call::Ask(0), tick.clone()]) }) {
+                    if !each(Case { name: OLD_DESKS, meant, ..case(b, calls) }) {
                         return false;
                     }
                 }
@@ -224,7 +241,9 @@ pub fn fixed(rng: &mut Rng, each: &mut dyn FnMut(Case) -> bool) -> bool {
             b = any_buffers(rng, k);
             b.desk = desk;
         }
-        let calls = vec![Call::Ask(0), tick.clone(), Call::Step(Rec::new(0, 0, 0, 2)), Call::Open(k as u64), tick.clone()];
+        let (acquire, release) = (Rec::new(0, 0, 0, 2), Rec::new(0, 1, 0, (turn % 6) as u8));
+        let calls =
+            vec![Call::Ask(0), tick.clone(), Call::Step(acquire), Call::Step(release), Call::Open(k as u64), tick.clone()];
         each(Case { name: OLD_DESKS, ..case(b, calls) })
     })
 }

@@ -19,6 +19,8 @@ pub struct Plant {
     pub of_numbers: bool,
     /// Whether it is wrong about deep frames or old desks, and the cases about these come first.
     pub of_depth: bool,
+    /// Whether it is wrong about the modes of releases, and the cases about these come first.
+    pub of_release: bool,
     pub judge: Judge,
 }
 

@@ -37,12 +37,15 @@ impl Rec {
         let &[0x4C, 0x4B, core, kind, class, mode] = self.slice() else { return None };
         let well = core <= 7
             && match kind {
-                0 => mode <= 5,
-                1 => mode == 0,
+                0 | 1 => mode <= 5,
                 2..=9 => class == 0 && mode == 0,
                 _ => false,
             };
         well.then_some(core)
+    }
+    /// Whether it is a release of mode 1 to 5, which names its core since releases have modes.
+    pub fn releases_by_mode(&self) -> bool {
+        self.names().is_some() && self.bytes[3] == 1 && self.bytes[5] > 0
     }
 }
 
@@ -79,14 +82,18 @@ pub struct Case {
     pub meant: Option<Meant>,
 }
 
-/// The answers, and how the slip begins then; where they are known, the count and the number of each pair, and the last
-/// balances.
+/// The answers, and how the slip begins then; where they are known, the whole desk, the count and the number of each pair, and
+/// the last balances.
 #[derive(Clone, Default)]
 pub struct Meant {
+    /// Of a pair of lists those of the second list, then those of the first.
     pub answers: Vec<u8>,
     pub slip: Vec<u8>,
+    pub desk: Option<Vec<u8>>,
     pub numbers: Option<(u32, Vec<u32>)>,
     pub balances: Option<balances::Numbers>,
+    /// Whether demand 3 says nothing of this pair of lists.
+    pub not_claimed: bool,
 }
 
 pub struct Diff {
@@ -136,12 +143,17 @@ pub struct Counts {
     pub pair_faults: [u64; 3],
     /// Pairs of lists that gave two classes another number each.
     pub pair_numbers: u64,
+    /// Those with a release of mode 1 to 5 put in that was accepted, and that was refused with 5.
+    pub pair_released: u64,
+    pub pair_not_fitting: u64,
     pub asked_closed: u64,
     /// Questions on open desks where the class reaches itself.
     pub asked_itself: u64,
     /// From opening: accepted acquires that fill a frame, and those refused for a full one.
     pub filled: u64,
     pub over_full: u64,
+    /// Releases refused though an older lock of the class fits, by the newest lock's mode and the release's.
+    pub older_fits: [[u64; 6]; 6],
     /// Of the cycles shown: the longest, and dependencies by kind and source.
     pub longest_cycle: u8,
     pub shown: [[u64; 3]; 4],
@@ -339,6 +351,9 @@ impl Counts {
             numbers: OnceCell::new(),
             tally: OnceCell::new(),
         };
+        if let Some((newest, mode)) = look.older_fits() {
+            self.older_fits[usize::from(newest)][usize::from(mode)] += 1;
+        }
         self.last_sights = sights::of(&look);
         for (count, met) in self.sights.0.iter_mut().zip(self.last_sights.0) {
             *count += u64::from(met);
@@ -712,8 +727,12 @@ pub fn run(case: &Case, judges: &mut Judges, counts: &mut Counts) -> Result<(), 
                     let slip = &slip[..meant.slip.len().min(slip.len())];
                     return fail(format!("answers {:?}, slip {slip:?}, not {:?} and {:?}", ran.answers, meant.answers, meant.slip));
                 }
+                let desk = ran.reference.desk.see();
+                if let Some(at) = meant.desk.as_ref().and_then(|wanted| (0..DESK).find(|&at| desk[at] != wanted[at])) {
+                    return fail(format!("desk byte {at} is {}, and not as it was worked out", desk[at]));
+                }
                 if let Some((count, wanted)) = &meant.numbers {
-                    let (desk, seen) = (ran.reference.desk.see(), ran.reference.seen.see());
+                    let seen = ran.reference.seen.see();
                     let pairs = || (0..wanted.len()).map(|pair| numbers::number(seen, pair));
                     if numbers::count(desk) != *count || !pairs().eq(wanted.iter().copied()) {
                         let numbers: Vec<u32> = pairs().collect();
@@ -850,8 +869,16 @@ fn run_pair(case: &Case, k: u64, in_first: &[bool], judges: &mut Judges, counts:
     };
     let first = run("first", &first_ran.answers[1..], first_places);
     let second = run("second", &ran.answers[1..], places);
-    if second.records.len() != case.calls.len() || !claim::applies(&first, &second) {
-        return fail("generator", 0, "no pair of lists that demand 3 speaks of".into());
+    let claimed = !case.meant.as_ref().is_some_and(|meant| meant.not_claimed);
+    if second.records.len() != case.calls.len() || claim::applies(&first, &second) != claimed {
+        return fail("generator", 0, format!("a pair of lists that demand 3 {}", if claimed { "does not speak of" } else { "speaks of" }));
+    }
+    let answers = [second.answers, first.answers].concat();
+    if let Some(meant) = case.meant.as_ref().filter(|meant| meant.answers != answers) {
+        return fail("reference", case.calls.len(), format!("answers {answers:?}, not {:?}", meant.answers));
+    }
+    if !claimed {
+        return Ok(());
     }
     if let Some((part, at, text)) = claim::broken(&first, &second) {
         return fail(part, at + 1, format!("demand 3, {part}: {text}"));
@@ -866,6 +893,10 @@ fn run_pair(case: &Case, k: u64, in_first: &[bool], judges: &mut Judges, counts:
     }
     let [one, other] = [&first_ran, &ran].map(|ran| ran.reference.seen.see().chunks_exact(4).take((k * k) as usize));
     counts.pair_numbers += u64::from(one.zip(other).any(|(a, b)| a != b && a != [0; 4] && b != [0; 4]));
+    let put_in = (0..case.calls.len()).filter(|&at| !in_first[at]).filter_map(|at| record(&at).map(|record| (record, second.answers[at])));
+    let released: Vec<u8> = put_in.filter(|(record, _)| record.releases_by_mode()).map(|(_, answer)| answer).collect();
+    counts.pair_released += u64::from(released.contains(&0));
+    counts.pair_not_fitting += u64::from(released.contains(&5));
     counts.pair_records += second.answers.len() as u64;
     counts.pair_faults[usize::from(second.fault().is_some()) + usize::from(first.fault().is_some())] += 1;
     Ok(())

@@ -10,6 +10,7 @@ use crate::judges::{Judges, Subject};
 use crate::needs::{self, Need};
 use crate::numbers;
 use crate::planted::{Plant, PLANTS};
+use crate::releases;
 use crate::rng::Rng;
 use crate::run::{self, Case, Counts, BY_RECORDS, LEAST, NUMBERS};
 use crate::sights;
@@ -31,7 +32,7 @@ const SHOWN: u64 = 3;
 
 /// A seed with which so few cases meet every minimum, and one for the cases that planted judges get.
 const SEED: u64 = 8;
-const PLANT_SEED: u64 = 1;
+const PLANT_SEED: u64 = 2;
 
 fn quick(without: Option<Need>) -> Limits {
     Limits { seconds: 0, cases: CASES, seed: SEED, without, only: None, balances_first: false }
@@ -43,8 +44,8 @@ fn soon() -> Instant {
 
 /// In the library's place it is caught by the fixed cases alone and by the random ones alone, at a call that is one of
 /// the sights named for it. Where only the feed is wrong, cases without one are passed over, else those with one; likewise
-/// the balance; where it is wrong about clashes, all but those with clashes; where it is wrong about numbers or depths, the fixed ones about these come first.
-/// Of the random ones a judge that is wrong about depths gets those about depths alone.
+/// the balance; where it is wrong about clashes, all but those with clashes; where it is wrong about numbers, depths or releases, the
+/// fixed ones about these come first. Of the random ones a judge that is wrong about depths or releases gets those about these alone.
 fn caught(plant: &Plant) -> bool {
     let mut calls = Vec::new();
     for which in ["fixed", "random"] {
@@ -62,9 +63,13 @@ fn caught(plant: &Plant) -> bool {
             "fixed" if plant.of_feed => feeds::fixed(&mut each),
             "fixed" if plant.of_balance => balances::fixed(&mut each),
             "fixed" if plant.of_clash => clashes::fixed(&mut each),
-            "fixed" if plant.of_numbers || plant.of_depth => {
+            "fixed" if plant.of_numbers || plant.of_depth || plant.of_release => {
                 let mut going = true;
-                let first = if plant.of_depth { depths::fixed } else { numbers::fixed };
+                let first = match plant {
+                    Plant { of_depth: true, .. } => depths::fixed,
+                    Plant { of_release: true, .. } => releases::fixed,
+                    _ => numbers::fixed,
+                };
                 first(&mut |case| {
                     going = each(case);
                     going
@@ -80,6 +85,7 @@ fn caught(plant: &Plant) -> bool {
                     Plant { of_balance: true, .. } => Part::Balances,
                     Plant { of_clash: true, .. } => Part::Clashes,
                     Plant { of_depth: true, .. } => Part::Depths,
+                    Plant { of_release: true, .. } => Part::Releases,
                     _ => Part::Others,
                 };
                 Limits { cases: CASES_FOR_PLANT, only: Some(part), seed: PLANT_SEED, ..quick(None) }.random(soon(), &mut each);

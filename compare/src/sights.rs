@@ -5,6 +5,7 @@ use crate::clashes;
 use crate::cycles::{Choice, Drawing, Shown};
 use crate::drawing::FRAME;
 use crate::feeds::{self, ANSWER, KEEP, KEPT, OPENED};
+use crate::gen::{mode_at, places_of};
 use crate::numbers::{self, ABOVE, FULL, NO_KINDS, NO_NUMBER};
 use crate::older;
 use crate::run::{Call, History};
@@ -168,6 +169,57 @@ impl Look<'_> {
     /// K, or 0 on an empty desk.
     fn classes(&self) -> u8 {
         self.before.first().copied().unwrap_or(0)
+    }
+}
+
+/// Releases, and the modes of the acquires that they end.
+impl Look<'_> {
+    /// A release on a fit and open desk that refusals 3 and 4 let pass: its frame, class and mode.
+    fn released_in(&self) -> Option<(usize, u8, u8)> {
+        let (_, kind, class, mode) = self.record().filter(|_| self.answer < 10)?;
+        (kind == 1 && class < self.classes() && mode < 6).then(|| (self.frame(), class, mode))
+    }
+    /// One with such a mode, of whichever class, that a fit and open desk got.
+    fn released_by(&self, modes: RangeInclusive<u8>) -> bool {
+        self.answer < 10 && self.record().is_some_and(|(_, kind, _, mode)| kind == 1 && modes.contains(&mode))
+    }
+    /// One accepted in this mode.
+    fn fitted(&self, mode: u8) -> bool {
+        self.accepted(1).is_some_and(|r| r.1 == mode)
+    }
+    /// One refused though the class is held in the frame, such that this holds of the newest lock's mode and the release's.
+    fn unfitted(&self, such: impl Fn(u8, u8) -> bool) -> bool {
+        self.unfitted_at(|frame, newest, mode| such(mode_at(self.before, frame, newest), mode))
+    }
+    /// The same of the frame, the newest lock's place and the release's mode.
+    fn unfitted_at(&self, such: impl Fn(usize, usize, u8) -> bool) -> bool {
+        let Some((frame, class, mode)) = self.released_in().filter(|_| self.answer == 5) else { return false };
+        places_of(self.before, frame, class).next_back().is_some_and(|newest| such(frame, newest, mode))
+    }
+    /// The same, such that this holds of the modes of the older locks of the class, the oldest first, and the release's.
+    fn unfitted_over(&self, such: impl Fn(&[u8], u8) -> bool) -> bool {
+        self.unfitted_at(|frame, newest, mode| {
+            let class = hold(self.before, frame, newest) % 64;
+            let older: Vec<u8> = places_of(self.before, frame, class).map(|place| mode_at(self.before, frame, place)).collect();
+            such(&older[..older.len() - 1], mode)
+        })
+    }
+    /// The modes of the newest lock and of the release, where an older lock of the class has the release's.
+    pub fn older_fits(&self) -> Option<(u8, u8)> {
+        let (frame, class, mode) = self.released_in().filter(|_| self.answer == 5)?;
+        let newest = places_of(self.before, frame, class).next_back()?;
+        let fits = places_of(self.before, frame, class).any(|place| mode_at(self.before, frame, place) == mode);
+        fits.then(|| (mode_at(self.before, frame, newest), mode))
+    }
+    /// One refused where the class is not held in the frame but in such another one in the release's mode.
+    fn held_elsewhere(&self, such: impl Fn(usize, usize) -> bool) -> bool {
+        let Some((frame, class, mode)) = self.released_in().filter(|_| self.answer == 5) else { return false };
+        let fits = |other: usize| places_of(self.before, other, class).any(|place| mode_at(self.before, other, place) == mode);
+        places_of(self.before, frame, class).next().is_none() && (0..FRAMES).any(|other| other != frame && such(frame, other) && fits(other))
+    }
+    /// One accepted whose lock has another origin than such a place of a frame, if there is one.
+    fn origin_unlike(&self, other: impl Fn(usize, usize) -> Option<(usize, usize)>) -> bool {
+        self.release(|desk, f, p| other(f, p).is_some_and(|(g, q)| is_try(desk, f, p) != is_try(desk, g, q)))
     }
 }
 
@@ -699,6 +751,98 @@ pub const SIGHTS: &[Sight] = &[
             (0..p).any(|q| hold(desk, f, q) % 64 == lock % 64 && hold(desk, f, q) != lock)
         })
     }),
+    // The mode of a release.
+    sight("release of an exclusive lock", 10_000, |l| l.fitted(0)),
+    sight("release of a read", 5800, |l| l.fitted(1)),
+    sight("release of a recursive read", 12_000, |l| l.fitted(2)),
+    sight("release of an exclusive try", 7200, |l| l.fitted(3)),
+    sight("release of a try of a read", 4300, |l| l.fitted(4)),
+    sight("release of a try of a recursive read", 7400, |l| l.fitted(5)),
+    sight("release in mode 1 or 2", 20_000, |l| l.released_by(1..=2)),
+    sight("release in mode 3 to 5", 21_000, |l| l.released_by(3..=5)),
+    sight("release below a newer lock of another class", 17_000, |l| l.release(|desk, f, p| p + 1 < depth(desk, f))),
+    sight("read released as a write", 540, |l| l.unfitted(|newest, mode| newest % 3 > 0 && mode == newest / 3 * 3)),
+    sight("write released as a read", 500, |l| l.unfitted(|newest, mode| newest % 3 == 0 && mode % 3 > 0 && mode / 3 == newest / 3)),
+    sight("one read released as the other", 540, |l| {
+        l.unfitted(|newest, mode| newest % 3 > 0 && mode % 3 > 0 && mode != newest && mode / 3 == newest / 3)
+    }),
+    sight("try released as a wait", 470, |l| l.unfitted(|newest, mode| newest == mode + 3)),
+    sight("wait released as a try", 470, |l| l.unfitted(|newest, mode| newest + 3 == mode)),
+    sight("release in another mode and by another origin", 660, |l| {
+        l.unfitted(|newest, mode| newest / 3 != mode / 3 && newest % 3 != mode % 3)
+    }),
+    sight("release of a lock in another mode, of mode 0", 520, |l| l.unfitted(|_, mode| mode == 0)),
+    sight("release that no lock of its class fits", 2000, |l| l.unfitted_over(|older, mode| !older.contains(&mode))),
+    sight("release that the oldest lock of its class fits", 520, |l| l.unfitted_over(|older, mode| older.first() == Some(&mode))),
+    sight("release that the lock of its class below the newest fits", 510, |l| l.unfitted_over(|older, mode| older.last() == Some(&mode))),
+    sight("release that a lock of its class between others fits alone", 380, |l| {
+        l.unfitted_over(|older, mode| older.contains(&mode) && older.first() != Some(&mode) && older.last() != Some(&mode))
+    }),
+    sight("release in a log from opening that an older lock fits", 330, |l| l.history.steps.is_some() && l.older_fits().is_some()),
+    sight("release that an older lock fits, and the newest by its mode", 190, |l| {
+        l.older_fits().is_some_and(|(newest, mode)| newest % 3 == mode % 3)
+    }),
+    sight("release that an older lock fits, and the newest by its origin", 630, |l| {
+        l.older_fits().is_some_and(|(newest, mode)| newest / 3 == mode / 3)
+    }),
+    sight("release that fits the mode of one, the origin of another", 40, |l| {
+        let fits = |older: &[u8], newest: u8, mode: u8| newest / 3 == mode / 3 && older.iter().any(|m| m % 3 == mode % 3 && m / 3 != mode / 3);
+        l.unfitted_at(|f, p, mode| {
+            let class = hold(l.before, f, p) % 64;
+            let all: Vec<u8> = places_of(l.before, f, class).map(|place| mode_at(l.before, f, place)).collect();
+            !all.contains(&mode) && fits(&all, mode_at(l.before, f, p), mode)
+        })
+    }),
+    sight("release that the frame's newest lock, of another class, fits", 230, |l| {
+        l.unfitted_at(|f, p, mode| p + 1 < depth(l.before, f) && mode_at(l.before, f, depth(l.before, f) - 1) == mode)
+    }),
+    sight("release that fits, the frame's newest of another class and mode", 10_000, |l| {
+        l.release(|desk, f, p| {
+            let top = depth(desk, f) - 1;
+            p < top && mode_at(desk, f, top) != mode_at(desk, f, p)
+        })
+    }),
+    sight("release that fits, an older lock of its class in another mode", 7300, |l| {
+        l.release(|desk, f, p| places_of(desk, f, hold(desk, f, p) % 64).any(|q| mode_at(desk, f, q) != mode_at(desk, f, p)))
+    }),
+    sight("release that fits, an older one too, others between", 5300, |l| {
+        l.release(|desk, f, p| {
+            let same = |q: usize| hold(desk, f, q) == hold(desk, f, p) && is_try(desk, f, q) == is_try(desk, f, p);
+            (0..p).any(|q| same(q) && !(q..p).all(same))
+        })
+    }),
+    sight("release of a class held in another frame of the core alone", 26, |l| l.held_elsewhere(|f, other| f / 3 == other / 3)),
+    sight("release of a class held on another core alone", 190, |l| l.held_elsewhere(|f, other| f / 3 != other / 3)),
+    sight("release in a mode that another frame fits", 760, |l| {
+        l.unfitted_at(|f, p, mode| {
+            let (desk, class) = (l.before, hold(l.before, f, p) % 64);
+            (0..FRAMES).any(|g| g != f && places_of(desk, g, class).next_back().is_some_and(|q| mode_at(desk, g, q) == mode))
+        })
+    }),
+    sight("release whose origin the place above does not have", 14_000, |l| {
+        l.origin_unlike(|f, p| Some((f, p + 1)).filter(|_| p + 1 < DEEPEST))
+    }),
+    sight("release whose origin the place below does not have", 4600, |l| l.origin_unlike(|f, p| p.checked_sub(1).map(|q| (f, q)))),
+    sight("release whose origin the frame's newest does not have", 3600, |l| l.origin_unlike(|f, _| Some((f, depth(l.before, f) - 1)))),
+    sight("release whose origin the task's place does not have", 5800, |l| l.origin_unlike(|f, p| Some((f / 3 * 3, p)))),
+    sight("release whose origin the first frame's place does not have", 15_000, |l| l.origin_unlike(|_, p| Some((0, p)))),
+    sight("release in another mode at place 20 to 31", 230, |l| l.unfitted_at(|_, p, _| (20..32).contains(&p))),
+    sight("release in another mode at place 32 to 47", 460, |l| l.unfitted_at(|_, p, _| p >= 32)),
+    sight("release in another mode in a full frame", 250, |l| l.unfitted_at(|f, _, _| depth(l.before, f) == DEEPEST)),
+    sight("release in another mode in a task", 1900, |l| l.unfitted_at(|f, _, _| f % 3 == 0)),
+    sight("release in another mode in a soft handler", 540, |l| l.unfitted_at(|f, _, _| f % 3 == 1)),
+    sight("release in another mode in a hard handler", 740, |l| l.unfitted_at(|f, _, _| f % 3 == 2)),
+    sight("release in another mode over a lock that lacks a mark", 530, |l| {
+        l.unfitted_at(|f, _, _| {
+            let lacks = |place: usize| {
+                let marks = clashes::marks_of(l.state(), mode_at(l.before, f, place));
+                l.before[MARKS + usize::from(hold(l.before, f, place) % 64)] & marks != marks
+            };
+            (0..depth(l.before, f)).any(lacks)
+        })
+    }),
+    sight("release in another mode where a cycle stands", 200, |l| l.unfitted(|_, _| true) && !l.clean_before()),
+    sight("release in another mode at the last count", 240, |l| l.unfitted(|_, _| true) && numbers::count(l.before) == FULL),
     // Deep frames.
     sight("acquire over 20 held locks", 430, |l| l.acquires_over(20..=20)),
     sight("acquire over 21 to 46 held locks", 7500, |l| l.acquires_over(21..=46)),
@@ -816,7 +960,14 @@ pub const SIGHTS: &[Sight] = &[
     sight("acquire with mode 6 and class K or more", 150, |l| {
         l.refused(3, |kind, class, mode| kind == 0 && mode == 6 && class >= l.classes())
     }),
-    sight("release with a try's mode", 110, |l| l.refused(3, |kind, _, mode| kind == 1 && TRIES.contains(&mode))),
+    sight("release with mode 6", 110, |l| l.refused(3, |kind, class, mode| kind == 1 && mode == 6 && class < l.classes())),
+    sight("release with a mode over 6", 180, |l| l.refused(3, |kind, _, mode| kind == 1 && mode > 6)),
+    sight("release with a mode over 5 and class K or more", 140, |l| {
+        l.refused(3, |kind, class, mode| kind == 1 && mode > 5 && class >= l.classes())
+    }),
+    sight("release of class K or more in mode 0", 100, |l| l.refused(4, |kind, _, mode| kind == 1 && mode == 0)),
+    sight("release of class K or more in mode 1 to 5", 500, |l| l.refused(4, |kind, _, mode| kind == 1 && mode > 0)),
+    sight("release on a closed desk", 2200, |l| l.refused(10, |kind, _, mode| kind == 1 && mode < 6)),
     sight("event with a try's mode", 100, |l| {
         l.refused(3, |kind, class, mode| kind > 1 && class == 0 && TRIES.contains(&mode))
     }),
@@ -842,11 +993,12 @@ pub const SIGHTS: &[Sight] = &[
     sight("9 for an acquire over nothing", 280, |l| l.full_for(|kind, mode| kind == 0 && mode < 3) && l.draws().is_empty()),
     sight("9 for a try", 560, |l| l.full_for(|kind, mode| kind == 0 && mode > 2)),
     sight("9 for a release", 1800, |l| l.full_for(|kind, _| kind == 1)),
+    sight("9 for a release in mode 1 to 5", 1300, |l| l.full_for(|kind, mode| kind == 1 && mode > 0)),
     sight("9 for an event", 1300, |l| l.full_for(|kind, _| kind > 1)),
     sight("9 where a cycle stands", 600, |l| l.full_for(|_, _| !l.clean_before())),
     sight("3 at the last count", 240, |l| l.at_full(3)),
     sight("4 at the last count", 110, |l| l.at_full(4)),
-    sight("5 at the last count", 25, |l| l.at_full(5)),
+    sight("5 at the last count", 260, |l| l.at_full(5)),
     sight("6 at the last count", 450, |l| l.at_full(6)),
     sight("7 at the last count", 52, |l| l.at_full(7)),
     sight("8 at the last count", 29, |l| l.at_full(8)),
@@ -1065,6 +1217,7 @@ pub const SIGHTS: &[Sight] = &[
     at_feed("piece after a stop", 10_000, |l| l.piece_at(true).is_some_and(|p| !p.is_empty())),
     at_feed("empty piece after a stop", 1300, |l| l.piece_at(true).is_some_and(|p| p.is_empty())),
     at_feed("piece after a fault", 77, |l| l.answer == 1 && l.piece_at(true).is_some_and(|p| p.len() > 5)),
+    at_feed("record that stops with 5", 12, |l| l.stops(5)),
     at_feed("record that stops with 8", 10, |l| l.stops(8)),
     at_feed("record over an old desk in a longer buffer", 9, |l| l.fed_old()),
     at_feed("record that stops with 9", 130, |l| l.stops(9)),
@@ -1155,10 +1308,17 @@ pub const SIGHTS: &[Sight] = &[
     at_balance("acquire of mode 3 that counts", 610, |l| l.weighs(|t| t.acquires[3] > 0)),
     at_balance("acquire of mode 4 that counts", 590, |l| l.weighs(|t| t.acquires[4] > 0)),
     at_balance("acquire of mode 5 that counts", 670, |l| l.weighs(|t| t.acquires[5] > 0)),
-    at_balance("release that counts", 1000, |l| l.weighs(|t| t.releases > 0)),
+    at_balance("release of mode 0 that counts", 530, |l| l.weighs(|t| t.releases[0] > 0)),
+    at_balance("release of mode 1 that counts", 500, |l| l.weighs(|t| t.releases[1] > 0)),
+    at_balance("release of mode 2 that counts", 650, |l| l.weighs(|t| t.releases[2] > 0)),
+    at_balance("release of mode 3 that counts", 500, |l| l.weighs(|t| t.releases[3] > 0)),
+    at_balance("release of mode 4 that counts", 500, |l| l.weighs(|t| t.releases[4] > 0)),
+    at_balance("release of mode 5 that counts", 600, |l| l.weighs(|t| t.releases[5] > 0)),
     at_balance("record of core 0 that counts", 850, |l| l.weighs(|t| t.cores[0] > 0)),
     at_balance("record of core 7 that counts", 750, |l| l.weighs(|t| t.cores[7] > 0)),
-    at_balance("class acquired and released by different cores", 220, |l| l.weighs(|t| t.other_core)),
+    at_balance("class acquired by one core and released by another", 220, |l| l.weighs(|t| t.other_core)),
+    at_balance("class acquired in one mode and released in another", 240, |l| l.weighs(|t| t.other_mode)),
+    at_balance("class acquired over 255 times", 70, |l| l.weighs(|t| t.most > 255)),
     at_balance("class 0 in a piece", 540, |l| l.weighs(|t| t.balances[0] != 0)),
     at_balance("class 1 in a piece", 380, |l| l.weighs(|t| t.balances[1] != 0)),
     at_balance("class 62 in a piece", 120, |l| l.weighs(|t| t.balances[62] != 0)),
@@ -1169,6 +1329,7 @@ pub const SIGHTS: &[Sight] = &[
     at_balance("class 255 in a piece", 170, |l| l.weighs(|t| t.balances[255] != 0)),
     at_balance("kind 2 in a piece", 470, |l| l.weighs(|t| t.events[2] > 0)),
     at_balance("kind 3 in a piece", 470, |l| l.weighs(|t| t.events[3] > 0)),
+    at_balance("kind 4 to 8 in a piece", 470, |l| l.weighs(|t| t.events[4..9].iter().any(|&events| events > 0))),
     at_balance("kind 9 in a piece", 400, |l| l.weighs(|t| t.events[9] > 0)),
     at_balance("first record of a piece that counts", 850, |l| l.weighs(|t| t.first && t.records > 1)),
     at_balance("last record of a piece that counts", 920, |l| l.weighs(|t| t.last && t.records > 1)),
@@ -1179,8 +1340,8 @@ pub const SIGHTS: &[Sight] = &[
     at_balance("malformed by a core over 8 alone", 150, |l| l.only_by(3)),
     at_balance("malformed by mode 6 alone", 150, |l| l.only_by(4)),
     at_balance("malformed by a mode over 6 alone", 140, |l| l.only_by(5)),
-    at_balance("malformed by a release's mode up to 5 alone", 150, |l| l.only_by(6)),
-    at_balance("malformed by a release's mode over 5 alone", 140, |l| l.only_by(7)),
+    at_balance("malformed by a release's mode 6 alone", 140, |l| l.only_by(6)),
+    at_balance("malformed by a release's mode over 6 alone", 130, |l| l.only_by(7)),
     at_balance("malformed by kind 10 alone", 150, |l| l.only_by(8)),
     at_balance("malformed by a kind over 10 alone", 190, |l| l.only_by(9)),
     at_balance("malformed by an event's class alone", 170, |l| l.only_by(10)),
@@ -1212,7 +1373,7 @@ pub const SIGHTS: &[Sight] = &[
     // What a desk said of the records.
     at_balance("balances of records refused with 3", 51, |l| l.desk_said(3)),
     at_balance("balances of records refused with 4", 75, |l| l.desk_said(4)),
-    at_balance("balances of records refused with 5", 32, |l| l.desk_said(5)),
+    at_balance("balances of records refused with 5", 66, |l| l.desk_said(5)),
     at_balance("balances of records refused with 6", 100, |l| l.desk_said(6)),
     at_balance("balances of records refused with 7", 24, |l| l.desk_said(7)),
     at_balance("balances of records refused with 8", 34, |l| l.desk_said(8)),

@@ -3,7 +3,7 @@
 
 use crate::clashes;
 use crate::feeds;
-use crate::gen::{any_buffers, case, Buffers};
+use crate::gen::{any_buffers, case, push, Buffers};
 use crate::numbers;
 use crate::rng::Rng;
 use crate::run::{Call, Case, Meant, Rec};
@@ -391,9 +391,9 @@ fn record(rng: &mut Rng, s: &Sketch, desk: &mut [u8]) -> Rec {
     match rng.under(6) {
         0 => Rec::new(named, 0, class, rng.under(6) as u8),
         1 => {
-            desk[DEPTHS + frame] = 1;
-            desk[HOLDS + DEEPEST * frame] = class + 64 * rng.under(3) as u8;
-            Rec::new(named, 1, class, 0)
+            let mode = rng.under(6) as u8;
+            push(desk, frame, class + 64 * (mode % 3), mode > 2);
+            Rec::new(named, 1, class, mode)
         }
         // Over another lock: draws a dependency.
         2 => {
@@ -468,8 +468,8 @@ pub fn closing(rng: &mut Rng) -> (Vec<Rec>, usize) {
         for (class, mode) in [(from, first), (to, second)] {
             log.push(Rec::new(0, 0, class as u8, mode));
         }
-        for class in [to, from] {
-            log.push(Rec::new(0, 1, class as u8, 0));
+        for (class, mode) in [(to, second), (from, first)] {
+            log.push(Rec::new(0, 1, class as u8, mode));
         }
     };
     // From the class that comes last to those that will be held, by itself or over another.
@@ -489,7 +489,7 @@ pub fn closing(rng: &mut Rng) -> (Vec<Rec>, usize) {
         let soft = rng.mille(500);
         let enter = if soft { 6 } else { 8 };
         let mode = rng.under(3) as u8;
-        log.extend([Rec::new(2, enter, 0, 0), Rec::new(2, 0, home as u8, mode), Rec::new(2, 1, home as u8, 0)]);
+        log.extend([Rec::new(2, enter, 0, 0), Rec::new(2, 0, home as u8, mode), Rec::new(2, 1, home as u8, mode)]);
         if rng.mille(500) {
             log.push(Rec::new(2, 0, home as u8, rng.under(3) as u8));
         }

@@ -2,10 +2,10 @@
 //!
 //! Written from the documents alone (01, "What will be built, and the rules", and
 //! of 02 "A try never waits", "Logs arrive in pieces", "Show the shortest circle",
-//! "Clash of one class by table", "Where was this arrow first seen?", "Balance of a piece"
-//! and "Deeper nesting", with the feed's layout and fit test as they were handed over), to be
-//! compared byte for byte with the proved library. Sentences in quotation marks are the
-//! documents'.
+//! "Clash of one class by table", "Where was this arrow first seen?", "Balance of a piece",
+//! "Deeper nesting" and "Strict release", with the feed's layout and fit test as they were
+//! handed over), to be compared byte for byte with the proved library. Sentences in quotation
+//! marks are the documents'.
 //!
 //! How closed strong paths are decided: a path is a walk over *arrivals*, an
 //! arrival being a class together with the second letter (N or R) of the arrow
@@ -325,10 +325,7 @@ fn read_record(bytes: &[u8]) -> Option<Record> {
     if core > 7 || kind > 9 || mode > LAST_MODE {
         return None;
     }
-    // "Mode is 0 for a release; class and mode are 0 for kinds 2 to 9."
-    if kind == RELEASE && mode != 0 {
-        return None;
-    }
+    // "class and mode are 0 for kinds 2 to 9"; 02 h: "Document 01's mode 0 for a release goes"
     if kind >= 2 && (class != 0 || mode != 0) {
         return None;
     }
@@ -389,7 +386,9 @@ pub fn step(
     let newest = (first..first + depth)
         .rev()
         .find(|&at| desk[at] % 64 == class);
-    if kind == RELEASE && newest.is_none() {
+    // 02 h: "unless the newest hold of that class in the frame has exactly that mode and origin"
+    let taken = |at: usize| desk[at] / 64 + if is_try(desk, at) { TRY } else { 0 };
+    if kind == RELEASE && newest.map(taken) != Some(mode) {
         return 5;
     }
     // 8: "take, frame holds" 48; 02 g: "Answer 8 and the fit test read depth 48 for 20"
@@ -989,7 +988,10 @@ impl Books {
         let newest = self.holds[here].iter().rposition(|hold| hold.0 == class);
         let allowed = match kind {
             TAKE => class < self.k && self.holds[here].len() < DEEPEST,
-            RELEASE => class < self.k && newest.is_some(),
+            RELEASE => {
+                let taken = (class, mode % TRY, mode >= TRY);
+                class < self.k && newest.is_some_and(|at| self.holds[here][at] == taken)
+            }
             EXIT_SOFT | EXIT_HARD => {
                 next_state(state, kind).is_some() && self.holds[here].is_empty()
             }

@@ -24,8 +24,9 @@ type Rec = [u8; 6];
 fn take(core: u8, class: u8, mode: u8) -> Rec {
     [0x4C, 0x4B, core, TAKE, class, mode]
 }
-fn release(core: u8, class: u8) -> Rec {
-    [0x4C, 0x4B, core, RELEASE, class, 0]
+/// With the mode taken.
+fn release(core: u8, class: u8, mode: u8) -> Rec {
+    [0x4C, 0x4B, core, RELEASE, class, mode]
 }
 fn event(core: u8, kind: u8) -> Rec {
     [0x4C, 0x4B, core, kind, 0, 0]
@@ -300,8 +301,8 @@ fn p2_records() -> [Rec; 6] {
     [
         take(0, 1, E),
         take(0, 2, E),
-        release(0, 2),
-        release(0, 1),
+        release(0, 2, E),
+        release(0, 1, E),
         take(1, 2, E),
         take(1, 1, E),
     ]
@@ -314,8 +315,8 @@ fn p2() {
     assert_fault(&[
         take(0, 1, E),
         take(0, 2, E),
-        release(0, 1),
-        release(0, 2),
+        release(0, 1, E),
+        release(0, 2, E),
         take(1, 2, E),
         take(1, 1, E),
     ]);
@@ -324,8 +325,8 @@ fn p2() {
     assert_clean(&[
         take(0, 1, E),
         take(0, 2, E),
-        release(0, 2),
-        release(0, 1),
+        release(0, 2, E),
+        release(0, 1, E),
         take(1, 1, E),
         take(1, 2, E),
     ]);
@@ -333,7 +334,7 @@ fn p2() {
         take(0, 1, E),
         take(0, 2, E),
         take(1, 2, E),
-        release(1, 2),
+        release(1, 2, E),
         take(1, 1, E),
     ]);
 }
@@ -408,7 +409,7 @@ fn p9() {
     assert_clean(&[
         take(0, 0, E),
         take(0, 1, R),
-        release(0, 0),
+        release(0, 0, E),
         take(0, 2, E),
         take(1, 2, E),
         take(1, 0, E),
@@ -419,13 +420,13 @@ fn p9() {
 fn p10() {
     assert_fault(&[
         take(0, 3, E),
-        release(0, 3),
+        release(0, 3, E),
         event(0, ENTER_HARD),
         take(0, 3, E),
     ]);
     assert_clean(&[
         take(0, 3, R),
-        release(0, 3),
+        release(0, 3, R),
         event(0, ENTER_HARD),
         take(0, 3, R),
     ]);
@@ -433,10 +434,10 @@ fn p10() {
     assert_fault(&[take(0, 3, E), event(5, ENTER_HARD), take(5, 3, R)]);
     assert_clean(&[
         take(0, 3, R),
-        release(0, 3),
+        release(0, 3, R),
         event(0, ENTER_HARD),
         take(0, 3, R),
-        release(0, 3),
+        release(0, 3, R),
     ]);
     assert_fault(&[take(0, 3, NR), event(0, ENTER_HARD), take(0, 3, NR)]);
     // Taken with hard off: clean, until hard on marks the standing hold.
@@ -458,14 +459,14 @@ fn p10() {
         take(0, 3, E),
         event(1, ENTER_HARD),
         take(1, 3, E),
-        release(0, 3),
+        release(0, 3, E),
         event(0, HARD_ON),
     ]);
     // Soft-unsafe doesn't clash with hard-safe alone, nor does hard-off soft-on mark soft.
     assert_clean(&[
         event(0, HARD_OFF),
         take(0, 3, E),
-        release(0, 3),
+        release(0, 3, E),
         event(0, HARD_ON),
         event(0, ENTER_SOFT),
         take(0, 3, E),
@@ -477,13 +478,13 @@ fn p11() {
     let mut records = vec![
         event(0, ENTER_HARD),
         take(0, 4, E),
-        release(0, 4),
+        release(0, 4, E),
         event(0, EXIT_HARD), //
         event(0, HARD_OFF),
         take(0, 4, E),
         take(0, 5, E),
-        release(0, 5),
-        release(0, 4), //
+        release(0, 5, E),
+        release(0, 4, E), //
         event(0, HARD_ON),
         take(0, 5, E),
     ];
@@ -505,14 +506,14 @@ fn p12() {
     assert_clean(&[
         event(0, SOFT_OFF),
         take(0, 6, E),
-        release(0, 6),
+        release(0, 6, E),
         event(0, SOFT_ON),
         event(0, ENTER_SOFT),
         take(0, 6, E),
     ]);
     let fault = [
         take(0, 6, E),
-        release(0, 6),
+        release(0, 6, E),
         event(0, ENTER_SOFT),
         take(0, 6, E),
     ];
@@ -567,15 +568,17 @@ fn refusal_logs() {
         (3, 7)
     );
     assert_eq!(judge(8, &[event(0, EXIT_HARD)]), (1, 6));
-    assert_eq!(judge(8, &[release(0, 0)]), (1, 5));
-    assert_eq!(judge(8, &[take(0, 0, E), release(1, 0)]), (2, 5));
+    for mode in MODES {
+        assert_eq!(judge(8, &[release(0, 0, mode)]), (1, 5));
+    }
+    assert_eq!(judge(8, &[take(0, 0, E), release(1, 0, E)]), (2, 5));
     // Held in the task frame, but not in this one.
     assert_eq!(
-        judge(8, &[take(0, 0, E), event(0, ENTER_HARD), release(0, 0)]),
+        judge(8, &[take(0, 0, E), event(0, ENTER_HARD), release(0, 0, E)]),
         (3, 5)
     );
     assert_eq!(judge(8, &[take(0, 8, E)]), (1, 4));
-    assert_eq!(judge(8, &[release(0, 255)]), (1, 4));
+    assert_eq!(judge(8, &[release(0, 255, E)]), (1, 4));
     assert_eq!(judge(64, &[take(0, 63, E), take(0, 64, E)]), (2, 4));
 }
 
@@ -639,10 +642,14 @@ fn answer_3() {
     for mode in 6..=255 {
         b.refused(&[0x4C, 0x4B, 0, TAKE, 2, mode], 3);
     }
-    // No mode but 0 with the other kinds, those of a try neither.
-    for kind in 1..10 {
+    // A release of the class held carries a mode of a take, and no other.
+    for mode in 6..=255 {
+        b.refused(&release(0, 1, mode), 3);
+    }
+    // No mode but 0 with the kinds 2 to 9, those of a try neither.
+    for kind in 2..10 {
         for mode in 1..=255 {
-            b.refused(&[0x4C, 0x4B, 0, kind, u8::from(kind == RELEASE), mode], 3);
+            b.refused(&[0x4C, 0x4B, 0, kind, 0, mode], 3);
         }
     }
     for kind in 2..10 {
@@ -659,7 +666,7 @@ fn refusal_order() {
     b.refused(&[], 10); // 10 before 3
     b.refused(&take(0, 8, E), 10); // 10 before 4
     b.refused(&event(0, EXIT_HARD), 10); // 10 before 6
-    b.refused(&release(0, 0), 10); // 10 before 5
+    b.refused(&release(0, 0, E), 10); // 10 before 5
     b.sheet[63] = 16;
     b.settle();
     b.refused(&take(0, 0, E), 11);
@@ -670,8 +677,8 @@ fn refusal_order() {
     // 3 before 4: class K or more with a bad mode.
     let b = Bench::new(8);
     b.refused(&[0x4C, 0x4B, 0, TAKE, 8, 6], 3);
-    b.refused(&[0x4C, 0x4B, 0, RELEASE, 8, 1], 3);
-    b.refused(&[0x4C, 0x4B, 0, RELEASE, 8, TE], 3);
+    b.refused(&release(0, 8, 6), 3);
+    b.refused(&release(0, 255, 255), 3);
     for mode in MODES {
         b.refused(&take(0, 8, mode), 4);
         b.refused(&take(0, 255, mode), 4);
@@ -680,9 +687,12 @@ fn refusal_order() {
     b.refused(&[0x4C, 0x4B, 0, EXIT_HARD, 1, 0], 3);
     b.refused(&[0x4C, 0x4B, 0, EXIT_SOFT, 0, 2], 3);
     // 3 before 5.
-    b.refused(&[0x4C, 0x4B, 0, RELEASE, 1, 1], 3);
+    b.refused(&release(0, 1, 6), 3);
     // 4 before 5: nothing of class 8 can be held.
-    b.refused(&release(0, 8), 4);
+    for mode in MODES {
+        b.refused(&release(0, 8, mode), 4);
+        b.refused(&release(0, 1, mode), 5);
+    }
     // 4 and 3 before 8: the frame is full.
     let full = b.clean(&[take(0, 0, R); 48]);
     full.refused(&take(0, 0, 6), 3);
@@ -767,7 +777,7 @@ fn bytes_past_the_sizes_stay() {
     b.desk[9] = 8;
     b.desk[33] = 47;
     b.desk[1202..1249].fill(128);
-    let last = [take(7, 0, TRR), release(7, 0), take(7, 0, TRR)];
+    let last = [take(7, 0, TRR), release(7, 0, TRR), take(7, 0, TRR)];
     assert_eq!(last.map(|r| b.step(&r)), [0, 0, 0]);
     assert_eq!((b.desk[33], b.desk[1249]), (48, 128));
     assert_eq!(b.desk[1393..1398], [128, 3, 0, 0, 0]);
@@ -775,7 +785,10 @@ fn bytes_past_the_sizes_stay() {
     // The last pair's number is in the last four of 36 bytes.
     assert_eq!([take(1, 2, R), take(1, 2, R)].map(|r| b.step(&r)), [0, 0]);
     assert_eq!(b.seen[32..36], [5, 0, 0, 0]);
-    assert_eq!([release(1, 2), release(1, 2)].map(|r| b.step(&r)), [0, 0]);
+    assert_eq!(
+        [release(1, 2, R), release(1, 2, R)].map(|r| b.step(&r)),
+        [0, 0]
+    );
     let answers = p2_records().map(|r| b.step(&r));
     assert_eq!(answers, [0, 0, 0, 0, 0, 1]);
     assert_eq!(
@@ -970,7 +983,7 @@ fn a_fit_desk_is_judged_as_it_stands() {
     b.set_number(1, 2, 0x0403_0201);
     b.set_number(2, 1, 0x0807_0605);
     b.set_count(0x0807_0605);
-    b.refused(&release(0, 0), 5);
+    b.refused(&release(0, 0, E), 5);
     b.refused(&event(0, EXIT_HARD), 6);
     let mut with = b.clone();
     assert_eq!(with.step(&event(3, HARD_ON)), 1);
@@ -1070,7 +1083,10 @@ fn marks_by_state_and_mode() {
                 assert_eq!(b.step(&event(7, kind)), 0);
                 assert_eq!(b, after);
             }
-            assert_eq!([b.step(&take(7, 4, TE)), b.step(&release(7, 4))], [0, 0]);
+            assert_eq!(
+                [b.step(&take(7, 4, TE)), b.step(&release(7, 4, TE))],
+                [0, 0]
+            );
             marks[4] = expected[state as usize][3];
             assert_eq!(b.desk[MARKS..HOLDS], marks);
         }
@@ -1104,7 +1120,7 @@ fn desk_and_sheet_byte_by_byte() {
         take(1, 1, NR),
         take(1, 2, R),
         take(1, 3, E),
-        release(1, 1),
+        release(1, 1, NR),
     ]);
     let mut sheet = vec![0; 16];
     sheet[1] = EN;
@@ -1144,16 +1160,16 @@ fn release_takes_the_newest() {
         take(0, 2, R),
         take(0, 1, R),
         take(0, 3, R),
-        release(0, 1),
+        release(0, 1, R),
     ]);
     assert_eq!(b.desk[98..103], [129, 130, 131, 0, 0]);
-    let b = b.clean(&[release(0, 1)]);
+    let b = b.clean(&[release(0, 1, R)]);
     assert_eq!(b.desk[98..103], [130, 131, 0, 0, 0]);
-    b.refused(&release(0, 1), 5);
+    b.refused(&release(0, 1, R), 5);
     let mut b = Bench::new(4);
     b.desk[10] = 3;
     b.desk[98..101].copy_from_slice(&[1, 1 + 64, 1 + 128]);
-    assert_eq!(b.step(&release(0, 1)), 0);
+    assert_eq!(b.step(&release(0, 1, R)), 0);
     assert_eq!(b.desk[98..101], [1, 65, 0]);
 }
 
@@ -1195,7 +1211,12 @@ fn question() {
     assert_eq!(b.ask(0), (0, 0, 0));
     assert_eq!(b.ask(8), (4, 0, 0));
     // P9: 0 ER 1 isn't continued by 1 SN 2; but from 1 itself it is.
-    let b = Bench::new(8).clean(&[take(0, 0, E), take(0, 1, R), release(0, 0), take(0, 2, E)]);
+    let b = Bench::new(8).clean(&[
+        take(0, 0, E),
+        take(0, 1, R),
+        release(0, 0, E),
+        take(0, 2, E),
+    ]);
     assert_eq!(b.ask(0), (0, 0b10, 1));
     assert_eq!(b.ask(1), (0, 0b100, 1));
     // A class reached by R and, the long way, by N as well: 0 ER 1, 0 EN 2 EN 1, 1 SN 3.
@@ -1518,7 +1539,7 @@ fn circles_of_the_logs() {
             "P10",
             vec![
                 take(0, 3, E),
-                release(0, 3),
+                release(0, 3, E),
                 event(0, ENTER_HARD),
                 take(0, 3, E),
             ],
@@ -1528,7 +1549,7 @@ fn circles_of_the_logs() {
             "P12",
             vec![
                 take(0, 6, E),
-                release(0, 6),
+                release(0, 6, E),
                 event(0, ENTER_SOFT),
                 take(0, 6, E),
             ],
@@ -1553,10 +1574,10 @@ fn circles_of_the_logs() {
     let several = [
         take(1, 2, E),
         take(1, 1, E),
-        release(1, 1),
+        release(1, 1, E),
         take(1, 0, E),
-        release(1, 0),
-        release(1, 2), //
+        release(1, 0, E),
+        release(1, 2, E), //
         take(0, 1, E),
         take(0, 0, E),
         take(0, 2, E),
@@ -1571,6 +1592,8 @@ fn circles_of_the_logs() {
     let with = |at: usize, r: Rec| {
         let mut records = several;
         records[at] = r;
+        // What is taken first is released sixth, by the mode taken.
+        records[5][5] = records[0][5];
         records
     };
     let text = program(&log(8, &with(8, take(0, 2, R))));
@@ -1586,7 +1609,7 @@ fn circles_of_the_logs() {
     let marks_too = [
         event(0, ENTER_HARD),
         take(0, 3, E),
-        release(0, 3),
+        release(0, 3, E),
         event(0, EXIT_HARD),
         event(0, HARD_OFF), //
         take(0, 3, E),
@@ -1599,7 +1622,7 @@ fn circles_of_the_logs() {
     );
     // With 3 released before hard on, only 5 is unsafe: 3 EN 5 hold, 5 EN 3 hard.
     let mut without = marks_too.to_vec();
-    without.insert(7, release(0, 3));
+    without.insert(7, release(0, 3, E));
     assert_eq!(
         program(&log(8, &without)),
         "fault at record 9\n3 EN 5 hold\n5 EN 3 hard\n"
@@ -2689,13 +2712,13 @@ fn hold_circles_are_no_clash() {
     let mut b = Bench::new(8).clean(&[
         event(0, ENTER_HARD),
         take(0, 4, E),
-        release(0, 4),
+        release(0, 4, E),
         event(0, EXIT_HARD), //
         event(0, HARD_OFF),
         take(0, 4, E),
         take(0, 5, E),
-        release(0, 5),
-        release(0, 4), //
+        release(0, 5, E),
+        release(0, 4, E), //
         event(0, HARD_ON),
     ]);
     assert_eq!(b.step(&take(0, 5, E)), 1);
@@ -2851,6 +2874,13 @@ impl Naive {
             accepted: 0,
         }
     }
+    /// Whether the newest hold of the class, in the frame where the core is, was taken by
+    /// the release's own mode.
+    fn fits(&self, r: &Rec) -> bool {
+        let at = frame(r[2], self.state[r[2] as usize]);
+        let mut newest_first = self.holds[at].iter().rev();
+        newest_first.find(|hold| hold.0 == r[4]) == Some(&(r[4], r[5]))
+    }
     /// The record is known to be accepted.
     fn accept(&mut self, r: &Rec) {
         let (core, kind, class, mode) = (r[2], r[3], r[4], r[5]);
@@ -2871,7 +2901,7 @@ impl Naive {
             }
             RELEASE => {
                 let i = self.holds[at].iter().rposition(|h| h.0 == class).unwrap();
-                self.holds[at].remove(i);
+                assert_eq!(self.holds[at].remove(i).1, mode);
             }
             _ => self.state[core as usize] = next_state(self.state[core as usize], kind).unwrap(),
         }
@@ -2955,7 +2985,11 @@ fn random_record(dice: &mut Dice, k: u64, modes: &[u8]) -> Rec {
             dice.under(k) as u8,
             modes[dice.under(modes.len() as u64) as usize],
         ),
-        7..=11 => release(core, dice.under(k) as u8),
+        7..=11 => release(
+            core,
+            dice.under(k) as u8,
+            modes[dice.under(modes.len() as u64) as usize],
+        ),
         12 => {
             let mut r = take(core, dice.under(k + 2) as u8, dice.under(7) as u8);
             r[dice.under(6) as usize] ^= 1 << dice.under(8);
@@ -3005,6 +3039,9 @@ fn random_logs_byte_by_byte() {
             seen[answer as usize] += 1;
             beside_full += u64::from(before.desk[10..34].contains(&48) && answer == 0);
             assert_eq!(books.enter(&r), answer < 2);
+            if ![3, 4].contains(&answer) {
+                assert_eq!(answer == 5, r[3] == RELEASE && !naive.fits(&r));
+            }
             if answer > 1 {
                 assert_eq!(b, before);
                 continue;
@@ -3061,6 +3098,9 @@ fn balance_of_holds() {
     for k in [1, 3, 8, 64] {
         let mut b = Bench::new(k as usize);
         let mut balance = vec![[0i64; 64]; 24];
+        // Since a release names the mode taken, also for recursive reads that waited alone,
+        // and for tries alone.
+        let mut by_origin = vec![[[0i64; 64]; 2]; 24];
         let mut refusals = [0u64; 12];
         for _ in 0..20_000 {
             let r = random_record(&mut dice, k, &[R, R, TRR]);
@@ -3078,25 +3118,28 @@ fn balance_of_holds() {
             refusals[answer as usize] += 1;
             if answer == 0 && r[3] == TAKE {
                 balance[at][r[4] as usize] += 1;
+                by_origin[at][usize::from(r[5] == TRR)][r[4] as usize] += 1;
             }
             if answer == 0 && r[3] == RELEASE {
                 balance[at][r[4] as usize] -= 1;
+                by_origin[at][usize::from(r[5] == TRR)][r[4] as usize] -= 1;
             }
             for at in 0..24 {
                 let depth = b.desk[DEPTHS + at] as usize;
                 let holds = &b.desk[98 + 48 * at..98 + 48 * at + depth];
                 let mut counts = [0i64; 64];
-                for &hold in holds {
+                let mut origins = [[0i64; 64]; 2];
+                for (place, &hold) in holds.iter().enumerate() {
+                    let origin = b.desk[1250 + 6 * at + place / 8] >> (place % 8) & 1;
                     counts[hold as usize % 64] += 1;
+                    origins[usize::from(origin)][hold as usize % 64] += 1;
                 }
                 assert_eq!(counts, balance[at]);
+                assert_eq!(origins, by_origin[at]);
             }
         }
         for answer in [0, 3, 5, 6, 7, 8] {
-            assert!(
-                refusals[answer] > 0 || (k == 1 && answer == 5),
-                "K {k}, answer {answer}"
-            );
+            assert!(refusals[answer] > 0, "K {k}, answer {answer}");
         }
     }
 }
@@ -3106,7 +3149,7 @@ fn other_cores_records_never_undo_a_fault() {
     // Demand 3 in small: a fault of the shorter list comes in the longer one at the
     // same record or before.
     let mut dice = Dice(0xC0DE_CAFE_1357_9BDF);
-    let mut full = 0;
+    let (mut full, mut unfitting) = (0, 0);
     for round in 0..2_000 {
         let k = 1 + dice.under(5);
         let (mut short, mut long) = (Bench::new(k as usize), Bench::new(k as usize));
@@ -3125,9 +3168,17 @@ fn other_cores_records_never_undo_a_fault() {
             if r[2] == 5 {
                 continue;
             }
+            // 10 where a record put in has closed it.
+            let closed = long.desk[1] == 1;
             let (answer, with_more) = (short.step(&r), long.step(&r));
-            assert_eq!(answer == 8, with_more == 8);
+            if closed {
+                assert_eq!(with_more, 10);
+            } else {
+                assert_eq!(answer == 8, with_more == 8);
+                assert_eq!(answer == 5, with_more == 5);
+            }
             full += u64::from(answer == 8);
+            unfitting += u64::from(answer == 5);
             assert!(short.desk[1] <= long.desk[1]);
             if long.desk[1] == 1 {
                 break;
@@ -3135,6 +3186,7 @@ fn other_cores_records_never_undo_a_fault() {
         }
     }
     assert!(full > 100, "{full} met a full frame");
+    assert!(unfitting > 1_000, "{unfitting} releases didn't fit");
 }
 
 // ---------------------------------------------------------------------- tries
@@ -3195,7 +3247,7 @@ fn a_try_byte_by_byte() {
     desk[1269] = 1;
     assert_eq!(b.desk, desk);
     // The oldest goes: 145 and 147 to 152 move down one, the last out of byte 1,269.
-    let b = b.clean(&[release(1, 0)]);
+    let b = b.clean(&[release(1, 0, E)]);
     desk[10 + 3] = 8;
     desk[98 + 144..98 + 153].copy_from_slice(&[
         1 + 64,
@@ -3302,26 +3354,28 @@ fn the_newest_goes_whatever_its_origin() {
         (&b.desk[98..104], b.origins()),
         (&[1, 65, 2, 129, 3, 0][..], vec![1, 2, 3, 4])
     );
-    let b = b.clean(&[release(0, 1)]);
+    let b = b.clean(&[release(0, 1, TRR)]);
     assert_eq!(
         (&b.desk[98..104], b.origins()),
         (&[1, 65, 2, 3, 0, 0][..], vec![1, 2, 3])
     );
-    let b = b.clean(&[release(0, 1)]);
+    let b = b.clean(&[release(0, 1, TR)]);
     assert_eq!(
         (&b.desk[98..104], b.origins()),
         (&[1, 2, 3, 0, 0, 0][..], vec![1, 2])
     );
-    let b = b.clean(&[release(0, 1)]);
+    let b = b.clean(&[release(0, 1, E)]);
     assert_eq!(
         (&b.desk[98..104], b.origins()),
         (&[2, 3, 0, 0, 0, 0][..], vec![0, 1])
     );
-    b.refused(&release(0, 1), 5);
+    for mode in MODES {
+        b.refused(&release(0, 1, mode), 5);
+    }
     // A try under a wait of the same class and mode: the wait goes, the try stays.
-    let b = Bench::new(4).clean(&[take(0, 1, TRR), take(0, 1, R), release(0, 1)]);
+    let b = Bench::new(4).clean(&[take(0, 1, TRR), take(0, 1, R), release(0, 1, R)]);
     assert_eq!((&b.desk[98..100], b.origins()), (&[129, 0][..], vec![0]));
-    let b = Bench::new(4).clean(&[take(0, 1, R), take(0, 1, TRR), release(0, 1)]);
+    let b = Bench::new(4).clean(&[take(0, 1, R), take(0, 1, TRR), release(0, 1, TRR)]);
     assert_eq!((&b.desk[98..100], b.origins()), (&[129, 0][..], vec![]));
 }
 
@@ -3349,7 +3403,7 @@ fn a_release_moves_origins_within_its_frame() {
     assert_eq!(full.unfit(), None);
     for released in 0..48usize {
         // In the soft frame: 48 to 94 stay tries, 95 gets 0, the task frame keeps its own.
-        let b = full.clone().clean(&[release(0, released as u8)]);
+        let b = full.clone().clean(&[release(0, released as u8, TE)]);
         assert_eq!(b.desk[1250..1256], [0xAA; 6]);
         assert_eq!(
             b.desk[1256..1263],
@@ -3367,7 +3421,9 @@ fn a_release_moves_origins_within_its_frame() {
         // The next core's task frame begins in byte 1,268, after the hard frame.
         task.desk[13] = 48;
         task.desk[1268..1274].fill(0xFF);
-        let b = task.clone().clean(&[release(0, released as u8)]);
+        let b = task
+            .clone()
+            .clean(&[release(0, released as u8, [E, TE][released % 2])]);
         let expected: Vec<usize> = (0..48)
             .filter(|p| p % 2 == 1 && *p != released)
             .map(|p| if p > released { p - 1 } else { p })
@@ -3398,7 +3454,7 @@ fn a_release_moves_origins_within_its_frame() {
         task.desk[11] = 0;
         task.desk[146..194].fill(0);
         task.desk[1256..1262].fill(0);
-        let b = task.clean(&[release(0, released)]);
+        let b = task.clean(&[release(0, released, [E, TE][released as usize % 2])]);
         assert_eq!(b.desk[1250..1256], bytes, "release of {released}");
         assert_eq!(b.desk[1256..1394], [0; 138]);
     }
@@ -3412,7 +3468,7 @@ fn a_release_moves_origins_within_its_frame() {
     }
     hard.desk[1262..1268].fill(0xFF);
     hard.desk[1268] = 1;
-    let b = hard.clean(&[release(0, 0)]);
+    let b = hard.clean(&[release(0, 0, TE)]);
     assert_eq!(b.desk[1262..1269], [0xFF, 0xFF, 0xFF, 0xFF, 0xFF, 0x7F, 1]);
 }
 
@@ -3458,7 +3514,8 @@ fn a_release_in_every_frame() {
                 let mut after = b.desk.clone();
                 let first = 98 + 48 * at;
                 let mut holds = after[first..first + 48].to_vec();
-                holds.remove(released);
+                let by_try = u8::from(bits[48 * at + released]);
+                let mode = holds.remove(released) / 64 + 3 * by_try;
                 holds.push(0);
                 after[first..first + 48].copy_from_slice(&holds);
                 let mut own_bits = bits[48 * at..48 * at + 48].to_vec();
@@ -3472,7 +3529,7 @@ fn a_release_in_every_frame() {
                 after[1250..1394].copy_from_slice(&packed(&bits));
                 after[10 + at] = depth as u8 - 1;
                 after[1394] = 1;
-                assert_eq!(b.step(&release(core as u8, released as u8)), 0);
+                assert_eq!(b.step(&release(core as u8, released as u8, mode)), 0);
                 assert_eq!(b.desk, after, "frame {at}, place {released} of {depth}");
             }
         }
@@ -3502,7 +3559,7 @@ fn every_place_has_its_bit() {
             after[1250 + place / 8] = 1 << (place % 8);
             after[1394] = 1;
             assert_eq!(b.desk, after);
-            assert_eq!(b.step(&release(core as u8, 1)), 0);
+            assert_eq!(b.step(&release(core as u8, 1, TRR)), 0);
             assert_eq!((&b.desk[..1394], b.count()), (&gone[..1394], 2));
         }
     }
@@ -3514,7 +3571,12 @@ fn no_safe_mark_then_or_later() {
     for (enter, nothing_more) in [(ENTER_HARD, 0), (ENTER_SOFT, 4)] {
         let b = Bench::new(8).clean(&[event(0, enter), take(0, 3, TE)]);
         assert_eq!(b.desk[34 + 3], nothing_more);
-        let b = b.clean(&[take(0, 4, R), release(0, 4), take(0, 5, TR), release(0, 5)]);
+        let b = b.clean(&[
+            take(0, 4, R),
+            release(0, 4, R),
+            take(0, 5, TR),
+            release(0, 5, TR),
+        ]);
         assert_eq!(b.desk[34 + 3], nothing_more);
         assert_eq!(b.origins().len(), 1);
     }
@@ -3529,7 +3591,7 @@ fn no_safe_mark_then_or_later() {
     let b = b.clean(&[
         event(0, ENTER_HARD),
         take(0, 2, TE),
-        release(0, 2),
+        release(0, 2, TE),
         event(0, EXIT_HARD),
     ]);
     assert_eq!(b.desk[34..42], [0, 0, 0, 8, 0, 0, 0, 0]);
@@ -3544,14 +3606,14 @@ fn no_safe_mark_then_or_later() {
     // No hard-safe mark, so no fault with a task that holds the class.
     assert_clean(&[
         take(0, 3, E),
-        release(0, 3),
+        release(0, 3, E),
         event(0, ENTER_HARD),
         take(0, 3, TE),
-        release(0, 3),
+        release(0, 3, TE),
     ]);
     assert_clean(&[
         take(0, 6, E),
-        release(0, 6),
+        release(0, 6, E),
         event(0, ENTER_SOFT),
         take(0, 6, TE),
         event(0, HARD_OFF),
@@ -3581,7 +3643,7 @@ fn unsafe_marks_of_a_try_stay() {
     ]);
     assert_fault(&[
         take(0, 3, TE),
-        release(0, 3),
+        release(0, 3, TE),
         event(0, ENTER_HARD),
         take(0, 3, E),
     ]);
@@ -3653,15 +3715,18 @@ fn tries_at_full_depth() {
         (3, 7)
     );
     assert_eq!(
-        judge(8, &[take(0, 0, TE), event(0, ENTER_HARD), release(0, 0)]),
+        judge(
+            8,
+            &[take(0, 0, TE), event(0, ENTER_HARD), release(0, 0, TE)]
+        ),
         (3, 5)
     );
+    // Nor of what it holds here by another mode, or by none.
+    assert_eq!(judge(8, &[take(0, 0, TE), release(0, 0, E)]), (2, 5));
+    assert_eq!(judge(8, &[take(0, 0, TE), release(0, 0, TE)]), (2, 0));
+    assert_eq!(judge(8, &[take(0, 0, TE), release(0, 0, 6)]), (2, 3));
     assert_eq!(
-        judge(8, &[take(0, 0, TE), [0x4C, 0x4B, 0, RELEASE, 0, TE]]),
-        (2, 3)
-    );
-    assert_eq!(
-        judge(8, &[take(0, 0, TE), release(0, 0), release(0, 0)]),
+        judge(8, &[take(0, 0, TE), release(0, 0, TE), release(0, 0, TE)]),
         (3, 5)
     );
 }
@@ -3951,7 +4016,7 @@ fn all_cuts_of_short_logs() {
         (log(1, &[]), (0, 0), (0, 0)),
         (log(2, &[take(0, 0, E)]), (0, 1), (0, 1)),
         (
-            log(2, &[take(0, 0, E), take(0, 1, TR), release(0, 0)]),
+            log(2, &[take(0, 0, E), take(0, 1, TR), release(0, 0, E)]),
             (0, 3),
             (0, 3),
         ),
@@ -3997,7 +4062,7 @@ fn all_cuts_of_short_logs() {
             (4, 2),
         ),
         (
-            log(2, &[take(0, 0, E), release(0, 1), take(0, 1, E)]),
+            log(2, &[take(0, 0, E), release(0, 1, E), take(0, 1, E)]),
             (5, 2),
             (5, 2),
         ),
@@ -4208,7 +4273,7 @@ fn records_are_judged_when_complete() {
     for record in [
         take(0, 1, E),
         take(0, 8, E),
-        release(0, 1),
+        release(0, 1, E),
         [0; 6],
         [0xFF; 6],
     ] {
@@ -4457,7 +4522,7 @@ fn counts_near_the_limit() {
             ([0; 6], 3),
             (take(0, 2, E), 4),
             (event(0, EXIT_HARD), 6),
-            (release(0, 0), 5),
+            (release(0, 0, E), 5),
         ] {
             let mut fed = Fed::lying(0, 1, 1, [record[0], 0, 0, 0, 0], before, Bench::new(2));
             assert_eq!(fed.feed(&record[1..]), (answer, named));
@@ -4872,12 +4937,12 @@ fn accepted_records_are_counted_and_no_others() {
     };
     assert_eq!(next(&[], 3), (0, 0));
     next(&take(0, 3, E), 4);
-    next(&release(0, 1), 5);
+    next(&release(0, 1, E), 5);
     next(&event(0, EXIT_HARD), 6);
     // The first accepted has the number 1.
     assert_eq!(next(&take(0, 1, E), 0), (0, 0));
     next(&[0; 6], 3);
-    next(&release(0, 2), 5);
+    next(&release(0, 2, E), 5);
     // The second, eighth in the list.
     assert_eq!(next(&take(0, 2, E), 0), (2, 0));
     // Each of the ten kinds counts, those that change nothing too, and a try.
@@ -4888,7 +4953,7 @@ fn accepted_records_are_counted_and_no_others() {
     }
     next(&take(1, 0, TRR), 0);
     next(&event(1, EXIT_HARD), 7);
-    next(&release(1, 0), 0);
+    next(&release(1, 0, TRR), 0);
     next(&event(1, EXIT_HARD), 0);
     next(&event(1, EXIT_SOFT), 0);
     for _ in 0..48 {
@@ -4921,26 +4986,26 @@ fn numbers_of_the_logs() {
     ];
     let p10 = vec![
         take(0, 3, E),
-        release(0, 3),
+        release(0, 3, E),
         event(0, ENTER_HARD),
         take(0, 3, E),
     ];
     let p11 = vec![
         event(0, ENTER_HARD),
         take(0, 4, E),
-        release(0, 4),
+        release(0, 4, E),
         event(0, EXIT_HARD), //
         event(0, HARD_OFF),
         take(0, 4, E),
         take(0, 5, E),
-        release(0, 5),
-        release(0, 4), //
+        release(0, 5, E),
+        release(0, 4, E), //
         event(0, HARD_ON),
         take(0, 5, E),
     ];
     let p12 = vec![
         take(0, 6, E),
-        release(0, 6),
+        release(0, 6, E),
         event(0, ENTER_SOFT),
         take(0, 6, E),
     ];
@@ -4997,7 +5062,7 @@ fn numbers_of_the_logs() {
             None,
             Some(vec![]),
             Some(take(7, 8, E).to_vec()),
-            Some(release(7, 0).to_vec()),
+            Some(release(7, 0, E).to_vec()),
         ] {
             let mut list: Vec<Vec<u8>> = Vec::new();
             for r in &records {
@@ -5045,9 +5110,18 @@ fn a_later_kind_keeps_the_number() {
     };
     let mut shown_later = 0;
     for (a, b, c, d) in (0..81).map(|i| (i % 3, i / 3 % 3, i / 9 % 3, i / 27)) {
-        let mut bench =
-            Bench::new(3).clean(&[take(0, 1, a), take(0, 2, b), release(0, 2), release(0, 1)]);
-        bench = bench.clean(&[take(0, 1, c), take(0, 2, d), release(0, 2), release(0, 1)]);
+        let mut bench = Bench::new(3).clean(&[
+            take(0, 1, a),
+            take(0, 2, b),
+            release(0, 2, b),
+            release(0, 1, a),
+        ]);
+        bench = bench.clean(&[
+            take(0, 1, c),
+            take(0, 2, d),
+            release(0, 2, d),
+            release(0, 1, c),
+        ]);
         assert_eq!(bench.sheet[5], kind(a, b) | kind(c, d));
         let mut seen = vec![0; 36];
         seen[4 * 5] = 2;
@@ -5108,14 +5182,14 @@ fn an_interrupt_arrow_has_no_number() {
             1 => vec![
                 event(0, enter),
                 take(0, 1, R),
-                release(0, 1),
+                release(0, 1, R),
                 event(0, exit),
             ],
             _ => vec![
                 event(0, enter),
                 event(0, HARD_OFF),
                 take(0, 1, R),
-                release(0, 1),
+                release(0, 1, R),
                 event(0, HARD_ON),
                 event(0, exit),
             ],
@@ -5275,7 +5349,7 @@ fn every_pair_has_its_four_bytes() {
 fn a_bench_and_what_it_accepts() -> (Bench, Vec<Rec>) {
     let b = Bench::new(2).clean(&[take(0, 1, R), event(1, ENTER_SOFT), event(2, ENTER_HARD)]);
     let mut records = vec![
-        release(0, 1),
+        release(0, 1, R),
         event(0, HARD_ON),
         event(0, HARD_OFF),
         event(0, SOFT_ON),
@@ -5341,7 +5415,7 @@ fn the_highest_number() {
     assert_eq!(b.seen, [[0; 4], [255; 4], [0; 4], [0; 4]].concat());
     assert_eq!(b.unfit(), None);
     for r in [
-        release(0, 1),
+        release(0, 1, R),
         event(0, HARD_OFF),
         take(1, 1, TE),
         take(0, 1, R),
@@ -5385,10 +5459,10 @@ fn all_other_refusals_before_9() {
     b.refused(&[&take(0, 1, E)[..], &[0]].concat(), 3);
     b.refused(&event(8, HARD_ON), 3);
     b.refused(&take(0, 8, E), 4);
-    b.refused(&release(0, 8), 4);
-    b.refused(&release(0, 1), 5);
-    b.refused(&release(1, 0), 5);
-    b.refused(&release(0, 0), 9);
+    b.refused(&release(0, 8, E), 4);
+    b.refused(&release(0, 1, E), 5);
+    b.refused(&release(1, 0, E), 5);
+    b.refused(&release(0, 0, E), 9);
     b.refused(&event(0, EXIT_HARD), 6);
     b.refused(&event(0, EXIT_SOFT), 6);
     let soft = at_the_limit(Bench::new(8).clean(&[event(0, ENTER_SOFT), take(0, 0, E)]));
@@ -5403,7 +5477,7 @@ fn all_other_refusals_before_9() {
         full.refused(&take(0, 1, mode), 8);
         full.refused(&take(1, 1, mode), 9);
     }
-    full.refused(&release(0, 0), 9);
+    full.refused(&release(0, 0, R), 9);
     let mut closed = b.clone();
     closed.desk[1] = 1;
     for r in [take(0, 1, E), event(0, HARD_ON), [0; 6], take(0, 8, E)] {
@@ -5688,7 +5762,9 @@ fn over_256_accepted_before_an_arrow() {
         for i in 0..before {
             list.push(event(4, [HARD_OFF, HARD_ON][i as usize % 2]));
             if i % 2 == 0 {
-                list.push([take(4, 3, E), release(4, 1), event(4, EXIT_SOFT)][i as usize / 2 % 3]);
+                list.push(
+                    [take(4, 3, E), release(4, 1, E), event(4, EXIT_SOFT)][i as usize / 2 % 3],
+                );
             }
         }
         list.extend(p2_records());
@@ -5855,7 +5931,7 @@ fn the_feed_and_refusal_9() {
     // At the limit, what is refused otherwise is refused so.
     for (r, answer) in [
         (take(0, 8, E), 4),
-        (release(0, 0), 5),
+        (release(0, 0, E), 5),
         (event(0, EXIT_HARD), 6),
         ([0; 6], 3),
     ] {
@@ -5873,7 +5949,7 @@ fn numbers_may_differ_with_other_cores_records() {
         event(7, HARD_OFF),
         take(7, 0, E),
         event(7, EXIT_HARD),
-        release(7, 0),
+        release(7, 0, E),
     ];
     let (mut a, mut b) = (Bench::new(3), Bench::new(3));
     for r in short {
@@ -5903,12 +5979,12 @@ fn first_seen_by_the_records_alone() {
         take(0, 2, E).to_vec(), // class K
         take(0, 1, R).to_vec(),
         event(0, EXIT_SOFT).to_vec(),
-        release(0, 1).to_vec(),
-        release(0, 1).to_vec(),
+        release(0, 1, R).to_vec(),
+        release(0, 1, R).to_vec(),
         take(0, 1, E).to_vec(), // pair 0, 1 has its number
         take(1, 1, E).to_vec(),
         take(1, 0, TE).to_vec(), // a try
-        release(1, 0).to_vec(),
+        release(1, 0, TE).to_vec(),
         take(1, 0, E).to_vec(), // the fault
         take(2, 0, E).to_vec(),
         take(2, 0, E).to_vec(),
@@ -5921,7 +5997,7 @@ fn first_seen_by_the_records_alone() {
     // P10 and P12: no hold arrow, but a fault after which nothing is drawn.
     let p10 = [
         take(0, 3, E),
-        release(0, 3),
+        release(0, 3, E),
         event(0, ENTER_HARD),
         take(0, 3, E),
         take(0, 4, E),
@@ -5929,7 +6005,7 @@ fn first_seen_by_the_records_alone() {
     assert_eq!(first_seen(8, &p10), Some(vec![0; 64]));
     let p12 = [
         take(0, 6, E),
-        release(0, 6),
+        release(0, 6, E),
         event(0, ENTER_SOFT),
         take(0, 6, E),
         take(0, 4, E),
@@ -5944,19 +6020,19 @@ fn first_seen_by_the_records_alone() {
         vec![
             take(0, 0, E),
             take(0, 1, R),
-            release(0, 1),
-            release(0, 0), //
+            release(0, 1, R),
+            release(0, 0, E), //
             take(0, 1, R),
             take(0, 0, E),
-            release(0, 0),
-            release(0, 1), //
+            release(0, 0, E),
+            release(0, 1, R), //
             take(0, 1, E),
             take(0, 2, R),
-            release(0, 2),
-            release(0, 1), //
+            release(0, 2, R),
+            release(0, 1, E), //
             take(0, 2, mode),
             take(0, 1, E),
-            release(0, 1),
+            release(0, 1, E),
             take(0, 0, E),
         ]
     };
@@ -6064,24 +6140,27 @@ fn balances_by_hand() {
     // Nothing at all, and nothing left over: not a byte is printed.
     assert_eq!(balance(&[]), (0, [0; 64]));
     assert_eq!(balance_text(&[]), "");
-    assert_eq!(balance_text(&[take(0, 9, E), release(0, 9)].concat()), "");
-    assert_eq!(balance_text(&release(0, 9)), "9 -1\n");
+    assert_eq!(
+        balance_text(&[take(0, 9, E), release(0, 9, E)].concat()),
+        ""
+    );
+    assert_eq!(balance_text(&release(0, 9, E)), "9 -1\n");
     assert_eq!(balance_text(&take(0, 9, E)), "9 1\n");
     assert_eq!(balance_text(&[0; 5]), "refused 14\n");
     // Lowest class first by number, whatever the order of the records; 7 comes to 0.
     let piece = [
         take(1, 63, E),
-        release(0, 2),
+        release(0, 2, E),
         take(0, 10, NR),
-        release(2, 9),
+        release(2, 9, TRR),
         take(0, 7, R),
-        release(0, 2),
+        release(0, 2, NR),
         take(0, 0, TE),
         take(5, 10, TR),
-        release(7, 7),
-        release(0, 2),
+        release(7, 7, TE),
+        release(0, 2, R),
         take(7, 10, TRR),
-        release(0, 11),
+        release(0, 11, TR),
     ];
     assert_eq!(
         balance_text(&piece.concat()),
@@ -6099,7 +6178,7 @@ fn balances_by_hand() {
         let (record, sign) = if class % 2 == 0 {
             (take(class % 8, class, class % 6), 1)
         } else {
-            (release(class % 8, class), -1)
+            (release(class % 8, class, class / 2 % 6), -1)
         };
         all.splice(0..0, vec![record; times]);
         these.push((class as usize, sign * times as i32));
@@ -6121,7 +6200,7 @@ fn a_balance_is_never_held_at_zero() {
         (5_000, 5_000),
         (4_000, 6_000),
     ] {
-        let first = [release(0, 3)].repeat(releases).concat();
+        let first = [release(0, 3, NR)].repeat(releases).concat();
         let then = [take(0, 3, E)].repeat(takes).concat();
         let left = takes as i32 - releases as i32;
         let these = if left == 0 { vec![] } else { vec![(3, left)] };
@@ -6166,7 +6245,7 @@ fn lengths_of_a_piece() {
     }
     // Longer yet: all whole numbers of records but the last three, some a whole number of
     // records also by their low sixteen bits.
-    let long = over_and_over(&[release(2, 5)], 600_000);
+    let long = over_and_over(&[release(2, 5, R)], 600_000);
     for length in [
         65_532, 65_538, 119_994, 120_000, 120_006, 131_076, 196_608, 196_614, 256_608, 600_000,
         65_536, 125_536, 131_072,
@@ -6193,7 +6272,7 @@ fn lengths_of_a_piece() {
     // The first and the last of 10,000 records count, and one more of them refuses all.
     let mut piece = [event(0, HARD_ON); 10_000];
     piece[0] = take(0, 1, E);
-    piece[9_999] = release(0, 2);
+    piece[9_999] = release(0, 2, TRR);
     assert_balance(&piece.concat(), &[(1, 1), (2, -1)]);
     assert_14(&[piece.concat(), event(0, HARD_ON).to_vec()].concat());
 }
@@ -6205,12 +6284,14 @@ fn the_highest_and_the_lowest_balance() {
             let piece = over_and_over(&[take(7, class, mode)], 60_000);
             assert_balance(&piece, &[(class as usize, 10_000)]);
         }
-        let piece = over_and_over(&[release(7, class)], 60_000);
-        assert_balance(&piece, &[(class as usize, -10_000)]);
+        for mode in MODES {
+            let piece = over_and_over(&[release(7, class, mode)], 60_000);
+            assert_balance(&piece, &[(class as usize, -10_000)]);
+        }
         // Up or down to 5,000 and on.
         let half = |record: Rec| over_and_over(&[record], 30_000);
-        let (up, down) = (half(take(0, class, E)), half(release(0, class)));
-        let (other_up, other_down) = (half(take(0, 30, E)), half(release(0, 30)));
+        let (up, down) = (half(take(0, class, E)), half(release(0, class, E)));
+        let (other_up, other_down) = (half(take(0, 30, E)), half(release(0, 30, E)));
         assert_balance(&[&up[..], &down].concat(), &[]);
         assert_balance(&[&down[..], &up].concat(), &[]);
         let (mut a, mut b) = (
@@ -6228,7 +6309,7 @@ fn the_highest_and_the_lowest_balance() {
     ] {
         let up = over_and_over(&[take(0, 4, R)], 6 * times);
         assert_balance(&up, &[(4, times as i32)]);
-        let down = over_and_over(&[release(0, 4)], 6 * times);
+        let down = over_and_over(&[release(0, 4, TR)], 6 * times);
         assert_balance(&down, &[(4, -(times as i32))]);
     }
 }
@@ -6242,7 +6323,8 @@ fn classes_of_64_or_more_count_for_nothing() {
         for (record, one) in [
             (take(0, class, E), 1),
             (take(0, class, TRR), 1),
-            (release(0, class), -1),
+            (release(0, class, E), -1),
+            (release(0, class, TRR), -1),
         ] {
             let own = (class as usize, one);
             let alone = if class < 64 { vec![own] } else { vec![] };
@@ -6257,7 +6339,7 @@ fn classes_of_64_or_more_count_for_nothing() {
     }
     for class in [64, 65, 127, 128, 192, 254, 255] {
         assert_balance(&over_and_over(&[take(0, class, E)], 60_000), &[]);
-        assert_balance(&over_and_over(&[release(0, class)], 60_000), &[]);
+        assert_balance(&over_and_over(&[release(0, class, E)], 60_000), &[]);
     }
     // No K: classes above any that a log named count, up to 63.
     let every: Vec<Rec> = (0..=255).map(|class| take(0, class, E)).collect();
@@ -6269,25 +6351,24 @@ fn classes_of_64_or_more_count_for_nothing() {
 fn every_value_of_each_byte() {
     // A well-formed take or release with one byte changed: alone, and with a take of 20
     // before it and a release of 30 after it, which count in any case.
-    let (before, after) = (take(1, 20, R), release(6, 30));
+    let (before, after) = (take(1, 20, R), release(6, 30, TR));
     let mut counted = 0;
     for core in [0, 3, 7] {
         for class in [0, 9, 63] {
             let takes = MODES.map(|mode| (take(core, class, mode), 1));
+            let releases = MODES.map(|mode| (release(core, class, mode), -1));
             let own = usize::from(class);
-            for (record, one) in takes.into_iter().chain([(release(core, class), -1)]) {
+            for (record, one) in takes.into_iter().chain(releases) {
                 for at in 0..6 {
                     for value in 0..=255u8 {
                         let mut r = record;
                         r[at] = value;
-                        let is_take = one == 1;
                         let wanted = match (at, value) {
                             (0, 0x4C) | (1, 0x4B) | (2, 0..=7) => Some((own, one)),
                             (3, 0) => Some((own, 1)),
-                            (3, 1) if record[5] == 0 => Some((own, -1)),
+                            (3, 1) => Some((own, -1)),
                             (4, 0..=63) => Some((usize::from(value), one)),
-                            (5, 0) => Some((own, one)),
-                            (5, 1..=5) if is_take => Some((own, one)),
+                            (5, 0..=5) => Some((own, one)),
                             _ => None,
                         };
                         counted += usize::from(wanted.is_some());
@@ -6304,15 +6385,14 @@ fn every_value_of_each_byte() {
             }
         }
     }
-    // A take keeps its place with 1 + 1 + 8 + 1 + 64 + 6 values, with 2 for the kind of one
-    // in mode 0; a release with 1 + 1 + 8 + 2 + 64 + 1. By nine places.
-    assert_eq!(counted, 9 * (6 * 81 + 1 + 77));
+    // A take and a release each count with 1 + 1 + 8 + 2 + 64 + 6 values. By nine places.
+    assert_eq!(counted, 9 * 12 * 82);
 }
 
 #[test]
 fn every_kind_with_every_mode() {
-    // Bytes that should be 0: the mode of a release, class and mode of the kinds 2 to 9. The
-    // well-formed of those count for nothing, at class 0 neither.
+    // Bytes that should be 0: class and mode of the kinds 2 to 9. The well-formed of those
+    // count for nothing, at class 0 neither.
     for kind in 0..=255u8 {
         for class in [0, 1, 63, 64, 255u8] {
             for mode in 0..=255u8 {
@@ -6321,7 +6401,7 @@ fn every_kind_with_every_mode() {
                 if kind == 0 && mode <= 5 && class <= 63 {
                     wanted[usize::from(class)] = 1;
                 }
-                if kind == 1 && mode == 0 && class <= 63 {
+                if kind == 1 && mode <= 5 && class <= 63 {
                     wanted[usize::from(class)] = -1;
                 }
                 assert_eq!(balance(&r), (0, wanted), "{r:?}");
@@ -6347,12 +6427,12 @@ fn a_malformed_record_is_skipped() {
         [0x4C, 0x4B, 8, 0, 9, 0],
         [0x4C, 0x4B, 0, 10, 0, 0],
         [0x4C, 0x4B, 0, 0, 9, 6],
-        [0x4C, 0x4B, 0, 1, 9, 1],
-        [0x4C, 0x4B, 0, 1, 9, 3],
+        [0x4C, 0x4B, 0, 1, 9, 6],
+        [0x4C, 0x4B, 0, 1, 9, 255],
         [0x4C, 0x4B, 0, 2, 9, 0],
         [0x4C, 0x4B, 0, 9, 0, 2],
     ];
-    let (t, r) = (take(0, 9, E), release(0, 8));
+    let (t, r) = (take(0, 9, E), release(0, 8, E));
     for m in malformed {
         Bench::new(64).refused(&m, 3);
         assert_balance(&m, &[]);
@@ -6378,9 +6458,14 @@ fn records_lie_at_every_sixth_byte() {
         piece.resize(18, 0);
         assert_balance(&piece, &[]);
         // Nor is a record that lost bytes mended by those after it.
-        let torn = [&take(0, 9, E)[..shift], &release(0, 3), &release(0, 4)].concat();
+        let torn = [
+            &take(0, 9, E)[..shift],
+            &release(0, 3, E),
+            &release(0, 4, E),
+        ]
+        .concat();
         assert_14(&torn);
-        let torn = [&torn[..], &release(0, 5)[shift..]].concat();
+        let torn = [&torn[..], &release(0, 5, E)[shift..]].concat();
         assert_eq!(torn.len(), 18);
         assert_balance(&torn, &[]);
     }
@@ -6398,7 +6483,7 @@ fn a_piece_has_no_header() {
         assert_balance(&padded, &[]);
     }
     // And it gives no K: the class may be any.
-    let headed = [[0x4C, 0x48, 1, 2, 0, 0], take(0, 63, E), release(0, 2)];
+    let headed = [[0x4C, 0x48, 1, 2, 0, 0], take(0, 63, E), release(0, 2, E)];
     assert_balance(&headed.concat(), &[(2, -1), (63, 1)]);
 }
 
@@ -6407,10 +6492,18 @@ fn what_no_desk_accepts_counts() {
     // "whether or not a desk would accept them". Refused with 5: never taken, or in another
     // core's frame.
     let b = Bench::new(64).clean(&[take(0, 9, R)]);
-    b.refused(&release(0, 3), 5);
-    b.refused(&release(1, 9), 5);
-    assert_balance(&[take(0, 9, R), release(0, 3)].concat(), &[(3, -1), (9, 1)]);
-    assert_balance(&[take(0, 9, R), release(1, 9)].concat(), &[]);
+    b.refused(&release(0, 3, R), 5);
+    b.refused(&release(1, 9, R), 5);
+    assert_balance(
+        &[take(0, 9, R), release(0, 3, R)].concat(),
+        &[(3, -1), (9, 1)],
+    );
+    assert_balance(&[take(0, 9, R), release(1, 9, R)].concat(), &[]);
+    // Or by another mode.
+    b.refused(&release(0, 9, E), 5);
+    b.refused(&release(0, 9, TRR), 5);
+    assert_balance(&[take(0, 9, R), release(0, 9, E)].concat(), &[]);
+    assert_balance(&[take(0, 9, R), release(0, 9, TRR)].concat(), &[]);
     // With 8: the forty-ninth in one frame, and what stands after it.
     let full = Bench::new(1).clean(&[take(0, 0, R); 48]);
     full.refused(&take(0, 0, R), 8);
@@ -6422,7 +6515,7 @@ fn what_no_desk_accepts_counts() {
     assert_balance(&piece.concat(), &[(1, 1)]);
     let piece = [event(0, ENTER_HARD), take(0, 1, E), event(0, EXIT_HARD)];
     Bench::new(2).clean(&piece[..2]).refused(&piece[2], 7);
-    let piece = [&piece[..], &[release(0, 1), release(0, 1)]].concat();
+    let piece = [&piece[..], &[release(0, 1, E), release(0, 1, E)]].concat();
     assert_balance(&piece.concat(), &[(1, -1)]);
     // With 4 where K is less than 64.
     Bench::new(8).refused(&take(0, 8, E), 4);
@@ -6434,7 +6527,7 @@ fn what_no_desk_accepts_counts() {
     // With 10: after the fault, and the fault's own record.
     let mut piece = p2_records().to_vec();
     assert_balance(&piece[..5].concat(), &[(2, 1)]);
-    piece.extend([take(1, 5, E), release(1, 1), release(1, 1)]);
+    piece.extend([take(1, 5, E), release(1, 1, E), release(1, 1, E)]);
     assert_balance(&piece.concat(), &[(1, -1), (2, 1), (5, 1)]);
     // One class taken and released in different frames, cores and modes is one class.
     let piece = [
@@ -6443,7 +6536,7 @@ fn what_no_desk_accepts_counts() {
         take(0, 4, TR),
         event(0, ENTER_HARD),
         take(0, 4, R),
-        release(3, 4),
+        release(3, 4, TRR),
     ];
     assert_balance(&piece.concat(), &[(4, 2)]);
 }
@@ -6454,8 +6547,10 @@ fn takes_of_all_modes_count() {
         .into_iter()
         .zip(["E", "r", "R", "try E", "try r", "try R"])
     {
-        let piece = [take(0, 6, mode), take(7, 6, mode), release(0, 6)].concat();
-        assert_eq!(balance(&piece), (0, balances(&[(6, 1)])), "{name}");
+        for by in MODES {
+            let piece = [take(0, 6, mode), take(7, 6, mode), release(0, 6, by)].concat();
+            assert_eq!(balance(&piece), (0, balances(&[(6, 1)])), "{name}, {by}");
+        }
         assert_balance(&take(0, 6, mode), &[(6, 1)]);
     }
     let each = MODES.map(|mode| take(0, mode, mode)).concat();
@@ -6475,7 +6570,7 @@ fn piece_record(dice: &mut Dice) -> Rec {
     };
     let mut r = match dice.under(8) {
         0..=3 => take(core, class, dice.under(6) as u8),
-        4..=6 => release(core, class),
+        4..=6 => release(core, class, dice.under(6) as u8),
         _ => event(core, 2 + dice.under(8) as u8),
     };
     match dice.under(15) {
@@ -6505,8 +6600,8 @@ fn by_listing(piece: &[u8]) -> [i32; 64] {
         for core in 0..8 {
             for mode in MODES {
                 all[usize::from(class)] += times(take(core, class, mode));
+                all[usize::from(class)] -= times(release(core, class, mode));
             }
-            all[usize::from(class)] -= times(release(core, class));
         }
     }
     all
@@ -6709,7 +6804,7 @@ const AT_A_TIME: [usize; 11] = [
 #[test]
 fn a_piece_read_bit_by_bit() {
     // Per three records, one take of 5 left, a release of 9, and one that is skipped.
-    let bytes = [take(0, 5, E), release(1, 9), [0; 6]].concat();
+    let bytes = [take(0, 5, E), release(1, 9, E), [0; 6]].concat();
     for most in AT_A_TIME {
         let text = |limit| {
             let (fails, given) = (None, 0);
@@ -6772,7 +6867,7 @@ fn a_piece_read_bit_by_bit() {
 
 #[test]
 fn an_input_error_is_no_answer() {
-    let bytes = [take(0, 5, E), release(1, 9), [0; 6]].concat();
+    let bytes = [take(0, 5, E), release(1, 9, E), [0; 6]].concat();
     for kind in [
         ErrorKind::Other,
         ErrorKind::UnexpectedEof,
@@ -6812,7 +6907,7 @@ fn an_input_error_is_no_answer() {
 #[test]
 fn an_output_error_is_an_error() {
     // Room for all of the text, or for a byte less.
-    let two = [take(0, 5, E), release(0, 63)].concat();
+    let two = [take(0, 5, E), release(0, 63, E)].concat();
     for (piece, wanted) in [(&two[..], "5 1\n63 -1\n"), (&two[..7], "refused 14\n")] {
         for short in [0, 1, 7] {
             let mut room = vec![0; wanted.len() - short];
@@ -6923,7 +7018,7 @@ fn assert_unfit(b: &Bench) {
     for r in [
         take(0, 0, E),
         take(3, 0, TRR),
-        release(0, 0),
+        release(0, 0, E),
         event(0, HARD_OFF),
         event(7, EXIT_HARD),
         take(0, 255, E),
@@ -6977,7 +7072,7 @@ fn forty_eight_in_every_frame() {
                     assert_eq!(b.clone().step(&take(other, 2, TE)), 0);
                 }
                 // And the newest goes again.
-                let mut gone = b.clone().clean(&[release(core, 1)]);
+                let mut gone = b.clone().clean(&[release(core, 1, last)]);
                 gone.desk[34..98].copy_from_slice(&nearly.desk[34..98]);
                 gone.set_count(nearly.count());
                 assert_eq!(gone.desk, nearly.desk);
@@ -7020,7 +7115,9 @@ fn room_for_one_more() {
         full.refused(&take(core, 48, R), 8);
         for place in 0..48usize {
             let mode = MODES[(at / 3 + place) % 6];
-            let room = full.clone().clean(&[release(core, place as u8)]);
+            let room = full
+                .clone()
+                .clean(&[release(core, place as u8, [R, TRR][at % 2])]);
             assert_eq!(room.desk[10 + at], 47);
             let b = room.clone().clean(&[take(core, 48, mode)]);
             b.refused(&take(core, 48, TRR), 8);
@@ -7066,8 +7163,8 @@ fn what_comes_before_8_and_after() {
             limit.refused(&take(core, 8, mode), 4);
             limit.refused(&take((core + 1) % 8, 0, mode), 9);
         }
-        limit.refused(&release(core, 0), 9);
-        limit.refused(&release(core, 1), 5);
+        limit.refused(&release(core, 0, R), 9);
+        limit.refused(&release(core, 1, R), 5);
         limit.refused(&event(core, ENTER_SOFT), if at % 3 == 0 { 9 } else { 6 });
         if at % 3 > 0 {
             limit.refused(&event(core, [EXIT_SOFT, EXIT_HARD][at % 3 - 1]), 7);
@@ -7115,9 +7212,9 @@ fn depth_bytes() {
                 assert_eq!(more.desk[10 + at], depth + 1);
             }
             if depth == 0 {
-                b.refused(&release(core, 0), 5);
+                b.refused(&release(core, 0, E), 5);
             } else {
-                assert_eq!(b.step(&release(core, 0)), 0);
+                assert_eq!(b.step(&release(core, 0, E)), 0);
                 assert_eq!(b.desk[10 + at], depth - 1);
             }
         }
@@ -7229,13 +7326,15 @@ fn all_frames_full_at_once() {
     // And all go again, from the middle, the oldest and the newest in turn.
     for at in (0..24usize).rev() {
         let core = at as u8 / 3;
-        let mut held: Vec<u8> = (0..48).map(|place| class(at, place)).collect();
+        let mut held: Vec<(u8, u8)> = (0..48).map(|p| (class(at, p), mode(at, p))).collect();
         while !held.is_empty() {
             let place = [held.len() / 2, 0, held.len() - 1][held.len() % 3];
-            let r = release(core, held.remove(place));
+            let (class, mode) = held.remove(place);
+            b.refused(&release(core, class, [R, TRR][usize::from(mode == R)]), 5);
+            let r = release(core, class, mode);
             assert_eq!(b.step(&r), 0);
             naive.accept(&r);
-            let bytes: Vec<u8> = held.iter().map(|class| class + 128).collect();
+            let bytes: Vec<u8> = held.iter().map(|hold| hold.0 + 128).collect();
             assert_eq!(b.desk[98 + 48 * at..98 + 48 * at + held.len()], bytes);
         }
         if at % 10 == 1 {
@@ -7282,7 +7381,7 @@ fn forty_seven_arrows() {
         // The forty-ninth class is refused while 48 stand, and draws nothing.
         b.refused(&take(core, 48, E), 8);
         // The oldest goes: 47 arrows from 1 to 47 by the fiftieth record.
-        let mut oldest = b.clone().clean(&[release(core, 0), take(core, 48, E)]);
+        let mut oldest = b.clone().clean(&[release(core, 0, E), take(core, 48, E)]);
         check(&oldest, &|i, j| {
             if j == 48 && i > 0 && i < 48 {
                 50
@@ -7291,7 +7390,7 @@ fn forty_seven_arrows() {
             }
         });
         // The newest goes: 47 from 0 to 46.
-        let newest = b.clone().clean(&[release(core, 47), take(core, 48, E)]);
+        let newest = b.clone().clean(&[release(core, 47, R), take(core, 48, E)]);
         check(&newest, &|i, j| {
             if j == 48 && i < 47 {
                 50
@@ -7300,11 +7399,11 @@ fn forty_seven_arrows() {
             }
         });
         // A try in its place draws none.
-        let by_try = b.clone().clean(&[release(core, 20), take(core, 48, TE)]);
+        let by_try = b.clone().clean(&[release(core, 20, R), take(core, 48, TE)]);
         check(&by_try, &among);
         // Again and again, each time with the oldest gone: 47 arrows each.
         for class in 49..64 {
-            assert_eq!(oldest.step(&release(core, class - 48)), 0);
+            assert_eq!(oldest.step(&release(core, class - 48, class % 3)), 0);
             assert_eq!(oldest.step(&take(core, class, class % 3)), 0);
             oldest.refused(&take(core, class, class % 3), 8);
         }
@@ -7337,8 +7436,8 @@ fn first_seen_in_a_full_frame() {
             }
             assert_eq!(books.accepted(), accepted);
             assert_eq!(first_seen(2, &list), Some(vec![0; 4]));
-            list.extend([release(core, 0), take(core, 1, mode), take(core, 0, R)]);
-            assert!(books.enter(&release(core, 0)) && books.enter(&take(core, 1, mode)));
+            list.extend([release(core, 0, TE), take(core, 1, mode), take(core, 0, R)]);
+            assert!(books.enter(&release(core, 0, TE)) && books.enter(&take(core, 1, mode)));
             assert!(!books.enter(&take(core, 0, R)));
             assert_eq!(books.numbers(), [0, accepted + 2, 0, 0]);
             assert_eq!(first_seen(2, &list).as_deref(), Some(books.numbers()));
@@ -7432,7 +7531,7 @@ fn marks_at_each_place() {
                 assert_eq!(b.desk[34..82], marks, "{others}, at {place} {one}");
                 // A release below moves the bit along; marks are as they were.
                 let gone = if place == 0 { 1 } else { 0 };
-                assert_eq!(b.step(&release(core, gone)), 0);
+                assert_eq!(b.step(&release(core, gone, mode(gone))), 0);
                 assert_eq!(b.desk[34..82], marks);
             }
         }
@@ -7455,8 +7554,9 @@ fn the_newest_of_two_places() {
             let mut bits = vec![false; 1152];
             bits[48 * at + if by_try { older } else { newer }] = true;
             b.desk[1250..1394].copy_from_slice(&packed(&bits));
-            for gone in [newer, older] {
-                assert_eq!(b.step(&release(at as u8 / 3, 1)), 0);
+            let modes = if by_try { [NR, TE] } else { [TR, E] };
+            for (gone, mode) in [newer, older].into_iter().zip(modes) {
+                assert_eq!(b.step(&release(at as u8 / 3, 1, mode)), 0);
                 holds.remove(gone);
                 holds.push(0);
                 bits.insert(48 * at + 48, false);
@@ -7465,7 +7565,9 @@ fn the_newest_of_two_places() {
                 assert_eq!(b.desk[1250..1394], packed(&bits));
             }
             assert_eq!(b.desk[10 + at], 46);
-            b.refused(&release(at as u8 / 3, 1), 5);
+            for mode in MODES {
+                b.refused(&release(at as u8 / 3, 1, mode), 5);
+            }
         }
     }
 }
@@ -7693,13 +7795,13 @@ fn an_old_count_read_as_a_hold() {
     assert_eq!((long.desk[638], long.count()), (5, 0));
     assert_eq!(long.unfit(), None);
     assert!(fit_by_hand(&long));
-    long.refused(&release(3, 4), 5);
+    long.refused(&release(3, 4, E), 5);
     let mut after = long.clone();
     after.desk[10 + 11] = 15;
     (after.desk[34], after.desk[34 + 5]) = (1, 0);
     after.desk[638] = 0;
     after.set_count(1);
-    assert_eq!(long.step(&release(3, 5)), 0);
+    assert_eq!(long.step(&release(3, 5, E)), 0);
     assert_eq!(long, after);
     // With 12 it is unused, with 13 it stands; a class of K or more doesn't.
     for (depth, count, fit) in [
@@ -7831,6 +7933,915 @@ fn fit_or_unfit_by_hand() {
     assert!(fits > 3_000 && unfits > 3_000, "{fits} fit, {unfits} not");
 }
 
+// -------------------------------------------------------------- strict release
+
+impl Bench {
+    /// Writes the holds of a frame by hand, oldest first: class, and mode as in the take.
+    fn put(&mut self, at: usize, holds: &[(u8, u8)]) {
+        self.desk[10 + at] = holds.len() as u8;
+        self.desk[98 + 48 * at..146 + 48 * at].fill(0);
+        self.desk[1250 + 6 * at..1256 + 6 * at].fill(0);
+        for (place, &(class, mode)) in holds.iter().enumerate() {
+            self.desk[98 + 48 * at + place] = class + 64 * (mode % 3);
+            self.desk[1250 + 6 * at + place / 8] |= u8::from(mode >= 3) << (place % 8);
+        }
+    }
+    /// The same holds in all frames but this one and those of its core above it; the other
+    /// cores are in state 8.
+    fn put_elsewhere(&mut self, at: usize, holds: &[(u8, u8)]) {
+        for other in (0..24).filter(|other| other / 3 != at / 3 || *other < at) {
+            if other / 3 != at / 3 {
+                self.desk[2 + other / 3] = 8;
+            }
+            self.put(other, holds);
+        }
+    }
+    /// This bench after a record of the core in state 3, 5 or 8 that leaves these holds in
+    /// its frame: counted, and each of them marked.
+    fn left_with(&self, at: usize, holds: &[(u8, u8)]) -> Bench {
+        let mut b = self.counted();
+        b.put(at, holds);
+        for &(class, mode) in holds.iter().filter(|hold| hold.1 < 3) {
+            let safe: u8 = [0, 16, 1][at % 3];
+            b.desk[34 + class as usize] |= if mode == R { 2 * safe } else { safe };
+        }
+        b
+    }
+}
+
+/// A bench with a core in the frame of this number, in state 3, 5 or 8, and these holds.
+fn holding(k: usize, at: usize, holds: &[(u8, u8)]) -> Bench {
+    let mut b = Bench::new(k);
+    b.desk[2 + at / 3] = [3, 5, 8][at % 3];
+    b.put(at, holds);
+    b
+}
+
+/// Releases of a class by each of the six modes, on a bench that has these holds in the
+/// frame: the mode that fits takes the hold at its place away, the others get 5.
+fn assert_only(b: &Bench, at: usize, holds: &[(u8, u8)], class: u8, fits: Option<(u8, usize)>) {
+    assert_eq!(b.unfit(), None);
+    for mode in MODES {
+        let r = release(at as u8 / 3, class, mode);
+        match fits {
+            Some((own, place)) if own == mode => {
+                let mut left = holds.to_vec();
+                left.remove(place);
+                let mut after = b.clone();
+                assert_eq!(after.step(&r), 0, "frame {at}, {holds:?}, {r:?}");
+                assert_eq!(
+                    after,
+                    b.left_with(at, &left),
+                    "frame {at}, {holds:?}, {r:?}"
+                );
+            }
+            _ => b.refused(&r, 5),
+        }
+    }
+}
+
+#[test]
+fn the_mode_taken() {
+    // Rows: taken by E, r, R and tries of them; columns: released by the same.
+    let answers: [[u8; 6]; 6] = [
+        [0, 5, 5, 5, 5, 5],
+        [5, 0, 5, 5, 5, 5],
+        [5, 5, 0, 5, 5, 5],
+        [5, 5, 5, 0, 5, 5],
+        [5, 5, 5, 5, 0, 5],
+        [5, 5, 5, 5, 5, 0],
+    ];
+    for (taken, mode) in MODES.into_iter().flat_map(|t| MODES.map(|m| (t, m))) {
+        let answer = answers[taken as usize][mode as usize];
+        // From opening, by steps, by the records alone and by the program.
+        let records = [take(2, 1, taken), release(2, 1, mode)];
+        assert_eq!(judge(8, &records), (2, answer), "{taken}, {mode}");
+        // In each state; marks stay when the hold goes.
+        for (state, (k, class)) in (0..9).flat_map(|state| ENDS.map(|end| (state, end))) {
+            let mut b = Bench::new(k);
+            b.desk[2 + 7] = state;
+            let mut b = b.clean(&[take(7, class as u8, taken)]);
+            let r = release(7, class as u8, mode);
+            if answer == 5 {
+                b.refused(&r, 5);
+            } else {
+                let mut after = b.counted();
+                after.put([21, 21, 21, 21, 22, 22, 23, 23, 23][state as usize], &[]);
+                assert_eq!(b.step(&r), 0);
+                assert_eq!(b, after);
+            }
+        }
+    }
+}
+
+#[test]
+fn a_read_released_as_a_write() {
+    // "A read released as a write went unnoticed." In bytes: 3R and a release by mode 0.
+    let unnoticed = [
+        0x4C, 0x48, 0x01, 0x08, //
+        0x4C, 0x4B, 0x00, 0x00, 0x03, 0x02, //
+        0x4C, 0x4B, 0x00, 0x01, 0x03, 0x00,
+    ];
+    assert_eq!(program(&unnoticed), "refused 5 at record 2\n");
+    let mut as_taken = unnoticed;
+    as_taken[15] = 2;
+    assert_eq!(program(&as_taken), "clean, 2 records\n");
+    as_taken[15] = 5;
+    assert_eq!(program(&as_taken), "refused 5 at record 2\n");
+    as_taken[15] = 6;
+    assert_eq!(program(&as_taken), "refused 3 at record 2\n");
+    // P10 with both R, as it was written before and as it is now.
+    for (mode, number, answer) in [(E, 2, 5), (NR, 2, 5), (R, 4, 0), (TRR, 2, 5)] {
+        let p10 = [
+            take(0, 3, R),
+            release(0, 3, mode),
+            event(0, ENTER_HARD),
+            take(0, 3, R),
+        ];
+        assert_eq!(judge(8, &p10), (number, answer));
+    }
+    // The refused release leaves the hold standing: hard on marks it, and takes draw from
+    // it. Released as taken, it is gone.
+    for (mode, answer, mark, arrow) in [(R, 0, 0, 0), (E, 5, 8, SN), (TRR, 5, 8, SN)] {
+        let mut b = Bench::new(8).clean(&[event(0, HARD_OFF), take(0, 3, R)]);
+        assert_eq!(b.step(&release(0, 3, mode)), answer);
+        let b = b.clean(&[take(0, 4, E), event(0, SOFT_OFF), event(0, HARD_ON)]);
+        assert_eq!((b.desk[34 + 3], b.sheet[8 * 3 + 4]), (mark, arrow));
+        assert_eq!(b.desk[34 + 4], 4);
+        assert_eq!(b.desk[10], if answer == 0 { 1 } else { 2 });
+        assert_eq!(b.number(3, 4), if answer == 0 { 0 } else { 3 });
+        assert_eq!(b.count(), if answer == 0 { 6 } else { 5 });
+    }
+}
+
+#[test]
+fn the_newest_decides() {
+    // One class twice, in all 36 pairs of modes: the newer's mode alone, though the older's
+    // would fit the older.
+    for at in 0..24usize {
+        let core = at as u8 / 3;
+        for (older, newer) in MODES.into_iter().flat_map(|o| MODES.map(|n| (o, n))) {
+            let holds = [(1, older), (1, newer)];
+            let b = holding(3, at, &holds);
+            assert_only(&b, at, &holds, 1, Some((newer, 1)));
+            assert_only(&b, at, &holds, 0, None);
+            if older != newer {
+                b.refused(&release(core, 1, older), 5);
+            }
+            // With the newer gone it is the older's mode, and then none.
+            let b = b.clean(&[release(core, 1, newer)]);
+            assert_only(&b, at, &holds[..1], 1, Some((older, 0)));
+            let b = b.clean(&[release(core, 1, older)]);
+            assert_only(&b, at, &[], 1, None);
+        }
+    }
+    // From opening: a try over any hold, or a recursive read over a read.
+    let mut pairs: Vec<(u8, u8)> = [NR, R, TR, TRR].map(|older| (older, R)).to_vec();
+    for older in MODES {
+        pairs.extend([TE, TR, TRR].map(|newer| (older, newer)));
+    }
+    for (older, newer) in pairs {
+        for mode in MODES {
+            let records = [take(0, 1, older), take(0, 1, newer), release(0, 1, mode)];
+            let answer = if mode == newer { 0 } else { 5 };
+            assert_eq!(judge(8, &records), (3, answer), "{records:?}");
+        }
+    }
+    // By hand: exclusive, then by a try for recursive read, then a release by mode 0.
+    let bytes = [
+        0x4C, 0x48, 0x01, 0x02, //
+        0x4C, 0x4B, 0x00, 0x00, 0x01, 0x00, //
+        0x4C, 0x4B, 0x00, 0x00, 0x01, 0x05, //
+        0x4C, 0x4B, 0x00, 0x01, 0x01, 0x00, //
+        0x4C, 0x4B, 0x00, 0x01, 0x01, 0x00,
+    ];
+    assert_eq!(program(&bytes), "refused 5 at record 3\n");
+    let mut newest_first = bytes;
+    newest_first[21] = 5;
+    assert_eq!(program(&newest_first), "clean, 4 records\n");
+}
+
+#[test]
+fn holds_of_other_classes() {
+    // Above, below or on both sides of the class, in all modes: they have no part in it.
+    for at in [0usize, 1, 2, 12, 13, 23] {
+        for i in 0..216 {
+            let (own, above, below) = (i % 6, i / 6 % 6, i / 36);
+            for (holds, place) in [
+                (vec![(1, own), (2, above)], 0),
+                (vec![(2, below), (1, own)], 1),
+                (vec![(2, below), (1, own), (0, above)], 1),
+                (vec![(1, own), (2, above), (0, below), (2, own)], 0),
+            ] {
+                let b = holding(4, at, &holds);
+                assert_only(&b, at, &holds, 1, Some((own, place)));
+                // Nothing of this class, whatever modes the others have.
+                assert_only(&b, at, &holds, 3, None);
+            }
+        }
+    }
+    // Two of the class, one other between them and one above: the newer of the two.
+    for at in [0usize, 10, 23] {
+        for i in 0..1296u16 {
+            let [a, b, c, d] = [i % 6, i / 6 % 6, i / 36 % 6, i / 216].map(|mode| mode as u8);
+            let holds = [(1, a), (2, b), (1, c), (2, d)];
+            let bench = holding(3, at, &holds);
+            assert_only(&bench, at, &holds, 1, Some((c, 2)));
+            assert_only(&bench, at, &holds, 2, Some((d, 3)));
+        }
+    }
+    // From opening: 1R under 2E, by the mode of 1 and not of 2, in both orders.
+    for (records, answers) in [
+        (
+            [release(0, 1, E), release(0, 1, R), release(0, 2, E)],
+            [5, 0, 0],
+        ),
+        (
+            [release(0, 2, R), release(0, 2, E), release(0, 1, R)],
+            [5, 0, 0],
+        ),
+        (
+            [release(0, 1, R), release(0, 2, R), release(0, 2, E)],
+            [0, 5, 0],
+        ),
+        (
+            [release(0, 1, R), release(0, 1, R), release(0, 1, E)],
+            [0, 5, 5],
+        ),
+    ] {
+        let mut b = Bench::new(3).clean(&[take(0, 1, R), take(0, 2, E)]);
+        assert_eq!(records.map(|r| b.step(&r)), answers);
+    }
+}
+
+#[test]
+fn each_frame_for_itself() {
+    // The class in the current frame by one mode and in another frame of this core or of
+    // another core by each mode.
+    for at in 0..24usize {
+        for other in (0..24).filter(|other| other / 3 != at / 3 || *other < at) {
+            for (own, there) in MODES.into_iter().flat_map(|o| MODES.map(|t| (o, t))) {
+                let mut b = holding(3, at, &[(1, own)]);
+                if other / 3 != at / 3 {
+                    b.desk[2 + other / 3] = 8;
+                }
+                b.put(other, &[(1, there)]);
+                assert_only(&b, at, &[(1, own)], 1, Some((own, 0)));
+                // Not held here at all.
+                if own == there {
+                    b.put(at, &[]);
+                    assert_only(&b, at, &[], 1, None);
+                }
+            }
+        }
+    }
+    // All other frames at once, by one other mode.
+    for at in 0..24usize {
+        for (own, there) in MODES.into_iter().flat_map(|o| MODES.map(|t| (o, t))) {
+            let mut b = holding(3, at, &[(2, there), (1, own)]);
+            b.put_elsewhere(at, &[(1, own), (1, there)]);
+            assert_only(&b, at, &[(2, there), (1, own)], 1, Some((own, 1)));
+            b.put(at, &[(2, there)]);
+            assert_only(&b, at, &[(2, there)], 1, None);
+        }
+    }
+    // From opening: a task's hold doesn't count in a handler, by whatever mode.
+    for taken in MODES {
+        for enter in [ENTER_SOFT, ENTER_HARD] {
+            for mode in MODES {
+                let list = [take(0, 1, taken), event(0, enter), release(0, 1, mode)];
+                assert_eq!(judge(8, &list), (3, 5));
+            }
+        }
+        for mode in MODES {
+            assert_eq!(judge(8, &[take(0, 1, taken), release(1, 1, mode)]), (2, 5));
+        }
+    }
+    // 1R in the task, by a try for recursive read in the hard handler over it, by a try for
+    // read on core 1. Each goes by its own mode and in its own place.
+    let mut b = Bench::new(2).clean(&[
+        take(0, 1, R),
+        event(0, ENTER_HARD),
+        take(0, 1, TRR),
+        take(1, 1, TR),
+    ]);
+    for (r, answer) in [
+        (release(0, 1, R), 5),
+        (release(0, 1, TR), 5),
+        (release(1, 1, R), 5),
+        (release(1, 1, TRR), 5),
+        (release(0, 1, TRR), 0),
+        (release(0, 1, R), 5), // still in the handler
+        (event(0, EXIT_HARD), 0),
+        (release(0, 1, TRR), 5),
+        (release(0, 1, R), 0),
+        (release(0, 1, R), 5),
+        (release(1, 1, TR), 0),
+        (release(1, 1, TR), 5),
+    ] {
+        let before = b.clone();
+        assert_eq!(b.step(&r), answer, "{r:?}");
+        assert_eq!(b == before, answer == 5);
+    }
+    assert!(b.desk[10..34]
+        .iter()
+        .chain(&b.desk[98..1394])
+        .all(|&x| x == 0));
+}
+
+#[test]
+fn a_refused_release_changes_no_byte() {
+    // Buffers longer than they must be; holds, arrows, marks and numbers stand on them.
+    let mut b = lent(DESK + 40, 9 + 40, 36 + 40, 22 + 40);
+    assert_eq!(b.open(3), 0);
+    let b = b.clean(&[
+        take(0, 1, E),
+        take(0, 0, NR),
+        take(0, 2, TE),
+        take(0, 1, TRR),
+        event(1, ENTER_SOFT),
+        take(1, 1, TR),
+        event(2, HARD_OFF),
+        take(2, 0, R),
+        take(2, 0, TRR),
+        take(2, 0, R),
+    ]);
+    assert!(b.sheet[..9].iter().any(|&kinds| kinds != 0));
+    let fits = [(0, 0, NR), (0, 1, TRR), (0, 2, TE), (1, 1, TR), (2, 0, R)];
+    let mut accepted = 0;
+    for core in 0..=9u8 {
+        for class in [0, 1, 2, 3, 4, 62, 63, 64, 65, 66, 127, 128, 129, 192, 255] {
+            for mode in 0..=255u8 {
+                let r = release(core, class, mode);
+                let answer = match (core, class, mode) {
+                    (8.., _, _) | (_, _, 6..) => 3,
+                    (_, 3.., _) => 4,
+                    _ => 5,
+                };
+                if fits.contains(&(core, class, mode)) {
+                    accepted += 1;
+                    assert_eq!(b.clone().step(&r), 0);
+                    continue;
+                }
+                b.refused(&r, answer);
+                // By an opened feed the answer stands, and no byte of the bench changes.
+                if mode < 8 || mode > 253 {
+                    let mut fed = Fed::lying(0, 1, 0, [0; 5], 10, b.clone());
+                    assert_eq!(fed.feed(&r), (answer, 11));
+                    assert_eq!(fed, Fed::lying(answer, 1, 0, [0; 5], 11, b.clone()));
+                }
+            }
+        }
+    }
+    assert_eq!(accepted, 5);
+}
+
+#[test]
+fn refusals_of_a_release_in_order() {
+    // One thing wrong for each of 11, 10, 3, 4, 5, 9, in all 64 ways together: the first of
+    // them is the answer.
+    for (wrong, taken) in (0..64u8).flat_map(|wrong| MODES.map(|taken| (wrong, taken))) {
+        let [unfit, closed, three, four, five, nine] =
+            [0, 1, 2, 3, 4, 5].map(|i| wrong >> i & 1 == 1);
+        for (not_fitting, core, class) in [
+            ((taken + 1) % 6, 3, 1), // another mode
+            ((taken + 3) % 6, 3, 1), // the other origin
+            (taken, 3, 2),           // another class
+            (taken, 4, 1),           // another core
+        ] {
+            let mut b = Bench::new(4).clean(&[take(3, 1, taken), take(5, 2, taken)]);
+            b.desk[1] = u8::from(closed);
+            if nine {
+                b.set_count(u32::MAX);
+            }
+            if unfit {
+                b.sheet[15] = 16;
+            }
+            let mut r = release(3, 1, taken);
+            if five {
+                r = release(core, class, not_fitting);
+            }
+            if four {
+                r[4] = 4;
+            }
+            if three {
+                r[5] += 6;
+            }
+            let answers = [
+                (unfit, 11),
+                (closed, 10),
+                (three, 3),
+                (four, 4),
+                (five, 5),
+                (nine, 9),
+            ];
+            match answers.iter().find(|this| this.0) {
+                Some(&(_, answer)) => b.refused(&r, answer),
+                None => assert_eq!(b.step(&r), 0),
+            }
+        }
+    }
+    // By hand. Class K or more: 4 by each of the modes 0 to 5, and 3 by those above.
+    for k in [1u8, 3, 63, 64] {
+        let b = Bench::new(k as usize).clean(&[take(0, k - 1, TRR)]);
+        for class in [k, 64, 128 + k - 1, 192 + k - 1, 255] {
+            for mode in MODES {
+                b.refused(&release(0, class, mode), 4);
+            }
+            for mode in 6..=255 {
+                b.refused(&release(0, class, mode), 3);
+            }
+        }
+    }
+    // At the limit of the count: 9 by the mode that fits, 5 by the others.
+    for (taken, mode) in MODES.into_iter().flat_map(|t| MODES.map(|m| (t, m))) {
+        let mut b = Bench::new(8).clean(&[take(0, 1, taken)]);
+        b.set_count(u32::MAX);
+        b.refused(&release(0, 1, mode), if mode == taken { 9 } else { 5 });
+        // In a full frame it is the same, and never 8.
+        let mut full = holding(8, 0, &[(1, taken); 48]);
+        full.refused(&take(0, 1, mode), 8);
+        assert_eq!(
+            full.clone().step(&release(0, 1, mode)),
+            if mode == taken { 0 } else { 5 }
+        );
+        full.set_count(u32::MAX);
+        full.refused(&release(0, 1, mode), if mode == taken { 9 } else { 5 });
+    }
+}
+
+#[test]
+fn from_the_newest_to_the_oldest() {
+    // Three of one class, in all modes: each goes by its own mode, once those above it are
+    // gone, and by no other.
+    for at in [0usize, 1, 2, 16, 23] {
+        for i in 0..216u8 {
+            let holds = [(1, i % 6), (1, i / 6 % 6), (1, i / 36)];
+            let mut b = holding(2, at, &holds);
+            for top in [2usize, 1, 0] {
+                let (class, mode) = holds[top];
+                assert_only(&b, at, &holds[..=top], class, Some((mode, top)));
+                b = b.clean(&[release(at as u8 / 3, class, mode)]);
+            }
+            assert_only(&b, at, &[], 1, None);
+        }
+    }
+    // By hand, from opening, with the books beside it: 1R, then by tries for exclusive and
+    // for read.
+    let list = [
+        (take(0, 1, R), 0),
+        (take(0, 1, TE), 0),
+        (take(0, 1, TR), 0),
+        (release(0, 1, R), 5),
+        (release(0, 1, TE), 5),
+        (release(0, 1, NR), 5),
+        (release(0, 1, TR), 0),
+        (release(0, 1, TR), 5),
+        (release(0, 1, R), 5),
+        (release(0, 1, TE), 0),
+        (release(0, 1, TE), 5),
+        (release(0, 1, R), 0),
+        (release(0, 1, R), 5),
+    ];
+    let mut b = Bench::new(2);
+    let mut books = Books::open(2).unwrap();
+    for (r, answer) in list {
+        assert_eq!(b.step(&r), answer, "{r:?}");
+        assert_eq!(books.enter(&r), answer == 0, "{r:?}");
+    }
+    assert_eq!((b.count(), books.accepted()), (6, 6));
+    // Taken anew after a release, the newest is the one taken last.
+    let b = Bench::new(2).clean(&[
+        take(0, 1, R),
+        take(0, 1, TE),
+        release(0, 1, TE),
+        take(0, 1, TR),
+    ]);
+    b.refused(&release(0, 1, TE), 5);
+    b.refused(&release(0, 1, R), 5);
+    b.clean(&[release(0, 1, TR), release(0, 1, R)]);
+}
+
+#[test]
+fn forty_eight_of_mixed_modes() {
+    // One class, three, or 48 of them, released from the top. Elsewhere stand the same, each
+    // of the other origin.
+    for at in 0..24usize {
+        for classes in [1, 3, 48] {
+            let mode = |place: u8| (place % 7 * 5 + place / 7 + at as u8) % 6;
+            let holds: Vec<(u8, u8)> = (0..48).map(|p| (p % classes, mode(p))).collect();
+            let others: Vec<(u8, u8)> = holds.iter().map(|h| (h.0, (h.1 + 3) % 6)).collect();
+            let mut b = holding(48, at, &holds);
+            b.put_elsewhere(at, &others);
+            let elsewhere = b.clone();
+            for top in (0..48).rev() {
+                let (class, mode) = holds[top];
+                assert_only(&b, at, &holds[..=top], class, Some((mode, top)));
+                b = b.clean(&[release(at as u8 / 3, class, mode)]);
+            }
+            assert_eq!(b.count(), 48);
+            let mut gone = elsewhere;
+            gone.put(at, &[]);
+            assert_eq!(b.desk[98..1394], gone.desk[98..1394]);
+            // From the bottom, where each class stands once.
+            if classes == 48 {
+                b.put(at, &holds);
+                for bottom in 0..48 {
+                    let (class, mode) = holds[bottom];
+                    assert_only(&b, at, &holds[bottom..], class, Some((mode, 0)));
+                    b = b.clean(&[release(at as u8 / 3, class, mode)]);
+                }
+            }
+        }
+    }
+    // From opening, hard and soft off: classes 0 to 47, by all modes in turn.
+    let mode = |class: u8| (class + class / 6) % 6;
+    let mut records = vec![event(0, SOFT_OFF), event(0, HARD_OFF)];
+    records.extend((0..48).map(|class| take(0, class, mode(class))));
+    records.extend((0..48).rev().map(|class| release(0, class, mode(class))));
+    assert_eq!(judge(48, &records), (98, 0));
+    assert_eq!(program(&log(48, &records)), "clean, 98 records\n");
+    for at in [50usize, 51, 60, 73, 97] {
+        for mode in (0..8).filter(|&mode| mode != records[at][5]) {
+            let mut wrong = records.clone();
+            wrong[at][5] = mode;
+            let answer = if mode < 6 { 5 } else { 3 };
+            let text = format!("refused {answer} at record {}\n", at + 1);
+            assert_eq!(program(&log(48, &wrong)), text);
+        }
+    }
+}
+
+#[test]
+fn the_origin_of_its_own_place() {
+    // Class 1 at one place by each mode; class 0 at the others of the frame and class 1 in
+    // all other frames, by the other origin.
+    for at in 0..24usize {
+        for place in 0..48usize {
+            for mode in MODES {
+                let other = (mode + 3) % 6;
+                let mut holds = [(0, other); 48];
+                holds[place] = (1, mode);
+                let mut b = holding(2, at, &holds);
+                b.put_elsewhere(at, &[(1, other); 48]);
+                if place % 12 == at % 12 {
+                    assert_only(&b, at, &holds, 1, Some((mode, place)));
+                    // With nothing above it.
+                    b.put(at, &holds[..=place]);
+                    assert_only(&b, at, &holds[..=place], 1, Some((mode, place)));
+                    continue;
+                }
+                b.refused(&release(at as u8 / 3, 1, other), 5);
+                assert_eq!(b.step(&release(at as u8 / 3, 1, mode)), 0);
+            }
+        }
+    }
+}
+
+#[test]
+fn malformed_releases() {
+    // By a mode over 5, whatever is held and by whatever mode; also where the mode is the
+    // one taken but for high bits, or by sixes.
+    for taken in MODES {
+        let b = Bench::new(8).clean(&[take(0, 1, taken)]);
+        for mode in 6..=255 {
+            b.refused(&release(0, 1, mode), 3);
+        }
+        for mode in [6, 7, 128, 255] {
+            b.refused(&release(0, 2, mode), 3); // not held
+            b.refused(&release(0, 8, mode), 3); // class K
+            b.refused(&release(0, 255, mode), 3);
+            b.refused(&release(7, 1, mode), 3);
+            b.refused(&release(8, 1, mode), 3);
+            b.refused(&release(0, 1, mode)[..5], 3);
+            let records = [take(0, 1, taken), release(0, 1, mode), release(0, 1, taken)];
+            assert_eq!(judge(8, &records), (2, 3));
+            assert_eq!(program(&log(8, &records)), "refused 3 at record 2\n");
+            let mut books = Books::open(8).unwrap();
+            assert_eq!(records.map(|r| books.enter(&r)), [true, false, true]);
+        }
+        // One byte short, or one more.
+        b.refused(&release(0, 1, taken)[..5], 3);
+        b.refused(&[&release(0, 1, taken)[..], &[0]].concat(), 3);
+    }
+    // "class and mode are 0 for kinds 2 to 9" stays, where the kind is allowed and where not.
+    for state in 0..9 {
+        let mut b = Bench::new(8);
+        b.desk[2] = state;
+        for kind in 2..10 {
+            for (class, mode) in [
+                (0, 1),
+                (0, 2),
+                (0, 3),
+                (0, 4),
+                (0, 5),
+                (0, 6),
+                (1, 0),
+                (1, 5),
+            ] {
+                b.refused(&[0x4C, 0x4B, 0, kind, class, mode], 3);
+            }
+        }
+    }
+}
+
+#[test]
+fn feeds_with_releases() {
+    // Each with all cuts into up to four pieces, as the whole log.
+    for (records, told) in [
+        (vec![take(0, 0, R), release(0, 0, R)], (0, 2)),
+        (vec![take(0, 1, TE), release(0, 1, TE)], (0, 2)),
+        (vec![take(0, 0, R), release(0, 0, E), take(0, 1, E)], (5, 2)),
+        (
+            vec![take(0, 0, R), release(0, 0, NR), release(0, 0, R)],
+            (5, 2),
+        ),
+        (
+            vec![take(0, 0, TRR), release(0, 0, R), release(0, 0, TRR)],
+            (5, 2),
+        ),
+        (
+            vec![take(0, 0, E), take(0, 0, TRR), release(0, 0, E)],
+            (5, 3),
+        ),
+        (
+            vec![take(0, 0, E), take(0, 0, TRR), release(0, 0, TRR)],
+            (0, 3),
+        ),
+        (
+            vec![take(0, 0, TR), release(0, 0, TR), release(0, 0, TR)],
+            (5, 3),
+        ),
+        (
+            vec![take(0, 0, NR), release(0, 0, 6), release(0, 0, NR)],
+            (3, 2),
+        ),
+        (
+            vec![take(0, 0, NR), release(0, 2, TRR), take(0, 1, E)],
+            (4, 2),
+        ),
+        (vec![release(0, 1, TRR), take(0, 1, E)], (5, 1)),
+        (vec![release(0, 1, 255), take(0, 1, E)], (3, 1)),
+    ] {
+        let log = log(2, &records);
+        assert_eq!(all_cuts(&lent_for(2), &log), [told; 2], "{records:?}");
+        let text = match told {
+            (0, number) => format!("clean, {number} records\n"),
+            (answer, number) => format!("refused {answer} at record {number}\n"),
+        };
+        assert_eq!(program(&log), text);
+        let mut out = Vec::new();
+        run_log(&mut Drip(&log, false), &mut out).unwrap();
+        assert_eq!(out, text.as_bytes());
+    }
+    // P2 with reads, each released as taken: 1 SN 2, 2 SN 1. A release by mode 0 stops it.
+    let mut p2 = p2_records();
+    for r in &mut p2 {
+        r[5] = NR;
+    }
+    let text = "fault at record 6\n1 SN 2 hold\n2 SN 1 hold\n";
+    assert_eq!(
+        (judge(3, &p2), program(&log(3, &p2)).as_str()),
+        ((6, 1), text)
+    );
+    assert_eq!(all_cuts(&lent_for(3), &log(3, &p2)), [(1, 6); 2]);
+    for at in [2, 3] {
+        let mut as_before = p2;
+        as_before[at][5] = E;
+        assert_eq!(judge(3, &as_before), (at + 1, 5));
+    }
+    // The last byte of a release tells; without it nothing is judged yet.
+    let mut fed = Fed::new(lent_for(2));
+    assert_eq!(fed.feed(&log(2, &[take(0, 1, TR)])), (0, 1));
+    assert_eq!(fed.feed(&release(0, 1, TR)[..5]), (0, 1));
+    for mode in 0..=255 {
+        let mut fed = fed.clone();
+        let before = fed.b.clone();
+        let answer = match mode {
+            TR => 0,
+            0..=5 => 5,
+            _ => 3,
+        };
+        assert_eq!(fed.feed(&[mode]), (answer, 2));
+        if answer != 0 {
+            assert_eq!(fed.b, before);
+            fed.stands(answer, 2);
+        }
+    }
+    assert_eq!(fed.end(), (3, 2));
+}
+
+#[test]
+fn balances_of_releases_by_all_modes() {
+    // A release by any mode 0 to 5 counts, whatever was taken; by any other it doesn't.
+    let all: Vec<Rec> = (0..=255).map(|mode| release(0, 9, mode)).collect();
+    assert_balance(&all[..6].concat(), &[(9, -6)]);
+    assert_balance(&all[..7].concat(), &[(9, -6)]);
+    assert_balance(&all.concat(), &[(9, -6)]);
+    assert_balance(&all[6..].concat(), &[]);
+    for (mode, r) in all.iter().enumerate() {
+        let one = if mode < 6 { vec![(9, -1)] } else { vec![] };
+        assert_balance(r, &one);
+    }
+    for (taken, mode) in MODES.into_iter().flat_map(|t| MODES.map(|m| (t, m))) {
+        let (t, r) = (take(0, 5, taken), release(0, 5, mode));
+        assert_balance(&[t, r].concat(), &[]);
+        assert_balance(&[r, t].concat(), &[]);
+        assert_balance(&[t, r, r].concat(), &[(5, -1)]);
+        assert_balance(&[t, t, r].concat(), &[(5, 1)]);
+        assert_balance(&[r, [0; 6], release(0, 5, 6), t, t].concat(), &[(5, 1)]);
+        // Joined pieces add theirs.
+        let (a, b) = ([t, r, r].concat(), [r, release(3, 6, taken)].concat());
+        assert_balance(&[&a[..], &b].concat(), &[(5, -2), (6, -1)]);
+    }
+    // By class: class c released by mode c, and class 64 and above not at all.
+    let each = MODES.map(|mode| release(0, mode, mode)).concat();
+    let ones: Vec<(usize, i32)> = (0..6).map(|class| (class, -1)).collect();
+    assert_balance(&each, &ones);
+    assert_eq!(balance_text(&each), "0 -1\n1 -1\n2 -1\n3 -1\n4 -1\n5 -1\n");
+    let high = MODES.map(|mode| release(0, 64 + mode, mode)).concat();
+    assert_balance(&high, &[]);
+    // 10,000 by all modes in turn: 1,667 by each of 0 to 3, 1,666 by 4 and 5.
+    assert_balance(&over_and_over(&all[..6], 60_000), &[(9, -10_000)]);
+    // With 6 and 7 in turn too, three in four count.
+    assert_balance(&over_and_over(&all[..8], 60_000), &[(9, -7_500)]);
+    assert_14(&over_and_over(&all[..8], 60_006));
+    // What the desk refuses with 5 from the second record on counts all the same.
+    let piece = [
+        take(0, 1, E),
+        release(0, 1, NR),
+        release(0, 1, R),
+        release(0, 1, TE),
+        release(0, 1, 6),
+    ];
+    let b = Bench::new(2).clean(&piece[..1]);
+    for (r, answer) in piece[1..].iter().zip([5, 5, 5, 3]) {
+        b.refused(r, answer);
+    }
+    assert_balance(&piece.concat(), &[(1, -2)]);
+}
+
+#[test]
+fn which_releases_name_a_core() {
+    // "A record names its core if it meets none of the conditions of refusal 3": a release by
+    // a mode 0 to 5, accepted or not, and none by another mode.
+    for core in 0..=255 {
+        for class in [0, 1, 7, 8, 63, 64, 255] {
+            for mode in 0..=255 {
+                let named = read_record(&release(core, class, mode)).map(|r| r.core);
+                assert_eq!(named, Some(core).filter(|core| *core < 8 && mode < 6));
+            }
+        }
+    }
+    // Demand 3 in small. Releases that name no core are put in with any core's number and
+    // leave every byte; those by the modes 0 to 5 with a core that the list doesn't name, and
+    // they undo no fault.
+    let mut dice = Dice(0x0DE3_A4D3_57A1_C700);
+    let (mut put_in, mut faults) = ([0u64; 12], 0);
+    for _ in 0..1_000 {
+        let k = 1 + dice.under(4);
+        let mut short = Bench::new(k as usize);
+        let (mut nameless, mut long) = (short.clone(), short.clone());
+        for _ in 0..40 {
+            let mode = 6 + dice.under(250) as u8;
+            let r = release(dice.under(8) as u8, dice.under(k) as u8, mode);
+            assert_eq!(nameless.step(&r), 3);
+            // Core 5 takes by tries alone, so that it draws no arrow, and releases by any
+            // mode.
+            for _ in 0..dice.under(4) {
+                let (class, mode) = (dice.under(k) as u8, dice.under(6) as u8);
+                let r = match dice.under(3) {
+                    0 => take(5, class, TE + mode % 3),
+                    _ => release(5, class, mode),
+                };
+                put_in[long.step(&r) as usize] += 1;
+            }
+            let mut r = random_record(&mut dice, k, &[NR, R, R, R, TE, TR, TRR]);
+            r[2] %= 5;
+            let answers = [&mut short, &mut nameless, &mut long].map(|b| b.step(&r));
+            assert_eq!(answers[0], answers[1]);
+            assert_eq!(short, nameless);
+            // No later than in the shorter list; until then alike.
+            assert!(short.desk[1] <= long.desk[1]);
+            if long.desk[1] == 1 {
+                faults += 1;
+                break;
+            }
+            assert_eq!(answers[0], answers[2]);
+            assert_eq!(short.sheet, long.sheet);
+        }
+    }
+    assert!(faults > 100, "{faults} faults");
+    assert!(put_in[0] > 3_000 && put_in[5] > 3_000, "{put_in:?}");
+}
+
+#[test]
+fn releases_of_any_holds() {
+    // Any frame with any holds, and one release: looked up in the list of them.
+    let mut dice = Dice(0x57A1_C7AE_1EA5_E001);
+    let (mut older_fits, mut another_fits, mut elsewhere_fits) = (0, 0, 0);
+    let mut answers = [0u64; 12];
+    for _ in 0..30_000 {
+        let (k, at) = (1 + dice.under(4), dice.under(24) as usize);
+        let mut some = |most: u64| -> Vec<(u8, u8)> {
+            let depth = dice.under(most + 1);
+            (0..depth)
+                .map(|_| (dice.under(k) as u8, dice.under(6) as u8))
+                .collect()
+        };
+        let (holds, others) = (some(6), some(3));
+        let deep = if some(9).len() == 9 { some(48) } else { holds };
+        let mut b = holding(k as usize, at, &deep);
+        b.put_elsewhere(at, &others);
+        assert_eq!(b.unfit(), None);
+        let (class, mode) = (dice.under(k) as u8, dice.under(6) as u8);
+        let mut newest = None;
+        for (place, hold) in deep.iter().enumerate() {
+            if hold.0 == class {
+                newest = Some((hold.1, place));
+            }
+        }
+        let r = release(at as u8 / 3, class, mode);
+        match newest {
+            Some((own, place)) if own == mode => {
+                answers[0] += 1;
+                let mut left = deep.clone();
+                left.remove(place);
+                let after = b.left_with(at, &left);
+                assert_eq!(b.step(&r), 0);
+                assert_eq!(b, after);
+            }
+            _ => {
+                answers[5] += 1;
+                b.refused(&r, 5);
+                older_fits += u64::from(deep.contains(&(class, mode)));
+                another_fits += u64::from(deep.iter().any(|h| h.0 != class && h.1 == mode));
+                elsewhere_fits += u64::from(others.contains(&(class, mode)));
+            }
+        }
+    }
+    assert!(answers[0] > 2_000 && answers[5] > 5_000, "{answers:?}");
+    assert!(
+        older_fits > 500 && another_fits > 500 && elsewhere_fits > 500,
+        "{older_fits}, {another_fits}, {elsewhere_fits}"
+    );
+}
+
+#[test]
+fn first_seen_with_releases() {
+    // By the records alone: a refused release leaves its hold, from which the next take
+    // draws; it has no number itself.
+    for (taken, mode) in MODES.into_iter().flat_map(|t| MODES.map(|m| (t, m))) {
+        let list = [take(0, 0, taken), release(0, 0, mode), take(0, 1, E)];
+        let mut books = Books::open(2).unwrap();
+        let fits = taken == mode;
+        assert_eq!(list.map(|r| books.enter(&r)), [true, fits, true]);
+        let (accepted, numbers) = if fits {
+            (3, [0, 0, 0, 0])
+        } else {
+            (2, [0, 2, 0, 0])
+        };
+        assert_eq!(
+            (books.accepted(), books.numbers()),
+            (accepted, &numbers[..])
+        );
+        assert_eq!(first_seen(2, &list), Some(numbers.to_vec()));
+        let mut b = Bench::new(2);
+        assert_eq!(list.map(|r| b.step(&r)), [0, if fits { 0 } else { 5 }, 0]);
+        assert_eq!(b.seen, bytes_of(&numbers));
+    }
+    // The newest decides here too: 0E and 0 by a try for recursive read, of which first the
+    // one and then the other goes; then 1 and 2.
+    let list = [
+        (take(0, 0, E), true),
+        (take(0, 0, TRR), true),
+        (release(0, 0, E), false),
+        (release(0, 0, R), false),
+        (release(0, 0, TE), false),
+        (release(0, 0, TRR), true),
+        (release(0, 0, TRR), false),
+        (take(0, 1, NR), true), // 0 EN 1 by the fourth
+        (release(0, 0, NR), false),
+        (release(0, 1, E), false),
+        (release(0, 0, E), true),
+        (release(1, 1, NR), false),
+        (take(0, 2, E), true), // 1 SN 2 by the sixth
+        (event(0, ENTER_HARD), true),
+        (release(0, 2, E), false),
+        (release(0, 3, TRR), false), // class K
+        (release(0, 1, 6), false),
+    ];
+    let mut books = Books::open(3).unwrap();
+    let mut b = Bench::new(3);
+    for (r, accepted) in list {
+        assert_eq!(books.enter(&r), accepted, "{r:?}");
+        assert_eq!(b.step(&r) == 0, accepted, "{r:?}");
+    }
+    assert_eq!(books.numbers(), [0, 4, 0, 0, 0, 6, 0, 0, 0]);
+    assert_eq!((books.accepted(), b.count()), (7, 7));
+    assert_eq!(b.seen, bytes_of(books.numbers()));
+}
+
 // ----------------------------------------------------------------------- time
 
 #[test]
@@ -7850,7 +8861,7 @@ fn time_of_a_step() {
         let start = std::time::Instant::now();
         for _ in 0..rounds / 2 {
             assert_eq!(b.step(&take(0, 5, E)), 0);
-            assert_eq!(b.step(&release(0, 5)), 0);
+            assert_eq!(b.step(&release(0, 5, E)), 0);
         }
         let each = start.elapsed().as_nanos() as f64 / rounds as f64 / 1000.0;
         println!("dense clean drawing, K = 64, {name}: {each:.1} us a step");

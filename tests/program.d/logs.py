@@ -23,8 +23,8 @@ def record_at(offset):
 LAST = FEW - 1
 BAD_RECORDS = {  # refused with 3
     "first byte": b"\x4D\x4B\x00\x00\x00\x00", "second byte": b"\x4C\x48\x00\x00\x00\x00", "core": record(8, ACQUIRE), "kind": record(0, 10),
-    "mode": record(0, ACQUIRE, 0, MODES), "mode and class": record(0, ACQUIRE, 255, MODES), "mode of a release": record(0, RELEASE, 0, 1),
-    "mode of a try in a release": record(0, RELEASE, 0, TRY), "class of an event": record(0, HARD_ON, 1), "mode of an event": record(0, SOFT_OFF, 0, 1),
+    "mode": record(0, ACQUIRE, 0, MODES), "mode and class": record(0, ACQUIRE, 255, MODES), "mode of a release": record(0, RELEASE, 0, MODES),
+    "mode and class of a release": record(0, RELEASE, 255, MODES), "class of an event": record(0, HARD_ON, 1), "mode of an event": record(0, SOFT_OFF, 0, 1),
     "header again": header(1) + header(1)[:2],
 }
 
@@ -32,20 +32,32 @@ BAD_RECORDS = {  # refused with 3
 DECIDING = {
     "fault": ([record(0, ACQUIRE, 1), record(0, ACQUIRE, 2), record(0, RELEASE, 2), record(0, RELEASE, 1)],
               [record(1, ACQUIRE, 2), record(1, ACQUIRE, 1)]),
-    "fault behind tries": ([record(0, ACQUIRE, 1, TRY), record(0, ACQUIRE, 2), record(0, RELEASE, 2), record(0, RELEASE, 1)],
-                           [record(1, ACQUIRE, 2, TRY), record(1, ACQUIRE, 1, TRY), record(1, RELEASE, 1), record(1, ACQUIRE, 1)]),
+    "fault behind tries": ([record(0, ACQUIRE, 1, TRY), record(0, ACQUIRE, 2), record(0, RELEASE, 2), record(0, RELEASE, 1, TRY)],
+                           [record(1, ACQUIRE, 2, TRY), record(1, ACQUIRE, 1, TRY), record(1, RELEASE, 1, TRY), record(1, ACQUIRE, 1)]),
     "fault in a handler": ([record(0, ACQUIRE, LAST), record(0, RELEASE, LAST)], [record(1, ENTER_HARD), record(1, ACQUIRE, LAST)]),
     "fault over a held try": ([record(0, ACQUIRE, LAST), record(0, RELEASE, LAST), record(1, ENTER_HARD), record(1, ACQUIRE, LAST, TRY + RECURSIVE_READ)],
-                              [record(1, ACQUIRE, LAST, TRY), record(1, RELEASE, LAST), record(1, ACQUIRE, LAST, RECURSIVE_READ)]),
+                              [record(1, ACQUIRE, LAST, TRY), record(1, RELEASE, LAST, TRY), record(1, ACQUIRE, LAST, RECURSIVE_READ)]),
     "refused 4": ([], [record(0, ACQUIRE, FEW)]),
     "refused 4, try": ([], [record(0, ACQUIRE, FEW, TRY)]),
     "refused 4, release": ([], [record(0, RELEASE, FEW)]),
     "refused 5": ([record(1, ACQUIRE, LAST)], [record(0, RELEASE, LAST)]),
+    "refused 5, mode": ([record(0, ACQUIRE, LAST, RECURSIVE_READ)], [record(0, RELEASE, LAST)]),
+    "refused 5, older fits": ([record(0, ACQUIRE, LAST), record(0, ACQUIRE, LAST, TRY + READ)], [record(0, RELEASE, LAST)]),
     "refused 6": ([], [record(0, EXIT_HARD)]),
     "refused 7": ([record(0, ENTER_HARD)], [record(0, ACQUIRE, LAST), record(0, EXIT_HARD)]),
     "refused 8": ([], [record(0, ACQUIRE, LAST, RECURSIVE_READ)] * (DEPTH + 1)),
     "refused 8, try": ([], [record(0, ACQUIRE, LAST, TRY)] * (DEPTH + 1)),
 } | {f"refused 3, {name}": ([], [bad]) for name, bad in BAD_RECORDS.items()}
+
+
+def held_for_a_time(core, locks, rng):
+    """Locks (class, mode) acquired in this order and released in any, of each class the newest first."""
+    made = [record(core, ACQUIRE, *lock) for lock in locks]
+    left = list(locks)
+    while left:
+        lock_class = rng.choice(left)[0]
+        made.append(record(core, RELEASE, *left.pop(max(i for i, (c, _) in enumerate(left) if c == lock_class))))
+    return made
 
 
 def clean_records(count, rng):
@@ -55,10 +67,9 @@ def clean_records(count, rng):
     while len(made) < count:
         core, lock_class, tried = rng.choice(BUSY_CORES), rng.randrange(LAST), rng.randrange(LAST)
         if len(made) + 3 < count and rng.random() < 0.3:
-            made += [record(core, ACQUIRE, lock_class, rng.randrange(MODES)), record(core, ACQUIRE, tried, rng.randrange(TRY, MODES))]
-            made += [record(core, RELEASE, c) for c in rng.sample((lock_class, tried), 2)]
+            made += held_for_a_time(core, [(lock_class, rng.randrange(MODES)), (tried, rng.randrange(TRY, MODES))], rng)
         elif len(made) + 1 < count and rng.random() < 0.7:
-            made += [record(core, ACQUIRE, lock_class, rng.randrange(MODES)), record(core, RELEASE, lock_class)]
+            made += held_for_a_time(core, [(lock_class, rng.randrange(MODES))], rng)
         else:
             made.append(record(core, rng.choice((HARD_ON, SOFT_ON))))
     return made
@@ -81,7 +92,7 @@ def clean_log(number, loose=0):
 def long_log(number):
     """A log with a fault at the last of very many records, a multiple of four: an acquire over a try, behind tries over an acquire."""
     acquire, by_try, release = record(0, ACQUIRE), record(0, ACQUIRE, 0, TRY), record(0, RELEASE)
-    return header(1) + (acquire + by_try + release * 2) * (number // 4 - 1) + acquire + release + by_try + acquire
+    return header(1) + (acquire + by_try + record(0, RELEASE, 0, TRY) + release) * (number // 4 - 1) + acquire + release + by_try + acquire
 
 
 def counted_log(number):
@@ -111,10 +122,21 @@ def decided_logs(numbers, names):
 # ---- records, byte by byte
 
 def byte_logs(kind, at):
-    """A clean record and then one of a kind, with every value of its byte at an offset."""
-    good = record(0, kind, 0 if kind > RELEASE else 1)
+    """A clean record and then one of a kind, a release of its lock, with every value of its byte at an offset."""
+    good = record(0, kind, 0 if kind > RELEASE else 1, RECURSIVE_READ if kind == RELEASE else 0)
     for byte in range(256):
         yield header(FEW) + record(0, ACQUIRE, 1, RECURSIVE_READ) + good[:at] + bytes([byte]) + good[at + 1:]
+
+
+def release_logs(mode):
+    """A lock of a mode, and a release of its class in every mode: of the only lock, or of one under or over a lock of another class, or over one of its
+    own, which would fit. Behind it the other is released."""
+    for released in range(MODES):
+        core, events = (mode + 3 * released) % CORES, ((), (ENTER_SOFT,), (ENTER_HARD,), (ENTER_SOFT, ENTER_HARD))[released % 4]
+        for under, over in (([], []), ([], [(2, released)]), ([(2, released)], []), ([(1, released)], [])):
+            made = [record(core, ACQUIRE, *lock) for lock in under + [(1, mode)] + over] + [record(core, RELEASE, 1, released)]
+            made += [record(core, RELEASE, *lock) for lock in under + over]
+            yield header(FEW) + b"".join(record(core, event) for event in events) + b"".join(made)
 
 
 # ---- headers
@@ -211,7 +233,7 @@ class Walk:
             elif which < 0.45:
                 rec = self.orderly_try(core)
             elif which < 0.75:
-                rec = held and record(core, RELEASE, self.rng.choice(held)[0])
+                rec = held and self.machine.release(core, self.rng.choice(held)[0])
             else:
                 rec = self.orderly_event(core)
             if rec and not self.machine.refusal(rec):
@@ -225,7 +247,7 @@ class Walk:
         self.put(record(self.free_core, ACQUIRE, first, self.rng.choice((EXCLUSIVE, TRY + EXCLUSIVE))))
         if self.rng.random() < 0.5:
             self.put(record(self.free_core, ACQUIRE, second, self.rng.randrange(TRY, MODES)))
-            self.put(record(self.free_core, RELEASE, second))
+            self.put(self.machine.release(self.free_core, second))
         self.put(record(self.free_core, ACQUIRE, second))
 
     def end_with_refusal(self, number):
@@ -237,10 +259,11 @@ class Walk:
             self.put(rng.choice([*BAD_RECORDS.values(), bad_mode, record(0, ACQUIRE)[:rng.randrange(1, RECORD)]]))
         elif number == 4:
             kind = rng.choice((ACQUIRE, RELEASE))
-            self.put(record(core, kind, rng.randrange(classes, 256), rng.randrange(MODES) if kind == ACQUIRE else 0))
+            self.put(record(core, kind, rng.randrange(classes, 256), rng.randrange(MODES)))
         elif number == 5:
-            others = [c for c in range(classes) if all(c != h for h, _, _ in held)]
-            self.put(record(core, RELEASE, rng.choice(others or [0])))
+            if held and rng.random() < 0.3:
+                self.put(record(core, ACQUIRE, rng.choice(held)[0], rng.randrange(TRY, MODES)))
+            self.put(wrong_release(self.machine, core, rng))
         elif number == 6:
             self.put(record(core, rng.choice([HARD_ON + i for i, after in enumerate(NEXT[state]) if after == "x"])))
         elif number == 7:
@@ -282,6 +305,16 @@ def or_try(mode, rng):
     return mode + rng.choice((0, 0, TRY))
 
 
+def wrong_release(machine, core, rng):
+    """A release that is refused with 5: in the mode of a lock under the newest of its class, or in any other mode, or of a class that is not held."""
+    held = machine.held_now(core)
+    right = {c: machine.release(core, c) for c, _, _ in held}
+    older = sorted({record(core, RELEASE, c, mode + TRY * is_try) for c, mode, is_try in held} - set(right.values()))
+    other = [record(core, RELEASE, c, mode) for c in right for mode in range(MODES) if mode != right[c][5]]
+    unheld = [record(core, RELEASE, c, rng.randrange(MODES)) for c in range(machine.classes) if c not in right]
+    return rng.choice(rng.choice([some for some in (older, other, unheld) if some]))
+
+
 def ring_log(classes, rng):
     """Dependencies that make one cycle, whose last one is drawn last. The first lock of each may be got by a try; of the second may stand one before
     its acquire."""
@@ -292,12 +325,9 @@ def ring_log(classes, rng):
         core, after = rng.randrange(CORES), (i + 1) % len(ring)
         held = EXCLUSIVE if joints[i][1] == "E" else rng.choice((READ, RECURSIVE_READ))
         taken = RECURSIVE_READ if joints[after][0] == "R" else rng.choice((EXCLUSIVE, READ))
-        both = [ring[i], ring[after]]
-        made.append(record(core, ACQUIRE, both[0], or_try(held, rng)))
-        if rng.random() < 0.3:
-            made += [record(core, ACQUIRE, both[1], TRY + taken), record(core, RELEASE, both[1])]
-        made.append(record(core, ACQUIRE, both[1], taken))
-        made += [record(core, RELEASE, c) for c in rng.sample(both, 2)]
+        first, second, *releases = held_for_a_time(core, [(ring[i], or_try(held, rng)), (ring[after], taken)], rng)
+        tried = held_for_a_time(core, [(ring[after], TRY + taken)], rng) if rng.random() < 0.3 else []
+        made += [first, *tried, second, *releases]
     return header(classes) + b"".join(made)
 
 
@@ -313,15 +343,15 @@ def handler_log(classes, rng):
     turned_off = HARD_OFF if enter == ENTER_HARD else SOFT_OFF
     late = rng.randrange(2)
 
-    def acquired(core, lock_class, mode):
-        tried = [record(core, ACQUIRE, lock_class, TRY + rng.randrange(TRY)), record(core, RELEASE, lock_class)]
-        return tried * rng.randrange(2) + [record(core, ACQUIRE, lock_class, mode)]
+    def held(core, lock_class, mode, *during):
+        return [record(core, ACQUIRE, lock_class, mode), *during, record(core, RELEASE, lock_class, mode)]
 
-    parts = [[*before, *[record(one, turned_off)] * late, record(one, ACQUIRE, outer, or_try(rng.randrange(TRY), rng)),
-              *[record(one, turned_off - 1)] * late, record(one, RELEASE, outer)],
-             [record(two, enter), *acquired(two, inner, rng.randrange(TRY)), record(two, RELEASE, inner), record(two, enter + 1)],
-             [*off, record(three, ACQUIRE, inner, or_try(EXCLUSIVE, rng)), *acquired(three, outer, EXCLUSIVE), record(three, RELEASE, outer),
-              record(three, RELEASE, inner)]]
+    def tried_and_held(core, lock_class, mode):
+        return held(core, lock_class, TRY + rng.randrange(TRY)) * rng.randrange(2) + held(core, lock_class, mode)
+
+    parts = [[*before, *[record(one, turned_off)] * late, *held(one, outer, or_try(rng.randrange(TRY), rng), *[record(one, turned_off - 1)] * late)],
+             [record(two, enter), *tried_and_held(two, inner, rng.randrange(TRY)), record(two, enter + 1)],
+             [*off, *held(three, inner, or_try(EXCLUSIVE, rng), *tried_and_held(three, outer, EXCLUSIVE))]]
     return header(classes) + b"".join(rec for part in rng.sample(parts, 3) for rec in part)
 
 
@@ -347,25 +377,29 @@ def tie_log(classes, rng):
     def some(modes):
         return rng.sample(modes, rng.randrange(1, len(modes) + 1))
 
+    def one_by_one(lock_class, modes):
+        return [(kind, lock_class, mode) for mode in modes for kind in (ACQUIRE, RELEASE)]
+
     def draw(a, b):
         core, is_off = rng.randrange(CORES), a in off or b in off
         put(core, *(HARD_OFF, SOFT_OFF) * is_off)
-        for held in some((EXCLUSIVE, rng.choice((READ, RECURSIVE_READ)))):
+        for mode in some((EXCLUSIVE, rng.choice((READ, RECURSIVE_READ)))):
             taken = some((rng.choice((EXCLUSIVE, READ)), RECURSIVE_READ))
-            put(core, (ACQUIRE, a, or_try(held, rng)), *(event for mode in taken for event in ((ACQUIRE, b, mode), (RELEASE, b))), (RELEASE, a))
+            held = or_try(mode, rng)
+            put(core, (ACQUIRE, a, held), *one_by_one(b, taken), (RELEASE, a, held))
         put(core, *(SOFT_ON, HARD_ON) * is_off)
 
     for c in safe:
         for enter in some((ENTER_HARD, ENTER_SOFT)):
             core, is_soft = rng.randrange(CORES), enter == ENTER_SOFT
             taken = some((rng.choice((EXCLUSIVE, READ)), RECURSIVE_READ))
-            put(core, enter, *[HARD_OFF] * is_soft, *(event for mode in taken for event in ((ACQUIRE, c, mode), (RELEASE, c))), *[HARD_ON] * is_soft, enter + 1)
+            put(core, enter, *[HARD_OFF] * is_soft, *one_by_one(c, taken), *[HARD_ON] * is_soft, enter + 1)
     pairs = [(a, b) for i in range(len(layers) - 1) for a in layers[i] for b in layers[i + 1] if not (by_mark and i == 0) and rng.random() < 0.9]
     pairs += [(a, b) for a in layers[-1] for b in layers[0] if by_mark and rng.random() < 0.9]
     for a, b in rng.sample(pairs, len(pairs)):
         draw(a, b)
     for mode in some(range(TRY)) if safe and not by_mark else ():
-        put(rng.randrange(CORES), (ACQUIRE, layers[0][0], or_try(mode, rng)), (RELEASE, layers[0][0]))
+        put(rng.randrange(CORES), *one_by_one(layers[0][0], [or_try(mode, rng)]))
     core = rng.randrange(CORES)
     if by_mark:
         put(core, HARD_OFF, SOFT_OFF, *((ACQUIRE, c, or_try(rng.randrange(TRY), rng)) for c in layers[0]))
@@ -379,41 +413,43 @@ def tie_log(classes, rng):
 
 def churn_log(classes, rng):
     """Frames of all sorts and depths that change much, with tries at every place. The tried classes were acquired in a task, so a safe mark from
-    any of their tries is a fault; the others are held for reading alone, got by recursive reads, which close no strong cycle. Every other
-    log ends with the acquire of a tried class, a fault in a handler."""
+    any of their tries is a fault; the others are held for reading alone, got by recursive reads, which close no strong cycle. Half of the logs end with
+    the acquire of a tried class, a fault in a handler, and some with a release that is refused."""
     machine, made = Machine(classes), []
     tried = rng.sample(range(classes), rng.randrange(1, min(classes, 6)))
     others = [c for c in range(classes) if c not in tried]
     cores = rng.sample(range(CORES), rng.randrange(1, 4))
 
-    def put(*rec):
-        if not machine.refusal(record(*rec)):
-            made.append(record(*rec))
-            machine.accept(made[-1])
+    def put(rec):
+        if not machine.refusal(rec):
+            made.append(rec)
+            machine.accept(rec)
 
     for c in tried:
-        put(cores[0], ACQUIRE, c, or_try(EXCLUSIVE, rng))
-        put(cores[0], RELEASE, c)
+        for rec in held_for_a_time(cores[0], [(c, or_try(EXCLUSIVE, rng))], rng):
+            put(rec)
     for core in cores:
         for kind in rng.choice(((), (ENTER_SOFT,), (ENTER_SOFT, HARD_OFF), (ENTER_HARD,), (SOFT_OFF, ENTER_HARD), (ENTER_SOFT, ENTER_HARD))):
-            put(core, kind)
+            put(record(core, kind))
     for _ in range(rng.randrange(*rng.choice((SHORT, MIDDLE, MIDDLE, LONG))) // 25 + 1):
         more = rng.choice((0.9, 0.6, 0.4, 0.1))
         for _ in range(25):
             core = rng.choice(cores)
             held = machine.held_now(core)
             if rng.random() < 0.05:
-                put(core, rng.randrange(HARD_ON, EXIT_HARD + 1))
+                put(record(core, rng.randrange(HARD_ON, EXIT_HARD + 1)))
             elif held and rng.random() > more:
-                put(core, RELEASE, rng.choice(held)[0])
+                put(machine.release(core, rng.choice(held)[0]))
             elif rng.random() < 0.5:
-                put(core, ACQUIRE, rng.choice(tried), rng.randrange(TRY, MODES))
+                put(record(core, ACQUIRE, rng.choice(tried), rng.randrange(TRY, MODES)))
             else:
-                put(core, ACQUIRE, rng.choice(others), rng.choice((RECURSIVE_READ, RECURSIVE_READ, TRY + READ, TRY + RECURSIVE_READ)))
-    if rng.random() < 0.5:
-        core = rng.choice(cores)
-        put(core, ENTER_HARD)
-        put(core, ACQUIRE, rng.choice(tried))
+                put(record(core, ACQUIRE, rng.choice(others), rng.choice((RECURSIVE_READ, RECURSIVE_READ, TRY + READ, TRY + RECURSIVE_READ))))
+    ends, core = rng.random(), rng.choice(cores)
+    if ends < 0.5:
+        put(record(core, ENTER_HARD))
+        put(record(core, ACQUIRE, rng.choice(tried)))
+    elif ends < 0.75:
+        made.append(wrong_release(machine, core, rng))
     return header(classes) + b"".join(made)
 
 

@@ -5,7 +5,7 @@ import re
 ACQUIRE, RELEASE, HARD_ON, HARD_OFF, SOFT_ON, SOFT_OFF, ENTER_SOFT, EXIT_SOFT, ENTER_HARD, EXIT_HARD = range(10)
 EXCLUSIVE, READ, RECURSIVE_READ = range(3)
 TRY = 3  # added to one of these: a successful try
-MODES = 2 * TRY  # of an acquire
+MODES = 2 * TRY  # of an acquire and of the release that ends it
 HEADER, RECORD = 4, 6  # sizes
 MAX_CLASSES, CORES, DEPTH = 64, 8, 48
 
@@ -54,6 +54,11 @@ class Machine:
         """The place of the newest held lock of the class in the current frame, or None."""
         return max((place for place, (c, _, _) in enumerate(self.held_now(core)) if c == lock_class), default=None)
 
+    def release(self, core, lock_class):
+        """The record that releases that lock, which is held."""
+        _, mode, is_try = self.held_now(core)[self.newest(core, lock_class)]
+        return record(core, RELEASE, lock_class, mode + TRY * is_try)
+
     def refusal(self, rec):
         """The number that refuses a record, or 0."""
         if len(rec) != RECORD or rec[0] != 0x4C or rec[1] != 0x4B:
@@ -61,7 +66,7 @@ class Machine:
         _, _, core, kind, lock_class, mode = rec
         if core >= CORES or kind > EXIT_HARD or mode >= MODES:
             return 3
-        if kind != ACQUIRE and mode or kind > RELEASE and lock_class:
+        if kind > RELEASE and (lock_class or mode):
             return 3
         if lock_class >= self.classes:
             return 4
@@ -70,7 +75,8 @@ class Machine:
             return 6
         if kind in (EXIT_SOFT, EXIT_HARD) and held:
             return 7
-        if kind == RELEASE and self.newest(core, lock_class) is None:
+        newest = self.newest(core, lock_class) if kind == RELEASE else None
+        if kind == RELEASE and (newest is None or held[newest] != (lock_class, mode % TRY, mode >= TRY)):
             return 5
         if kind == ACQUIRE and len(held) == DEPTH:
             return 8
@@ -225,10 +231,10 @@ FAULT = re.compile(rb"fault at record " + NUMBER)
 ENTRY = re.compile(NUMBER + rb" (ER|EN|SR|SN) " + NUMBER + rb" (hold|hard|soft)")
 
 
-def read_output(data, out, see=lambda machine, rec: None, see_tie=lambda what: None):
+def read_output(data, out, see=lambda machine, rec: None, see_tie=lambda what: None, see_refused=lambda machine, rec: None):
     """What an output says of a log: (word, number, cycle), the word clean, refused or fault, the number the refusal's. ValueError where it is not
-    an output, or is untrue of the log by the rules (but for a fault that is not seen). Each record that is accepted is shown to `see` before, and what
-    settled a choice between several cycles is told to `see_tie`."""
+    an output, or is untrue of the log by the rules (but for a fault that is not seen). Each record that is accepted is shown to `see` before, the one
+    that is refused to `see_refused`, and what settled a choice between several cycles is told to `see_tie`."""
     lines = out.split(b"\n")
     if lines.pop() != b"":
         raise ValueError("no line end at the end")
@@ -274,5 +280,6 @@ def read_output(data, out, see=lambda machine, rec: None, see_tie=lambda what: N
             accepted(at - 1)
             if at > len(records) or machine.refusal(records[at - 1]) != number:
                 raise ValueError("the record is not refused so")
+            see_refused(machine, records[at - 1])
         return "refused", number, []
     raise ValueError("not an output")

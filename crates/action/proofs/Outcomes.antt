@@ -24,13 +24,13 @@ use Rattle.layout.specs.Encoding.{DeskBytes, SheetBytes, SeenBytes, Encodes}
 use Rattle.layout.proofs.Buffers.{keeps-self}
 use Rattle.layout.proofs.Numbers.{number-is}
 use Rattle.context.proofs.Frames.{frame-less}
-use Rattle.held.specs.Frames.{FrameBytes, KeepsElse, SmallLocks, Pushed, Removed, newestOf}
+use Rattle.held.specs.Frames.{FrameBytes, KeepsElse, SmallLocks, Pushed, Removed, fittingOf}
 use Rattle.update.specs.Update.{Drawn}
 use Rattle.numbering.specs.Numbering.{Numbered}
 use Rattle.update.proofs.Cores.{changed, frame-bytes, frame-changed, state-changed}
 use Rattle.update.proofs.Drawing.{same-dependencies}
 use Rattle.numbering.proofs.Numbering.{same-seen}
-use Rattle.held.proofs.Releases.{NewestCases, not-found, found-at, newest-is}
+use Rattle.held.proofs.Releases.{FittingCases, not-found, found-at, fitting-is}
 use Rattle.action.specs.Action.{ActedOn, refuses, accepts, Acted}
 use Rattle.action.proofs.Refusals.{refusalBy, orFull, refusal-by}
 use Rattle.cores.proofs.Bytes.{small-locks}
@@ -162,46 +162,46 @@ module _ (desk sheet seen bytes : List ℕ) (w : WellFormed bytes) (few : classe
   -- ---- Release.
 
   module _ (kind : kindOf bytes ≡ 1) where
-    releases : eventOf bytes ≡ release (classOf bytes)
+    releases : eventOf bytes ≡ release (classOf bytes) (modeOf bytes)
     releases = ap (λ (k : ℕ). eventBy k (classOf bytes) (modeOf bytes)) kind
 
     pub release-no-class : K ≤ classOf bytes → Acted desk sheet seen bytes 4 desk sheet seen
     release-no-class l =
-        record { acted = λ s o v enc. refuses-by s o v enc (release (classOf bytes)) releases noClass (rw (le-leb K (classOf bytes) l) refl) }
+        record { acted = λ s o v enc. refuses-by s o v enc (release (classOf bytes) (modeOf bytes)) releases noClass (rw (le-leb K (classOf bytes) l) refl) }
 
     found : (s : State) (opened : s .is-closed ≡ false) (valid : Valid K s) (enc : Encodes K s desk sheet seen)
-        → NewestCases (classOf bytes) (current (s .cores i)) (newestOf desk n (classOf bytes))
+        → FittingCases (classOf bytes) (modeOf bytes) (current (s .cores i)) (fittingOf desk n (classOf bytes) (modeOf bytes))
     found s o v enc =
-        newest-is desk n (current (s .cores i)) (current-frame s o v enc) (small s o v enc) (v .cores i .depths (frameOf (s .cores i .state)))
-        (classOf bytes)
+        fitting-is desk n (current (s .cores i)) (current-frame s o v enc) (small s o v enc) (v .cores i .depths (frameOf (s .cores i .state)))
+        (classOf bytes) (modeOf bytes)
 
-    pub release-not-held : classOf bytes < K → newestOf desk n (classOf bytes) ≡ 0 → Acted desk sheet seen bytes 5 desk sheet seen
+    pub release-not-held : classOf bytes < K → fittingOf desk n (classOf bytes) (modeOf bytes) ≡ 0 → Acted desk sheet seen bytes 5 desk sheet seen
     release-not-held l z =
         record {
           acted = λ s o v enc.
-              refuses-by s o v enc (release (classOf bytes)) releases notHeld
+              refuses-by s o v enc (release (classOf bytes) (modeOf bytes)) releases notHeld
               (rw (lt-leb K (classOf bytes) l, not-found (found s o v enc) z) refl);
         }
 
-    release-passes : classOf bytes < K → (newestOf desk n (classOf bytes) ≡ 0 → ⊥) → (s : State) (opened : s .is-closed ≡ false) (valid : Valid K s)
-        (enc : Encodes K s desk sheet seen) → refusalBy K (s .cores i) (release (classOf bytes)) ≡ none
-    release-passes l ne s o v enc = rw (lt-leb K (classOf bytes) l, found-at (found s o v enc) ne .found) refl
+    release-passes : classOf bytes < K → (fittingOf desk n (classOf bytes) (modeOf bytes) ≡ 0 → ⊥) → (s : State) (opened : s .is-closed ≡ false) (valid : Valid K s)
+        (enc : Encodes K s desk sheet seen) → refusalBy K (s .cores i) (release (classOf bytes) (modeOf bytes)) ≡ none
+    release-passes l ne s o v enc = rw (lt-leb K (classOf bytes) l, found-at (found s o v enc) ne .0) refl
 
-    pub release-count-full : classOf bytes < K → (newestOf desk n (classOf bytes) ≡ 0 → ⊥) → leb maxAccepted (acceptedOf desk) ≡ true
+    pub release-count-full : classOf bytes < K → (fittingOf desk n (classOf bytes) (modeOf bytes) ≡ 0 → ⊥) → leb maxAccepted (acceptedOf desk) ≡ true
         → Acted desk sheet seen bytes 9 desk sheet seen
     release-count-full l ne f =
-        record { acted = λ s o v enc. full-by s o v enc (release (classOf bytes)) releases (release-passes l ne s o v enc) f }
+        record { acted = λ s o v enc. full-by s o v enc (release (classOf bytes) (modeOf bytes)) releases (release-passes l ne s o v enc) f }
 
-    pub release-accepts : {desk′ : List ℕ} → classOf bytes < K → (newestOf desk n (classOf bytes) ≡ 0 → ⊥) → leb maxAccepted (acceptedOf desk) ≡ false
-        → Removed desk n (newestOf desk n (classOf bytes) - 1) desk′ → Acted desk sheet seen bytes 0 desk′ sheet seen
+    pub release-accepts : {desk′ : List ℕ} → classOf bytes < K → (fittingOf desk n (classOf bytes) (modeOf bytes) ≡ 0 → ⊥) → leb maxAccepted (acceptedOf desk) ≡ false
+        → Removed desk n (fittingOf desk n (classOf bytes) (modeOf bytes) - 1) desk′ → Acted desk sheet seen bytes 0 desk′ sheet seen
     release-accepts {desk′} l ne f R =
         record {
           acted = λ s o v enc.
               let F = current-frame s o v enc in
-              let N = found-at (found s o v enc) ne in
+              let N = found-at (found s o v enc) ne .1 in
               let hs = releaseNewest (classOf bytes) (current (s .cores i)) in
               let keeps = by-number s o v enc (λ m. KeepsElse m desk desk′) (R .keeps) in
-              accepts-by s o v enc (release (classOf bytes)) releases (release-passes l ne s o v enc) f
+              accepts-by s o v enc (release (classOf bytes) (modeOf bytes)) releases (release-passes l ne s o v enc) f
               (frame-changed (enc .in-desk) i (w .core) (now-less s o v enc) hs keeps
               (by-number s o v enc (λ m. FrameBytes desk′ m hs)
               (subst (λ (h : List HeldLock). FrameBytes desk′ n h) (sym (N .released)) (R .frame (current (s .cores i)) F))))

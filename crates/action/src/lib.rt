@@ -11,7 +11,7 @@ use context::EXIT_SOFT;
 use context::NO_STATE;
 use context::next;
 use cores::frame_of;
-use held::newest;
+use held::fitting;
 use held::push;
 use held::remove;
 use layout::ACCEPTED_AT;
@@ -90,7 +90,7 @@ fn release(desk: &mut [u8], bytes: &[u8]) -> u8
         return NO_CLASS;
     }
     let frame = frame_of(desk, bytes[CORE_AT] as usize);
-    let place = newest(desk, frame, class);
+    let place = fitting(desk, frame, class, bytes[MODE_AT]);
     if place == 0 {
         return NOT_HELD;
     }

@@ -11,9 +11,9 @@ use Rattle.validity.specs.Valid.{ValidLock, ValidCore}
 use Rattle.layout.specs.Layout.{frameCount, frameNumber, classesOf, stateOf, depthOf}
 use Rattle.context.proofs.Frames.{frame-less}
 use Rattle.layout.proofs.Held.{unheld}
-use Rattle.held.specs.Frames.{FrameBytes, SmallLocks, HeldIn, newestOf}
+use Rattle.held.specs.Frames.{FrameBytes, SmallLocks, HeldIn, fittingOf}
 use Rattle.held.proofs.Prefixes.{Lock, lock-at}
-use Rattle.held.proofs.Releases.{found-at, newest-is}
+use Rattle.held.proofs.Releases.{found-at, fitting-is}
 use Rattle.update.proofs.Cores.{frame-bytes}
 use Rattle.cores.specs.Cores.{Cored}
 
@@ -62,10 +62,10 @@ module _ (desk : List ℕ) (c : Cored desk) (i : ℕ) (li : i < coreCount) where
       }
 
   -- A lock that was found stands in the frame.
-  pub newest-inside : (class : ℕ) → (newestOf desk (frameNumber i (frameOf (stateOf desk i))) class ≡ 0 → ⊥)
-      → newestOf desk (frameNumber i (frameOf (stateOf desk i))) class - 1 < depthOf desk (frameNumber i (frameOf (stateOf desk i)))
-  newest-inside class ne =
+  pub fitting-inside : (class mode : ℕ) → (fittingOf desk (frameNumber i (frameOf (stateOf desk i))) class mode ≡ 0 → ⊥)
+      → fittingOf desk (frameNumber i (frameOf (stateOf desk i))) class mode - 1 < depthOf desk (frameNumber i (frameOf (stateOf desk i)))
+  fitting-inside class mode ne =
       let n = frameNumber i (frameOf (stateOf desk i)) in
-      let q = found-at (newest-is desk n (current (c .cores i)) current-bytes current-small current-few class) ne .inside in
+      let q = found-at (fitting-is desk n (current (c .cores i)) current-bytes current-small current-few class mode) ne .1 .inside in
       let d = current-bytes .depth in
       omega arith

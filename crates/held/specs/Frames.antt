@@ -3,7 +3,7 @@ use mathlib.Core.Path.{_≡_}
 use mathlib.Core.Bool.{Bool, cond}
 use mathlib.Core.List.{List, [], _∷_, _++_}
 use mathlib.Core.Logic.{_⊎_}
-use Prim.Native.Nat.{ℕ, zero, suc, _+_, _*_, _%_, _/_, _<_, _≤_}
+use Prim.Native.Nat.{ℕ, zero, suc, _+_, _-_, _*_, _%_, _/_, _<_, _≤_}
 use lib.Dec.{eqb}
 use lib.ListN.{length, getD}
 use Rattle.rules.specs.Limits.{maxDepth, heldModes, modeCount}
@@ -44,6 +44,14 @@ lastBelow test (suc d) = cond (test d) (suc d) (lastBelow test d)
 
 unfoldable pub newestOf : List ℕ → ℕ → ℕ → ℕ
 newestOf desk n class = lastBelow (λ p. eqb (heldOf desk n p % 64) class) (depthOf desk n)
+
+-- The mode in which the lock at place p of frame n was acquired.
+abbrev pub takenIn : List ℕ → ℕ → ℕ → ℕ
+takenIn desk n p = heldOf desk n p / 64 + heldModes * originOf desk n p
+
+-- One more than the place of the newest lock of the class, if it was acquired in this mode, else 0.
+unfoldable pub fittingOf : List ℕ → ℕ → (class mode : ℕ) → ℕ
+fittingOf desk n class mode = cond (eqb mode (takenIn desk n (newestOf desk n class - 1))) (newestOf desk n class) 0
 
 -- A list without its element at a place.
 abbrev pub removeAt : ℕ → List HeldLock → List HeldLock

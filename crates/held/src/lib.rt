@@ -10,7 +10,7 @@ ghost use Prim.Native.Nat.{_<_, _≤_};
 ghost use lib.ListN.{length};
 ghost use Rattle.rules.specs.Limits.{maxDepth, modeCount};
 ghost use Rattle.layout.specs.Layout.{frameCount, deskSize, depthOf};
-ghost use Rattle.held.specs.Frames.{Pushed, newestOf, OriginsMoved, Removed};
+ghost use Rattle.held.specs.Frames.{Pushed, newestOf, fittingOf, OriginsMoved, Removed};
 
 // A lock is held in a frame that has room: it is the newest.
 pub fn push(desk: &mut [u8], frame: usize, class: u8, mode: u8)
@@ -24,7 +24,7 @@ pub fn push(desk: &mut [u8], frame: usize, class: u8, mode: u8)
 }
 
 // One more than the place of the newest lock of the class in the frame, or 0.
-pub fn newest(desk: &[u8], frame: usize, class: u8) -> usize
+fn newest(desk: &[u8], frame: usize, class: u8) -> usize
     requires { ⌜ (deskSize ≤ length (now desk)) × (frame < frameCount) × (depthOf (now desk) frame ≤ maxDepth) ⌝ }
     ensures { λ r. ⌜ r ≡ newestOf (now (desk .entry)) frame class ⌝ }
 {
@@ -35,6 +35,24 @@ pub fn newest(desk: &[u8], frame: usize, class: u8) -> usize
             return i;
         }
         i = p;
+    }
+    0
+}
+
+// The same of the newest lock of the class only if it was acquired in this mode, by a try or not; an older one does not count.
+pub fn fitting(desk: &[u8], frame: usize, class: u8, mode: u8) -> usize
+    requires { ⌜ (deskSize ≤ length (now desk)) × (frame < frameCount) × (depthOf (now desk) frame ≤ maxDepth) ⌝ }
+    ensures { λ r. ⌜ r ≡ fittingOf (now (desk .entry)) frame class mode ⌝ }
+{
+    let place = newest(desk, frame, class);
+    if place == 0 {
+        return 0;
+    }
+    let p = place - 1;
+    let held_as = desk[HELD_AT + MAX_DEPTH * frame + p] / 64;
+    let tried = origin(desk, MAX_DEPTH * frame + p);
+    if mode == held_as + HELD_MODES * tried {
+        return place;
     }
     0
 }

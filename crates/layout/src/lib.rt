@@ -6,7 +6,7 @@ pub const MAX_CLASSES: usize = 64;
 
 pub const MAX_DEPTH: usize = 48;
 
-// Modes in which a lock is held, and modes of an acquire: the same and by a try.
+// Modes in which a lock is held, and modes of an acquire and of its release: the same and by a try.
 pub const HELD_MODES: u8 = 3;
 
 pub const MODES: u8 = 2 * HELD_MODES;

@@ -25,11 +25,11 @@ pub const RECORD_KINDS: u8 = 10;
 
 const MOST_CORES: u8 = CORES as u8;
 
-// A byte that should be 0 is not: the mode of a release, class and mode of an interrupt event. No branch: kinds come in any order.
+// A byte that should be 0 is not: class or mode of an interrupt event. No branch: kinds come in any order.
 fn stray_byte(kind: u8, class: u8, mode: u8) -> bool
     ensures { λ r. ⌜ r ≡ strayByte kind class mode ⌝ }
 {
-    ((FIRST_EVENT <= kind) & (class != 0)) | ((kind != ACQUIRE) & (mode != 0))
+    (FIRST_EVENT <= kind) & ((class != 0) | (mode != 0))
 }
 
 // The conditions of refusal 3.

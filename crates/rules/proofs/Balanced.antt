@@ -1,7 +1,7 @@
 -- The balance law: each accepted acquire adds one held lock of its class to its frame, each accepted release takes one away, and nothing else
 -- changes a frame. Assumes nothing.
 use mathlib.Core.Path.{_≡_, refl, _∙_}
-use mathlib.Core.Bool.{Bool, true, false, cond, _&&_, false≢true}
+use mathlib.Core.Bool.{Bool, true, false, cond, _&&_, _||_, false≢true, or-true}
 use mathlib.Core.List.{List, [], _∷_, _++_}
 use mathlib.Core.Option.{none}
 use Prim.Native.Nat.{ℕ, _+_}
@@ -10,11 +10,12 @@ use lib.Dec.{eqb}
 use borrow.Author.Tests.{eqb-true, not-false}
 use Rattle.rules.specs.Record.{Bytes, Event, acquire, release, interrupt, coreOf, eventOf}
 use Rattle.rules.specs.Context.{Frame, frameOf}
-use Rattle.rules.specs.HeldLocks.{HeldLock, isHeld, releaseNewest, Core, current, afterEvent}
+use Rattle.rules.specs.HeldLocks.{HeldLock, isHeld, newestIs, releaseNewest, Core, current, afterEvent}
 use Rattle.rules.specs.Graph.{Graph}
 use Rattle.rules.specs.Verdict.{notHeld, refusal, releaseMissing}
 use Rattle.rules.specs.Run.{State, startingFrom, situation, accept, Result, step, run}
 use Rattle.rules.specs.Balance.{acquires, releases, isAccepted, countIf, concerns, tally, standing, Balance}
+use Rattle.rules.proofs.Booleans.{and-cases}
 use Rattle.rules.proofs.Steps.{StepCases, was-refused, was-clean, was-fault, stepped, accepted-passes}
 
 pub count-add : (b : Bool) (n : ℕ) → countIf b n ≡ countIf b 0 + n
@@ -48,6 +49,15 @@ standing-release c x (y ∷ hs) h = by (isHeld x hs) refl (eqb x (y .class)) ref
         rw (e, q, k) (omega arith)
     by false e false q ih = absurd (false≢true (rw (e, q) at h))
 
+-- A release that fits finds a lock of its class.
+pub newest-held : (c m : ℕ) (hs : List HeldLock) → newestIs c m hs ≡ true → isHeld c hs ≡ true
+newest-held c m [] h = h
+newest-held c m (y ∷ hs) h = by (isHeld c hs) _ h
+  where
+    by : (later fits : Bool) → cond later (newestIs c m hs) (eqb c (y .class) && fits) ≡ true → ((eqb c (y .class) && true) || later) ≡ true
+    by true fits e = or-true (eqb c (y .class) && true)
+    by false fits e = rw (and-cases (eqb c (y .class)) fits e .0) refl
+
 -- A core, frame by frame, over one accepted event.
 core-balance : (c : ℕ) (f : Frame) (core : Core) (ev : Event) → releaseMissing core ev ≡ false
     → standing c (afterEvent ev core .held f) + countIf (eqb f (frameOf (core .state)) && releases c ev) 0
@@ -60,14 +70,14 @@ core-balance c f core (acquire x mode) m = by (eqb f (frameOf (core .state))) re
         ≡ standing c (core .held f) + countIf (b && eqb c x) 0
     by true e = rw (eqb-true f (frameOf (core .state)) e) (let p = standing-append c (current core) (record { class = x; mode = mode }) in omega arith)
     by false e = refl
-core-balance c f core (release x) m = by (eqb f (frameOf (core .state))) refl
+core-balance c f core (release x mode) m = by (eqb f (frameOf (core .state))) refl
   where
     by : (b : Bool) → eqb f (frameOf (core .state)) ≡ b
         → standing c (cond b (releaseNewest x (current core)) (core .held f)) + countIf (b && eqb c x) 0
         ≡ standing c (core .held f) + countIf (b && false) 0
     by true e =
         rw (eqb-true f (frameOf (core .state)) e)
-        (let p = standing-release c x (current core) (not-false (isHeld x (current core)) m) in omega arith)
+        (let p = standing-release c x (current core) (newest-held x mode (current core) (not-false (newestIs x mode (current core)) m)) in omega arith)
     by false e = refl
 
 module _ (K : ℕ) (i : ℕ) (f : Frame) (c : ℕ) where

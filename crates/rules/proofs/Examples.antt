@@ -3,11 +3,12 @@ use mathlib.Core.Path.{_≡_, refl, sym, ap, ap₂, fun-ext, _∙_}
 use mathlib.Core.Bool.{Bool, true, false, _&&_, false≢true}
 use mathlib.Core.List.{List, [], _∷_, map}
 use mathlib.Core.Option.{some}
-use Prim.Native.Nat.{ℕ}
+use Prim.Native.Nat.{ℕ, _<_}
 use lib.Dec.{T, eqb}
 use lib.ListN.{length}
-use borrow.Author.Tests.{eqb-true}
-use Rattle.rules.specs.Record.{isMalformed}
+use borrow.Author.Tests.{eqb-true, lt-leb}
+use Rattle.rules.specs.Limits.{coreCount, modeCount}
+use Rattle.rules.specs.Record.{isMalformed, Names}
 use Rattle.rules.specs.Decision.{cyclic, reaches}
 use Rattle.rules.specs.Verdict.{refusal}
 use Rattle.rules.specs.HeldLocks.{releaseNewest}
@@ -18,7 +19,7 @@ use Rattle.rules.specs.Run.{State, start, answers, run, graphAt}
 use Rattle.rules.proofs.Booleans.{and-cases}
 use Rattle.rules.proofs.Quick.{quickly, quickly-same, quickState, quick-state}
 use Rattle.rules.proofs.FewClasses.{classesNamed, allNamed, few-answers}
-use Rattle.rules.specs.Examples.{exclusive, read, recursive, tryExclusive, lockOf, NumberCase, numberCase, numberCases, LimitCase, limitCase, limitCases, DrawnCase, drawnCase, drawnCases, MarkCase, markCase, markCases, Example, cycleCases, CycleCase, cycleCase, table, tries, example, p2, p6, allClean, endsWith, faultAt, takes, frees, does, says}
+use Rattle.rules.specs.Examples.{exclusive, read, recursive, tryExclusive, lockOf, NumberCase, numberCase, numberCases, LimitCase, limitCase, limitCases, DrawnCase, drawnCase, drawnCases, MarkCase, markCase, markCases, Example, cycleCases, CycleCase, cycleCase, table, tries, releaseCases, example, p2, p6, allClean, endsWith, faultAt, takes, frees, does, says}
 
 abbrev sameNumbers : List ℕ → List ℕ → Bool
 sameNumbers [] [] = true
@@ -69,6 +70,18 @@ quick-tries = tt
 pub tries-hold : map (λ (e : Example). answers 4 start (e .log)) tries ≡ map (λ (e : Example). e .given) tries
 tries-hold = computed 4 tries quick-tries
 
+quick-releases : T (allGiven 3 releaseCases)
+unfolding releaseCases example allClean takes frees does says isMalformed refusal dependency cyclic
+quick-releases = tt
+
+pub releases-hold : map (λ (e : Example). answers 3 start (e .log)) releaseCases ≡ map (λ (e : Example). e .given) releaseCases
+releases-hold = computed 3 releaseCases quick-releases
+
+-- A release in any mode names its core.
+pub release-names : (core class mode : ℕ) → core < coreCount → mode < modeCount → Names (frees core class mode) core
+unfolding frees says isMalformed
+release-names core class mode c m = record { formed = rw (lt-leb coreCount core c, lt-leb modeCount mode m) refl; is-core = refl }
+
 -- What holds of each row holds of the table.
 of-each : {A B : Type 0} {f g : A → B} (rows : List A) → ((e : A) → f e ≡ g e) → map f rows ≡ map g rows
 of-each {A} {B} rows h = ap (λ (f : A → B). map f rows) (fun-ext h)
@@ -100,7 +113,7 @@ marks-hold = refl
 pub newest-released : releaseNewest 0 (lockOf 0 read ∷ lockOf 1 exclusive ∷ lockOf 0 recursive ∷ []) ≡ lockOf 0 read ∷ lockOf 1 exclusive ∷ []
 newest-released = refl
 
--- Whatever its origin.
+-- Whatever its origin: whether the release fits is asked before (Verdict.antt).
 pub try-released : releaseNewest 1 (lockOf 1 exclusive ∷ lockOf 1 tryExclusive ∷ []) ≡ lockOf 1 exclusive ∷ []
 try-released = refl
 

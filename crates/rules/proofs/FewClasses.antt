@@ -75,7 +75,7 @@ release-some d c test (y ∷ hs) e = by (isHeld d hs) (eqb d (y .class)) (releas
 -- The class that an acquire names is below n.
 abbrev Names : ℕ → Event → Type 0
 Names n (acquire c m) = c < n
-Names n (release c) = Unit {0}
+Names n (release c m) = Unit {0}
 Names n (interrupt e) = Unit {0}
 
 module _ (n : ℕ) (core : Core) (b : (f : Frame) → HeldBelow n (core .held f)) where
@@ -90,7 +90,7 @@ module _ (n : ℕ) (core : Core) (b : (f : Frame) → HeldBelow n (core .held f)
                 (append-some x test (current core) (record { class = c; mode = m }) h);
           }
       by false = b f
-  after-below (release c) l f = by (eqb f (frameOf (core .state)))
+  after-below (release c m) l f = by (eqb f (frameOf (core .state)))
     where
       by : (t : Bool) → HeldBelow n (cond t (releaseNewest c (current core)) (core .held f))
       by true = record { below = λ x test h. b (frameOf (core .state)) .below x test (release-some c x test (current core) h) }
@@ -103,7 +103,7 @@ module _ (n : ℕ) (core : Core) (b : (f : Frame) → HeldBelow n (core .held f)
       let p = and-cases (eqb t c && sameSecond (k .second) (secondBy m)) (someHeld f held (current core)) (and-cases (not (isTry m)) _ h .1) in
       let q = and-cases (eqb t c) (sameSecond (k .second) (secondBy m)) (p .0) in
       (b (frameOf (core .state)) .below f held (p .1), let e = eqb-true t c (q .0) in omega arith)
-  drawn-below (release c) l f t k h = absurd (false≢true h)
+  drawn-below (release c m) l f t k h = absurd (false≢true h)
   drawn-below (interrupt e) l f t k h = absurd (false≢true h)
 
 accept-below : (n : ℕ) (s : State) (r : Bytes) → Names n (eventOf r) → Below n s → Below n (accept s r)

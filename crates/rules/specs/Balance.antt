@@ -13,12 +13,12 @@ use Rattle.rules.specs.Run.{State, startingFrom, step, run}
 
 abbrev pub acquires : ℕ → Event → Bool
 acquires c (acquire x m) = eqb c x
-acquires c (release x) = false
+acquires c (release x m) = false
 acquires c (interrupt e) = false
 
 abbrev pub releases : ℕ → Event → Bool
 releases c (acquire x m) = false
-releases c (release x) = eqb c x
+releases c (release x m) = eqb c x
 releases c (interrupt e) = false
 
 abbrev pub isAccepted : Answer → Bool

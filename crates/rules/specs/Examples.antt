@@ -1,4 +1,4 @@
--- Document 01, "Logs for the bench": P1 to P12 with their variants and the refusal logs, as one table under one claim; requests a and c in tables of their own.
+-- Document 01, "Logs for the bench": P1 to P12 with their variants and the refusal logs, as one table under one claim; requests a, c, e and h in tables of their own.
 use mathlib.Core.Bool.{Bool, true, false}
 use mathlib.Core.List.{List, [], _∷_, _++_}
 use Prim.Native.Nat.{ℕ, _+_, pred}
@@ -38,8 +38,8 @@ says core kind class mode = 0x4C ∷ 0x4B ∷ core ∷ kind ∷ class ∷ mode �
 unfoldable pub takes : ℕ → ℕ → ℕ → Bytes
 takes core class mode = says core 0 class mode
 
-unfoldable pub frees : ℕ → ℕ → Bytes
-frees core class = says core 1 class 0
+unfoldable pub frees : ℕ → ℕ → ℕ → Bytes
+frees core class mode = says core 1 class mode
 
 -- The other interrupt events by name.
 abbrev pub hardOn : ℕ
@@ -82,7 +82,7 @@ unfoldable pub example : List Bytes → List ℕ → Example
 example log given = record { log = log; given = given }
 
 unfoldable pub p2 : List Bytes
-p2 = takes 0 1 exclusive ∷ takes 0 2 exclusive ∷ frees 0 2 ∷ frees 0 1 ∷ takes 1 2 exclusive ∷ takes 1 1 exclusive ∷ []
+p2 = takes 0 1 exclusive ∷ takes 0 2 exclusive ∷ frees 0 2 exclusive ∷ frees 0 1 exclusive ∷ takes 1 2 exclusive ∷ takes 1 1 exclusive ∷ []
 
 unfoldable pub p6 : List Bytes
 p6 = takes 0 0 recursive ∷ takes 0 0 recursive ∷ []
@@ -100,25 +100,25 @@ table =
     ∷ example (takes 0 0 exclusive ∷ takes 0 0 recursive ∷ []) (faultAt 2)
     ∷ example (takes 0 0 exclusive ∷ takes 0 1 recursive ∷ takes 0 2 exclusive ∷ takes 1 2 exclusive ∷ takes 1 0 exclusive ∷ []) (faultAt 5)
     -- P10, and both R
-    ∷ example (takes 0 3 exclusive ∷ frees 0 3 ∷ does 0 enterHard ∷ takes 0 3 exclusive ∷ []) (faultAt 4)
-    ∷ example (takes 0 3 recursive ∷ frees 0 3 ∷ does 0 enterHard ∷ takes 0 3 recursive ∷ []) (allClean 4)
+    ∷ example (takes 0 3 exclusive ∷ frees 0 3 exclusive ∷ does 0 enterHard ∷ takes 0 3 exclusive ∷ []) (faultAt 4)
+    ∷ example (takes 0 3 recursive ∷ frees 0 3 recursive ∷ does 0 enterHard ∷ takes 0 3 recursive ∷ []) (allClean 4)
     -- P11
     ∷ example
-    (does 0 enterHard ∷ takes 0 4 exclusive ∷ frees 0 4 ∷ does 0 exitHard ∷ does 0 hardOff ∷ takes 0 4 exclusive ∷ takes 0 5 exclusive ∷ frees 0 5 ∷ frees 0 4
+    (does 0 enterHard ∷ takes 0 4 exclusive ∷ frees 0 4 exclusive ∷ does 0 exitHard ∷ does 0 hardOff ∷ takes 0 4 exclusive ∷ takes 0 5 exclusive ∷ frees 0 5 exclusive ∷ frees 0 4 exclusive
     ∷ does 0 hardOn ∷ takes 0 5 exclusive ∷ [])
     (faultAt 11)
     -- P12, and without the soft off and on
-    ∷ example (does 0 softOff ∷ takes 0 6 exclusive ∷ frees 0 6 ∷ does 0 softOn ∷ does 0 enterSoft ∷ takes 0 6 exclusive ∷ []) (allClean 6)
-    ∷ example (takes 0 6 exclusive ∷ frees 0 6 ∷ does 0 enterSoft ∷ takes 0 6 exclusive ∷ []) (faultAt 4)
+    ∷ example (does 0 softOff ∷ takes 0 6 exclusive ∷ frees 0 6 exclusive ∷ does 0 softOn ∷ does 0 enterSoft ∷ takes 0 6 exclusive ∷ []) (allClean 6)
+    ∷ example (takes 0 6 exclusive ∷ frees 0 6 exclusive ∷ does 0 enterSoft ∷ takes 0 6 exclusive ∷ []) (faultAt 4)
     -- 0R forty-eight times, then 0R, and by a try (and 8R: 4 before 8); exit hard with a lock held; exit hard in state 0
     ∷ example (replicate 49 (takes 0 0 recursive) ++ (takes 0 0 tryRecursive ∷ takes 0 8 recursive ∷ [])) (endsWith 49 8 ++ (8 ∷ 4 ∷ []))
     ∷ example (does 0 enterHard ∷ takes 0 1 exclusive ∷ does 0 exitHard ∷ []) (endsWith 3 7)
     ∷ example (does 0 exitHard ∷ []) (endsWith 1 6)
     -- "a hard on with a hard-safe hold standing": the mark comes with the hard on
-    ∷ example (does 0 enterHard ∷ takes 0 4 exclusive ∷ frees 0 4 ∷ does 0 exitHard ∷ does 0 hardOff ∷ takes 0 4 exclusive ∷ does 0 hardOn ∷ []) (faultAt 7)
+    ∷ example (does 0 enterHard ∷ takes 0 4 exclusive ∷ frees 0 4 exclusive ∷ does 0 exitHard ∷ does 0 hardOff ∷ takes 0 4 exclusive ∷ does 0 hardOn ∷ []) (faultAt 7)
     -- refusals that meet: 10 before 3, 3 before 4, 4 before 5
     ∷ example (takes 0 0 exclusive ∷ takes 0 0 exclusive ∷ [] ∷ takes 0 9 exclusive ∷ []) (0 ∷ 1 ∷ 10 ∷ 10 ∷ [])
-    ∷ example (takes 0 8 6 ∷ takes 8 8 exclusive ∷ takes 0 8 exclusive ∷ frees 0 8 ∷ frees 0 7 ∷ []) (3 ∷ 3 ∷ 4 ∷ 4 ∷ 5 ∷ [])
+    ∷ example (takes 0 8 6 ∷ takes 8 8 exclusive ∷ takes 0 8 exclusive ∷ frees 0 8 exclusive ∷ frees 0 7 exclusive ∷ []) (3 ∷ 3 ∷ 4 ∷ 4 ∷ 5 ∷ [])
     ∷ []
 
 -- Request a, over four classes: what a try draws and marks, and what is refused.
@@ -133,21 +133,43 @@ tries =
     ∷ example (takes 0 1 exclusive ∷ takes 0 2 tryExclusive ∷ takes 1 2 exclusive ∷ takes 1 1 exclusive ∷ []) (allClean 4)
     ∷ example (takes 0 1 tryExclusive ∷ takes 0 2 exclusive ∷ takes 1 2 exclusive ∷ takes 1 1 exclusive ∷ []) (faultAt 4)
     -- P10 by a try in the handler: clean, "then or later"; by a try in the task: fault
-    ∷ example (takes 0 3 exclusive ∷ frees 0 3 ∷ does 0 enterHard ∷ takes 0 3 tryExclusive ∷ takes 0 2 exclusive ∷ []) (allClean 5)
-    ∷ example (takes 0 3 tryExclusive ∷ frees 0 3 ∷ does 0 enterHard ∷ takes 0 3 exclusive ∷ []) (faultAt 4)
+    ∷ example (takes 0 3 exclusive ∷ frees 0 3 exclusive ∷ does 0 enterHard ∷ takes 0 3 tryExclusive ∷ takes 0 2 exclusive ∷ []) (allClean 5)
+    ∷ example (takes 0 3 tryExclusive ∷ frees 0 3 tryExclusive ∷ does 0 enterHard ∷ takes 0 3 exclusive ∷ []) (faultAt 4)
     -- a try held over a hard on becomes hard-unsafe
     ∷ example
-    (does 0 enterHard ∷ takes 0 2 exclusive ∷ frees 0 2 ∷ does 0 exitHard ∷ does 0 hardOff ∷ takes 0 2 tryExclusive ∷ does 0 hardOn ∷ [])
+    (does 0 enterHard ∷ takes 0 2 exclusive ∷ frees 0 2 exclusive ∷ does 0 exitHard ∷ does 0 hardOff ∷ takes 0 2 tryExclusive ∷ does 0 hardOn ∷ [])
     (faultAt 7)
     -- marks are by class: another lock of it that is no try marks it safe; the try alone does not
     ∷ example
-    (does 0 enterHard ∷ takes 0 3 tryRecursive ∷ takes 0 3 recursive ∷ frees 0 3 ∷ frees 0 3 ∷ does 0 exitHard ∷ takes 0 3 exclusive ∷ [])
+    (does 0 enterHard ∷ takes 0 3 tryRecursive ∷ takes 0 3 recursive ∷ frees 0 3 recursive ∷ frees 0 3 tryRecursive ∷ does 0 exitHard ∷ takes 0 3 exclusive ∷ [])
     (faultAt 7)
-    ∷ example (does 0 enterHard ∷ takes 0 3 tryRecursive ∷ frees 0 3 ∷ does 0 exitHard ∷ takes 0 3 exclusive ∷ []) (allClean 5)
+    ∷ example (does 0 enterHard ∷ takes 0 3 tryRecursive ∷ frees 0 3 tryRecursive ∷ does 0 exitHard ∷ takes 0 3 exclusive ∷ []) (allClean 5)
     -- a release takes the newest, here a try: 1R stays, and 1 SN 2 after 2 ER 1 is weak
-    ∷ example (takes 0 1 recursive ∷ takes 0 1 tryExclusive ∷ frees 0 1 ∷ takes 0 2 exclusive ∷ takes 1 2 exclusive ∷ takes 1 1 recursive ∷ []) (allClean 6)
-    -- a try of class K; mode 6, before 4; a release of a try with its mode, and with mode 0
-    ∷ example (takes 0 4 tryExclusive ∷ takes 0 4 6 ∷ takes 0 1 tryExclusive ∷ says 0 1 1 tryExclusive ∷ frees 0 1 ∷ []) (4 ∷ 3 ∷ 0 ∷ 3 ∷ 0 ∷ [])
+    ∷ example (takes 0 1 recursive ∷ takes 0 1 tryExclusive ∷ frees 0 1 tryExclusive ∷ takes 0 2 exclusive ∷ takes 1 2 exclusive ∷ takes 1 1 recursive ∷ []) (allClean 6)
+    -- a try of class K; mode 6, before 4; a release of a try with mode 0, and with its mode
+    ∷ example (takes 0 4 tryExclusive ∷ takes 0 4 6 ∷ takes 0 1 tryExclusive ∷ frees 0 1 exclusive ∷ frees 0 1 tryExclusive ∷ []) (4 ∷ 3 ∷ 0 ∷ 5 ∷ 0 ∷ [])
+    ∷ []
+
+-- Request h, over three classes: which releases are refused with 5. A refused one leaves the lock held.
+unfoldable pub releaseCases : List Example
+releaseCases =
+    -- another mode than the one taken; another origin, both ways
+    example (takes 0 1 recursive ∷ frees 0 1 exclusive ∷ frees 0 1 read ∷ frees 0 1 recursive ∷ frees 0 1 recursive ∷ []) (0 ∷ 5 ∷ 5 ∷ 0 ∷ 5 ∷ [])
+    ∷ example (takes 0 1 recursive ∷ frees 0 1 tryRecursive ∷ []) (0 ∷ 5 ∷ [])
+    ∷ example (takes 0 1 tryRecursive ∷ frees 0 1 recursive ∷ frees 0 1 tryRead ∷ frees 0 1 tryRecursive ∷ []) (0 ∷ 5 ∷ 5 ∷ 0 ∷ [])
+    -- the newest of the class must fit: an older one that would does not count, before the newest is released
+    ∷ example (takes 0 1 exclusive ∷ takes 0 1 tryRecursive ∷ frees 0 1 exclusive ∷ frees 0 1 tryRecursive ∷ frees 0 1 exclusive ∷ []) (0 ∷ 0 ∷ 5 ∷ 0 ∷ 0 ∷ [])
+    -- a newer lock of another class does not matter, whether it would fit or not
+    ∷ example (takes 0 1 exclusive ∷ takes 0 2 recursive ∷ frees 0 1 recursive ∷ frees 0 1 exclusive ∷ frees 0 2 recursive ∷ []) (0 ∷ 0 ∷ 5 ∷ 0 ∷ 0 ∷ [])
+    -- nor does one of another frame or of another core
+    ∷ example
+    (takes 0 1 recursive ∷ frees 1 1 recursive ∷ does 0 enterHard ∷ frees 0 1 recursive ∷ takes 0 1 tryExclusive ∷ frees 0 1 recursive ∷ frees 0 1 tryExclusive
+    ∷ does 0 exitHard ∷ frees 0 1 recursive ∷ [])
+    (0 ∷ 5 ∷ 0 ∷ 5 ∷ 0 ∷ 5 ∷ 0 ∷ 0 ∷ 0 ∷ [])
+    -- mode 6 is 3, before 4 and 5; class K with mode 5 is 4, before 5; an event with a mode is 3 still
+    ∷ example (frees 0 3 6 ∷ frees 0 1 6 ∷ frees 0 3 tryRecursive ∷ frees 0 2 tryRecursive ∷ says 0 2 0 1 ∷ []) (3 ∷ 3 ∷ 4 ∷ 5 ∷ 3 ∷ [])
+    -- P2 with the outer acquire by a try is a fault (`tries`), and with its release put in it is clean: for demand 3 a release with mode 3 has to name its core
+    ∷ example (takes 0 1 tryExclusive ∷ frees 0 1 tryExclusive ∷ takes 0 2 exclusive ∷ takes 1 2 exclusive ∷ takes 1 1 exclusive ∷ []) (allClean 5)
     ∷ []
 
 -- ---- Request c: which cycle is shown, where one record closes several.
@@ -169,34 +191,34 @@ cycleCases =
     cycleCase 3 p2 (goes 1 EN lock ∷ goes 2 EN lock ∷ [])
     -- the kind before the next class: 0 ER 2 before 0 EN 1
     ∷ cycleCase 3
-    (takes 0 0 exclusive ∷ takes 0 1 exclusive ∷ frees 0 1 ∷ takes 0 2 recursive ∷ frees 0 2 ∷ frees 0 0 ∷ takes 1 1 exclusive ∷ takes 1 2 exclusive
+    (takes 0 0 exclusive ∷ takes 0 1 exclusive ∷ frees 0 1 exclusive ∷ takes 0 2 recursive ∷ frees 0 2 recursive ∷ frees 0 0 exclusive ∷ takes 1 1 exclusive ∷ takes 1 2 exclusive
     ∷ takes 1 0 exclusive ∷ [])
     (goes 0 ER lock ∷ goes 2 EN lock ∷ [])
     -- the source before the next class: 0 EN 2 by a lock before 0 EN 1 by a hard interrupt
     ∷ cycleCase 3
-    (does 0 enterHard ∷ takes 0 1 exclusive ∷ frees 0 1 ∷ does 0 exitHard ∷ takes 0 0 exclusive ∷ does 0 hardOff ∷ takes 0 2 exclusive ∷ does 1 hardOff
+    (does 0 enterHard ∷ takes 0 1 exclusive ∷ frees 0 1 exclusive ∷ does 0 exitHard ∷ takes 0 0 exclusive ∷ does 0 hardOff ∷ takes 0 2 exclusive ∷ does 1 hardOff
     ∷ takes 1 2 exclusive ∷ takes 1 1 exclusive ∷ takes 1 0 exclusive ∷ [])
     (goes 0 EN lock ∷ goes 2 EN lock ∷ [])
     -- the kind before the source: 0 ER 1 by a hard interrupt before 0 EN 1 by a lock
     ∷ cycleCase 2
-    (does 0 enterHard ∷ takes 0 1 recursive ∷ frees 0 1 ∷ does 0 exitHard ∷ takes 0 0 exclusive ∷ does 0 hardOff ∷ takes 0 1 exclusive ∷ does 1 hardOff
+    (does 0 enterHard ∷ takes 0 1 recursive ∷ frees 0 1 recursive ∷ does 0 exitHard ∷ takes 0 0 exclusive ∷ does 0 hardOff ∷ takes 0 1 exclusive ∷ does 1 hardOff
     ∷ takes 1 1 exclusive ∷ takes 1 0 exclusive ∷ [])
     (goes 0 ER (irq hardIrq) ∷ goes 1 EN lock ∷ [])
     -- 0 ER 1 is barred by the joint at 1, and 1 ER 0 by the closing joint
     ∷ cycleCase 2
-    (takes 0 0 exclusive ∷ takes 0 1 recursive ∷ frees 0 1 ∷ takes 0 1 exclusive ∷ takes 1 1 read ∷ takes 1 0 exclusive ∷ [])
+    (takes 0 0 exclusive ∷ takes 0 1 recursive ∷ frees 0 1 recursive ∷ takes 0 1 exclusive ∷ takes 1 1 read ∷ takes 1 0 exclusive ∷ [])
     (goes 0 EN lock ∷ goes 1 SN lock ∷ [])
     ∷ cycleCase 2
-    (takes 0 1 exclusive ∷ takes 0 0 recursive ∷ frees 0 0 ∷ takes 0 0 exclusive ∷ takes 1 0 read ∷ takes 1 1 exclusive ∷ [])
+    (takes 0 1 exclusive ∷ takes 0 0 recursive ∷ frees 0 0 recursive ∷ takes 0 0 exclusive ∷ takes 1 0 read ∷ takes 1 1 exclusive ∷ [])
     (goes 0 SN lock ∷ goes 1 EN lock ∷ [])
     -- the fewest before the lowest: 2, 3 before 0, 1, 2
     ∷ cycleCase 4
-    (takes 0 2 exclusive ∷ takes 0 3 exclusive ∷ frees 0 3 ∷ takes 0 0 exclusive ∷ frees 0 2 ∷ takes 0 1 exclusive ∷ takes 1 1 exclusive ∷ takes 1 3 exclusive
+    (takes 0 2 exclusive ∷ takes 0 3 exclusive ∷ frees 0 3 exclusive ∷ takes 0 0 exclusive ∷ frees 0 2 exclusive ∷ takes 0 1 exclusive ∷ takes 1 1 exclusive ∷ takes 1 3 exclusive
     ∷ takes 1 2 exclusive ∷ [])
     (goes 2 EN lock ∷ goes 3 EN lock ∷ [])
     -- request e: the next class, though the pair 0, 1 has a higher number than 0, 2
     ∷ cycleCase 3
-    (takes 0 0 exclusive ∷ takes 0 2 exclusive ∷ frees 0 2 ∷ takes 0 1 exclusive ∷ takes 1 1 exclusive ∷ takes 1 2 exclusive ∷ takes 1 0 exclusive ∷ [])
+    (takes 0 0 exclusive ∷ takes 0 2 exclusive ∷ frees 0 2 exclusive ∷ takes 0 1 exclusive ∷ takes 1 1 exclusive ∷ takes 1 2 exclusive ∷ takes 1 0 exclusive ∷ [])
     (goes 0 EN lock ∷ goes 1 EN lock ∷ [])
     ∷ []
 
@@ -261,14 +283,14 @@ numberCases =
     ∷ numberCase p2 2 1 6 6
     ∷ numberCase p2 1 1 6 0
     -- refused records are not: the fourth record is the second accepted; after the fault none is
-    ∷ numberCase (takes 0 0 exclusive ∷ frees 0 1 ∷ [] ∷ takes 0 1 exclusive ∷ []) 0 1 2 2
+    ∷ numberCase (takes 0 0 exclusive ∷ frees 0 1 exclusive ∷ [] ∷ takes 0 1 exclusive ∷ []) 0 1 2 2
     ∷ numberCase (takes 0 0 exclusive ∷ takes 0 0 exclusive ∷ takes 1 0 exclusive ∷ takes 1 1 exclusive ∷ []) 0 0 2 2
     -- a second kind keeps the number
-    ∷ numberCase (takes 0 0 exclusive ∷ takes 0 1 recursive ∷ frees 0 1 ∷ takes 0 1 exclusive ∷ []) 0 1 4 2
+    ∷ numberCase (takes 0 0 exclusive ∷ takes 0 1 recursive ∷ frees 0 1 recursive ∷ takes 0 1 exclusive ∷ []) 0 1 4 2
     -- one from every lock of the frame; none to a try, nor by marks alone
     ∷ numberCase (takes 0 0 exclusive ∷ takes 0 1 exclusive ∷ takes 0 2 exclusive ∷ []) 0 2 3 3
     ∷ numberCase (takes 0 0 exclusive ∷ takes 0 1 tryExclusive ∷ takes 0 2 exclusive ∷ []) 0 1 3 0
-    ∷ numberCase (does 0 enterHard ∷ takes 0 1 exclusive ∷ frees 0 1 ∷ does 0 exitHard ∷ takes 0 0 exclusive ∷ []) 0 1 5 0
+    ∷ numberCase (does 0 enterHard ∷ takes 0 1 exclusive ∷ frees 0 1 exclusive ∷ does 0 exitHard ∷ takes 0 0 exclusive ∷ []) 0 1 5 0
     ∷ []
 
 -- Records that meet the limit: `before` leads to a state, which is taken with so many records accepted.
@@ -285,8 +307,8 @@ unfoldable pub limitCases : List LimitCase
 limitCases =
     -- one more at 4,294,967,294; then 9 for what would be accepted, also what draws nothing, and every other refusal before it
     limitCase [] 4294967294
-    (takes 0 0 exclusive ∷ takes 0 1 exclusive ∷ frees 0 0 ∷ does 0 hardOff ∷ frees 0 1 ∷ does 0 exitHard ∷ takes 0 3 exclusive ∷ [] ∷ [])
-    (0 ∷ 9 ∷ 9 ∷ 9 ∷ 5 ∷ 6 ∷ 4 ∷ 3 ∷ [])
+    (takes 0 0 exclusive ∷ takes 0 1 exclusive ∷ frees 0 0 exclusive ∷ does 0 hardOff ∷ frees 0 1 exclusive ∷ frees 0 0 read ∷ does 0 exitHard ∷ takes 0 3 exclusive ∷ [] ∷ [])
+    (0 ∷ 9 ∷ 9 ∷ 9 ∷ 5 ∷ 5 ∷ 6 ∷ 4 ∷ 3 ∷ [])
     ∷ limitCase (does 0 enterHard ∷ takes 0 0 exclusive ∷ []) 4294967295 (does 0 exitHard ∷ []) (7 ∷ [])
     ∷ limitCase (replicate 48 (takes 0 0 tryRecursive)) 4294967295 (takes 0 0 recursive ∷ []) (8 ∷ [])
     -- the last one may be a fault, and then all get 10

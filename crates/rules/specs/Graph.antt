@@ -41,7 +41,7 @@ abbrev pub drawnBy : Event → Core → Dependencies
 drawnBy (acquire c m) core f t k =
     not (isTry m)
     && (eqb t c && sameSecond (k .second) (secondBy m) && someHeld f (λ h. sameFirst (k .first) (firstOf h)) (current core))
-drawnBy (release c) core f t k = false
+drawnBy (release c m) core f t k = false
 drawnBy (interrupt e) core f t k = false
 
 -- Where a dependency comes from. Numbers 0 hold, 1 hard, 2 soft in the slip.

@@ -76,6 +76,11 @@ abbrev pub releaseNewest : ℕ → List HeldLock → List HeldLock
 releaseNewest c [] = []
 releaseNewest c (h ∷ hs) = cond (isHeld c hs) (h ∷ releaseNewest c hs) (cond (eqb c (h .class)) hs (h ∷ hs))
 
+-- "the newest hold of that class in the frame has exactly that mode and origin": a mode from 3 on is a try's.
+abbrev pub newestIs : (class mode : ℕ) → List HeldLock → Bool
+newestIs c m [] = false
+newestIs c m (h ∷ hs) = cond (isHeld c hs) (newestIs c m hs) (eqb c (h .class) && eqb m (h .mode))
+
 -- A core: its state, and its held locks in each frame, oldest first.
 pub record Core : Type 0 where
   pub state : CoreState
@@ -97,5 +102,5 @@ withState c s = record { state = s; held = c .held }
 -- The core after an accepted event.
 abbrev pub afterEvent : Event → Core → Core
 afterEvent (acquire c m) core = withCurrent core (current core ++ (record { class = c; mode = m } ∷ []))
-afterEvent (release c) core = withCurrent core (releaseNewest c (current core))
+afterEvent (release c m) core = withCurrent core (releaseNewest c (current core))
 afterEvent (interrupt e) core = withState core (nextState (core .state) e)

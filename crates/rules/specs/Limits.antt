@@ -25,6 +25,6 @@ kindCount = 10
 abbrev pub heldModes : ℕ
 heldModes = 3
 
--- Modes of an acquire: those, and 3, 4, 5 the same by a successful try.
+-- Modes of an acquire and of its release: those, and 3, 4, 5 the same by a successful try.
 abbrev pub modeCount : ℕ
 modeCount = heldModes + heldModes

@@ -30,22 +30,21 @@ modeOf r = getD r 5 0
 -- What a record says of its core: an acquire ("take"), a release, or an interrupt event, numbered by its column in the next-state table
 -- (kind 2 is event 0).
 pub data Event : Type 0 where
-  acquire : (class mode : ℕ) → Event
-  release : (class : ℕ) → Event
+  acquire release : (class mode : ℕ) → Event
   interrupt : (event : ℕ) → Event
 
 abbrev pub eventBy : (kind class mode : ℕ) → Event
 eventBy zero c m = acquire c m
-eventBy (suc zero) c m = release c
+eventBy (suc zero) c m = release c m
 eventBy (suc (suc k)) c m = interrupt k
 
 abbrev pub eventOf : Bytes → Event
 eventOf r = eventBy (kindOf r) (classOf r) (modeOf r)
 
--- "Mode is 0 for a release; class and mode are 0 for kinds 2 to 9."
+-- "class and mode are 0 for kinds 2 to 9" (02, h: "A release now carries the mode taken, 0 to 5").
 abbrev pub strayByte : (kind class mode : ℕ) → Bool
 strayByte zero c m = false
-strayByte (suc zero) c m = not (eqb m 0)
+strayByte (suc zero) c m = false
 strayByte (suc (suc k)) c m = not (eqb c 0 && eqb m 0)
 
 -- Refusal 3: "not six bytes, wrong mark, core over 7, kind over 9, mode over 2, or a byte that should be 0"; request a:

@@ -8,7 +8,7 @@ use lib.ListN.{length}
 use Rattle.rules.specs.Limits.{maxDepth, maxAccepted}
 use Rattle.rules.specs.Record.{Bytes, Event, acquire, release, interrupt, eventOf, isMalformed}
 use Rattle.rules.specs.Context.{noState, nextState, leavesHandler}
-use Rattle.rules.specs.HeldLocks.{Core, current, isHeld, HeldLock}
+use Rattle.rules.specs.HeldLocks.{Core, current, newestIs, HeldLock}
 
 pub data Refusal : Type 0 where
   closed malformed noClass noTransition stillHeld notHeld tooDeep countFull : Refusal
@@ -65,13 +65,13 @@ pub record Situation : Type 0 where
 -- "take or release, class K or more"
 abbrev pub classMissing : ℕ → Event → Bool
 classMissing K (acquire c m) = leb K c
-classMissing K (release c) = leb K c
+classMissing K (release c m) = leb K c
 classMissing K (interrupt e) = false
 
 -- "x in the table"
 abbrev pub transitionMissing : Core → Event → Bool
 transitionMissing core (acquire c m) = false
-transitionMissing core (release c) = false
+transitionMissing core (release c m) = false
 transitionMissing core (interrupt e) = eqb (nextState (core .state) e) noState
 
 abbrev pub someLock : List HeldLock → Bool
@@ -81,19 +81,19 @@ someLock (h ∷ hs) = true
 -- "k7 or k9 allowed, but holds stand in the frame"
 abbrev pub leavesLocked : Core → Event → Bool
 leavesLocked core (acquire c m) = false
-leavesLocked core (release c) = false
+leavesLocked core (release c m) = false
 leavesLocked core (interrupt e) = leavesHandler e && not (eqb (nextState (core .state) e) noState) && someLock (current core)
 
--- "release, class not held in this frame"
+-- "refused with 5 unless the newest hold of that class in the frame has exactly that mode and origin"
 abbrev pub releaseMissing : Core → Event → Bool
 releaseMissing core (acquire c m) = false
-releaseMissing core (release c) = not (isHeld c (current core))
+releaseMissing core (release c m) = not (newestIs c m (current core))
 releaseMissing core (interrupt e) = false
 
 -- "take, frame holds 20" (02, g: 48)
 abbrev pub frameFull : Core → Event → Bool
 frameFull core (acquire c m) = leb maxDepth (length (current core))
-frameFull core (release c) = false
+frameFull core (release c m) = false
 frameFull core (interrupt e) = false
 
 abbrev pub applies : Refusal → Situation → Bool

@@ -84,7 +84,7 @@ no-lock (y ∷ hs) h l = false≢true (sym h)
 -- What the form of a record says of its event.
 abbrev InLimits : Event → Type 0
 InLimits (acquire c m) = m < modeCount
-InLimits (release c) = Unit {0}
+InLimits (release c m) = Unit {0}
 InLimits (interrupt e) = e < eventCount
 
 event-in-limits : (k c m : ℕ) → k < kindCount → m < modeCount → InLimits (eventBy k c m)
@@ -151,7 +151,7 @@ module _ (K : ℕ) (c : Core) (v : ValidCore K c) where
       (let p = leb-false maxDepth (length (current c)) d in rw length-append (omega arith))
       (append-valid K (current c) (record { class = a; mode = m }) (v .locks (frameOf (c .state)))
       (record { class = leb-false K a n; mode = i }))
-  core-kept (release a) i n t q d =
+  core-kept (release a m) i n t q d =
       let p = release-kept K a (current c) (v .locks (frameOf (c .state))) in
       current-kept (releaseNewest a (current c)) (let o = v .depths (frameOf (c .state)) in omega arith) (p .1)
   core-kept (interrupt e) i n t q d =
@@ -174,7 +174,7 @@ module _ (K : ℕ) (c : Core) (v : ValidCore K c) where
         held-in-range K f _ (current c) (v .locks (frameOf (c .state))) (p .1),
         rw (eqb-true t a (and-cases _ _ (p .0) .0)) (leb-false K a n),
       )
-  drawn-in-range (release a) n f t k h = absurd (false≢true h)
+  drawn-in-range (release a m) n f t k h = absurd (false≢true h)
   drawn-in-range (interrupt e) n f t k h = absurd (false≢true h)
 
 -- Soft-unsafe is set in one state, in which hard-unsafe is set too.

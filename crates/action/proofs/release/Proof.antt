@@ -1,6 +1,6 @@
 use mathlib.Core.Path.{sym, _∙_}
 use Rattle.rules.specs.Record.{coreOf}
-use Rattle.cores.proofs.Bytes.{state-less, held-in, newest-inside}
+use Rattle.cores.proofs.Bytes.{state-less, held-in, fitting-inside}
 use Rattle.action.proofs.Outcomes.{release-no-class, release-not-held, release-count-full, release-accepts}
 use borrow.Author.Needs.{needs}
 use Rattle.action.proofs.release.Statement.{statement}
@@ -9,7 +9,7 @@ use Rattle.action.proofs.release.Reads as reads
 use Rattle.action.proofs.release.Lts as lts
 use Rattle.cores.proofs.frame_of.Reads as frame-of-reads
 use Rattle.action.proofs.is_full.Reads as is-full-reads
-use Rattle.held.proofs.newest.Reads as newest-reads
+use Rattle.held.proofs.fitting.Reads as fitting-reads
 use Rattle.held.proofs.remove.Reads as remove-reads
 
 shared-slice-read-class : tie.Need-shared-slice-read-class
@@ -38,64 +38,67 @@ frame-of-requires c κs =
     let by = c .before .before .before .before .before .before .before .args .bytes .now in
     (p .0 .encodes .long, p .1 .core, state-less st (p .0) (coreOf by) (p .1 .core))
 
-newest-requires : tie.Need-newest-requires
-newest-requires c κs =
-    let p = c .before .before .before .before .before .before .before .before .before .pre in
-    let st = c .before .before .before .before .before .before .before .before .before .args .desk .now in
-    let by = c .before .before .before .before .before .before .before .before .before .args .bytes .now in
-    rw (c .before .frame-of .ensures) (let h = held-in st (p .0) (coreOf by) (p .1 .core) in (h .long, h .frame, h .depth))
+shared-slice-read-fitting : tie.Need-shared-slice-read-fitting
+shared-slice-read-fitting c = search needs
+
+fitting-requires : tie.Need-fitting-requires
+fitting-requires c κs =
+    let p = c .before .before .before .before .before .before .before .before .before .before .pre in
+    let st = c .before .before .before .before .before .before .before .before .before .before .args .desk .now in
+    let by = c .before .before .before .before .before .before .before .before .before .before .args .bytes .now in
+    rw (c .before .before .frame-of .ensures) (let h = held-in st (p .0) (coreOf by) (p .1 .core) in (h .long, h .frame, h .depth))
 
 same-length : tie.Need-same-length
 same-length c = search needs
 
 returns-2 : tie.Need-returns-2
 returns-2 c =
-    let p = c .before .before .before .before .before .before .before .before .before .before .before .pre in
-    let st = c .before .before .before .before .before .before .before .before .before .before .before .args .desk .now in
-    let by = c .before .before .before .before .before .before .before .before .before .before .before .args .bytes .now in
-    let e = c .before .before .before .frame-of .ensures in
-    λ sheet seen. release-not-held _ sheet seen _ (p .1) (p .0 .few) (p .2) (c .before .before .before .before .before .before .if1 .left) (rw e at (sym (c .before .newest .ensures) ∙ c .if2 .taken))
+    let p = c .before .before .before .before .before .before .before .before .before .before .before .before .pre in
+    let st = c .before .before .before .before .before .before .before .before .before .before .before .before .args .desk .now in
+    let by = c .before .before .before .before .before .before .before .before .before .before .before .before .args .bytes .now in
+    let e = c .before .before .before .before .frame-of .ensures in
+    λ sheet seen. release-not-held _ sheet seen _ (p .1) (p .0 .few) (p .2) (c .before .before .before .before .before .before .before .if1 .left) (rw e at (sym (c .before .fitting .ensures) ∙ c .if2 .taken))
 
 is-full-requires : tie.Need-is-full-requires
 is-full-requires c κs =
-    c .before .before .before .before .before .before .before .before .before .before .before .before .pre .0 .encodes .long
+    c .before .before .before .before .before .before .before .before .before .before .before .before .before .pre .0 .encodes .long
 
 same-length-2 : tie.Need-same-length-2
 same-length-2 c = search needs
 
 returns-3 : tie.Need-returns-3
 returns-3 c =
-    let p = c .before .before .before .before .before .before .before .before .before .before .before .before .before .before .pre in
-    let e = c .before .before .before .before .before .before .frame-of .ensures in
+    let p = c .before .before .before .before .before .before .before .before .before .before .before .before .before .before .before .pre in
+    let e = c .before .before .before .before .before .before .before .frame-of .ensures in
     let ne = c .before .before .before .if2 .left in
     λ sheet seen.
-    release-count-full _ sheet seen _ (p .1) (p .0 .few) (p .2) (c .before .before .before .before .before .before .before .before .before .if1 .left) (rw (c .before .before .before .before .newest .ensures, e) at ne) (sym (c .before .is-full .ensures) ∙ c .if3 .taken)
+    release-count-full _ sheet seen _ (p .1) (p .0 .few) (p .2) (c .before .before .before .before .before .before .before .before .before .before .if1 .left) (rw (c .before .before .before .before .fitting .ensures, e) at ne) (sym (c .before .is-full .ensures) ∙ c .if3 .taken)
 
 sub-remove : tie.Need-sub-remove
 sub-remove c = search needs
 
 remove-requires : tie.Need-remove-requires
 remove-requires c κs =
-    let p = c .before .before .before .before .before .before .before .before .before .before .before .before .before .before .before .pre in
-    let st = c .before .before .before .before .before .before .before .before .before .before .before .before .before .before .before .args .desk .now in
-    let by = c .before .before .before .before .before .before .before .before .before .before .before .before .before .before .before .args .bytes .now in
-    let e = c .before .before .before .before .before .before .before .frame-of .ensures in
+    let p = c .before .before .before .before .before .before .before .before .before .before .before .before .before .before .before .before .pre in
+    let st = c .before .before .before .before .before .before .before .before .before .before .before .before .before .before .before .before .args .desk .now in
+    let by = c .before .before .before .before .before .before .before .before .before .before .before .before .before .before .before .before .args .bytes .now in
+    let e = c .before .before .before .before .before .before .before .before .frame-of .ensures in
     let ne = c .before .before .before .before .if2 .left in
     let h = held-in st (p .0) (coreOf by) (p .1 .core) in
-    rw ((c .before .before .before .before .before .newest .ensures), e)
-    (h .long, h .frame, h .depth, newest-inside st (p .0) (coreOf by) (p .1 .core) _ (rw (c .before .before .before .before .before .newest .ensures, e) at ne))
+    rw ((c .before .before .before .before .before .fitting .ensures), e)
+    (h .long, h .frame, h .depth, fitting-inside st (p .0) (coreOf by) (p .1 .core) _ _ (rw (c .before .before .before .before .before .fitting .ensures, e) at ne))
 
 same-length-3 : tie.Need-same-length-3
 same-length-3 c = search needs
 
 returns-4 : tie.Need-returns-4
 returns-4 c =
-    let p = c .before .before .before .before .before .before .before .before .before .before .before .before .before .before .before .before .before .before .pre in
-    let e = c .before .before .before .before .before .before .before .before .before .before .frame-of .ensures in
+    let p = c .before .before .before .before .before .before .before .before .before .before .before .before .before .before .before .before .before .before .before .pre in
+    let e = c .before .before .before .before .before .before .before .before .before .before .before .frame-of .ensures in
     let ne = c .before .before .before .before .before .before .before .if2 .left in
     λ sheet seen.
-    release-accepts _ sheet seen _ (p .1) (p .0 .few) (p .2) (c .before .before .before .before .before .before .before .before .before .before .before .before .before .if1 .left) (rw (c .before .before .before .before .before .before .before .before .newest .ensures, e) at ne) (sym (c .before .before .before .before .before .is-full .ensures) ∙ c .before .before .before .before .if3 .left)
-    (rw (c .before .before .before .before .before .before .before .before .newest .ensures, e) at (c .before .before .remove .ensures))
+    release-accepts _ sheet seen _ (p .1) (p .0 .few) (p .2) (c .before .before .before .before .before .before .before .before .before .before .before .before .before .before .if1 .left) (rw (c .before .before .before .before .before .before .before .before .fitting .ensures, e) at ne) (sym (c .before .before .before .before .before .is-full .ensures) ∙ c .before .before .before .before .if3 .left)
+    (rw (c .before .before .before .before .before .before .before .before .fitting .ensures, e) at (c .before .before .remove .ensures))
 
 pub release-spec : {M : Type 1} → statement M
 release-spec =
@@ -107,7 +110,8 @@ release-spec =
     shared-slice-read-frame-of
     cast-frame-of
     frame-of-requires
-    newest-requires
+    shared-slice-read-fitting
+    fitting-requires
     same-length
     returns-2
     is-full-requires
