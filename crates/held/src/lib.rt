@@ -39,7 +39,7 @@ fn newest(desk: &[u8], frame: usize, class: u8) -> usize
     0
 }
 
-// The same of the newest lock of the class only if it was acquired in this mode, by a try or not; an older one does not count.
+// One more than that place, if the lock there was acquired in this mode and origin, else 0: an older one that was does not count.
 pub fn fitting(desk: &[u8], frame: usize, class: u8, mode: u8) -> usize
     requires { ⌜ (deskSize ≤ length (now desk)) × (frame < frameCount) × (depthOf (now desk) frame ≤ maxDepth) ⌝ }
     ensures { λ r. ⌜ r ≡ fittingOf (now (desk .entry)) frame class mode ⌝ }
