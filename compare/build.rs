@@ -137,7 +137,7 @@ fn without(source: &str, functions: &[&str]) -> String {
 }
 
 /// The calls of a judge, as in src/judges.rs, and the functions that they are.
-const CALLS: [(&str, &str); 8] = [
+const CALLS: [(&str, &str); 9] = [
     ("open", "open"),
     ("step", "step"),
     ("ask", "ask"),
@@ -145,14 +145,18 @@ const CALLS: [(&str, &str); 8] = [
     ("feed", "feed"),
     ("feed_end", "feed_end"),
     ("balance", "balance_into"),
+    ("join", "join"),
     ("whole_log", "whole_log"),
 ];
 
-/// A module with the items of this source that are not the reference's: those edited, and those that call them.
-fn module(out: &Path, name: &str, first: &str, source: &str, whole: &[String]) -> String {
+/// A module with the items of this source that are not the reference's: those edited, and those that call them. But a join calls
+/// most of the others; it stays the reference's unless it is to be wrong itself, so that it isn't compiled once for each.
+fn module(out: &Path, name: &str, first: &str, source: &str, whole: &[String], of_join: bool) -> String {
     let edited = items(source);
     let changed = changed(&edited, edited.iter().map(|item| !whole.contains(item)).collect());
-    let changed: String = edited.into_iter().zip(changed).filter(|(_, changed)| *changed).map(|(item, _)| item).collect();
+    let stays = |item: &str| !of_join && item.contains("\npub fn join(");
+    let changed = edited.into_iter().zip(changed).filter(|(item, changed)| *changed && !stays(item));
+    let changed: String = changed.map(|(item, _)| item).collect();
     written(out, name, &format!("pub use super::*;\n{first}{changed}"))
 }
 
@@ -183,38 +187,38 @@ fn plant(out: &Path) {
     let reference = format!("{}{RULE}\n\n{lent}", &reference[..program.expect("the program's section is the last")]);
     let whole = items(&reference);
     let (mut modules, mut table, mut well) = (String::new(), String::new(), true);
-    // By place: the judges that put another expression there, and the expressions.
-    let mut shared: Vec<(&str, Vec<(String, &str)>)> = Vec::new();
-    for plants::Plant { name, wrong, sights, breaks, of_clash, of_numbers, of_depth, of_release, edits, shares } in plants::PLANTS {
+    // By place: whether it is the join's, the judges that put another expression there, and the expressions.
+    let mut shared: Vec<(&str, bool, Vec<(String, &str)>)> = Vec::new();
+    for plants::Plant { name, wrong, sights, breaks, of_clash, of_numbers, of_depth, of_release, from_join, edits, shares } in plants::PLANTS {
         assert!(!edits.is_empty(), "planted {name}: no edit");
         let source = edits.iter().fold(reference.to_string(), |source, (old, new)| edit(&source, name, old, new));
         well &= !source.is_empty();
         let only_of = |functions: &[&str]| without(&source, functions) == without(&reference, functions);
-        let (of_feed, of_balance) = (only_of(&["feed"]), only_of(&["balance", "balance_into"]));
+        let (of_feed, of_balance, of_join) = (only_of(&["feed"]), only_of(&["balance", "balance_into"]), only_of(&["join"]));
         let own = format!("plant_{}", name.replace('-', "_"));
         if *shares {
             let [(place, new)] = edits else { panic!("planted {name}: not one edit") };
-            match shared.iter_mut().find(|(other, _)| other == place) {
-                Some((_, judges)) => judges.push((own.clone(), new)),
-                None => shared.push((place, vec![(own.clone(), new)])),
+            match shared.iter_mut().find(|(other, ..)| other == place) {
+                Some((.., judges)) => judges.push((own.clone(), new)),
+                None => shared.push((place, of_join, vec![(own.clone(), new)])),
             }
         } else {
-            modules += &module(out, &own, "", &source, &whole);
+            modules += &module(out, &own, "", &source, &whole, of_join);
         }
         let calls = CALLS.map(|(call, function)| format!("{call}: judge::{own}::{function}")).join(", ");
         table += &format!(
-            "    Plant {{ name: {name:?}, wrong: {wrong:?}, sights: &{sights:?}, breaks: {breaks:?}, of_feed: {of_feed}, of_balance: {of_balance}, of_clash: {of_clash}, of_numbers: {of_numbers}, of_depth: {of_depth}, of_release: {of_release}, judge: Judge {{ {calls} }} }},\n"
+            "    Plant {{ name: {name:?}, wrong: {wrong:?}, sights: &{sights:?}, breaks: {breaks:?}, of_feed: {of_feed}, of_balance: {of_balance}, of_join: {of_join}, of_clash: {of_clash}, of_numbers: {of_numbers}, of_depth: {of_depth}, of_release: {of_release}, from_join: {from_join}, judge: Judge {{ {calls} }} }},\n"
         );
     }
     assert!(well, "a planted judge has no place to be planted at");
-    for (number, (place, judges)) in shared.iter().enumerate() {
+    for (number, (place, of_join, judges)) in shared.iter().enumerate() {
         let name = format!("shared_{number}");
         let which = |(number, (_, new)): (usize, &(String, &str))| format!("{number} => {{ {new} }}\n");
         let arms: String = judges.iter().enumerate().map(which).collect();
         let chosen = format!("match WHICH.load(std::sync::atomic::Ordering::Relaxed) {{\n{arms}_ => {{ {place} }}\n}}");
         let source = edit(&reference, &name, place, &chosen);
         let first = "pub static WHICH: std::sync::atomic::AtomicUsize = std::sync::atomic::AtomicUsize::new(0);\n";
-        modules += &module(out, &name, first, &source, &whole);
+        modules += &module(out, &name, first, &source, &whole, *of_join);
         for (which, (own, _)) in judges.iter().enumerate() {
             let calls: String = CALLS.iter().map(|(_, function)| own_call(&reference, &name, which, function)).collect();
             modules += &written(out, own, &calls);

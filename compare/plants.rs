@@ -7,9 +7,10 @@ pub struct Plant {
     /// Sights (see src/sights.rs): the call that shows it to be wrong must be one of them, where any are named.
     pub sights: &'static [&'static str],
     /// The part of demand 3's claim (see src/claim.rs) or of the feed's promise (see src/feeds.rs), the least cycle, the
-    /// first-seen numbers, what the records alone draw (see src/run.rs), or what is said of balances (see src/balances.rs), that
-    /// it breaks while it stands in the place of every judge, so that no two of them differ; None if it is only tried in the
-    /// library's place.
+    /// first-seen numbers, what the records alone draw (see src/run.rs), or what is said of balances or of joins (see src/balances.rs
+    /// and src/joins.rs), that
+    /// it breaks while it stands in the place of every judge, so that no two of them differ; "reference" for what is to come of the
+    /// fixed cases about numbers; None if it is only tried in the library's place.
     pub breaks: Option<&'static str>,
     /// Whether it is wrong about clashes (see src/clashes.rs), and the cases with clashes alone are to show it.
     pub of_clash: bool,
@@ -20,6 +21,8 @@ pub struct Plant {
     pub of_depth: bool,
     /// Whether it is wrong about the modes of releases (see src/releases.rs), and the cases about these come first.
     pub of_release: bool,
+    /// Whether of the pairs of lists those from a join are to show what it breaks.
+    pub from_join: bool,
     /// Text of reference/src/lib.rs, and what stands there instead.
     pub edits: &'static [(&'static str, &'static str)],
     /// Whether its one edit puts an expression in the place of another. Those of one place share a module, which chooses among them
@@ -29,7 +32,8 @@ pub struct Plant {
 
 const fn plant(name: &'static str, wrong: &'static str, edits: &'static [(&'static str, &'static str)]) -> Plant {
     let (of_clash, of_numbers, of_depth, of_release) = (false, false, false, false);
-    Plant { name, wrong, sights: &[], breaks: None, of_clash, of_numbers, of_depth, of_release, edits, shares: false }
+    let (from_join, shares) = (false, false);
+    Plant { name, wrong, sights: &[], breaks: None, of_clash, of_numbers, of_depth, of_release, from_join, edits, shares }
 }
 
 const fn sharing(name: &'static str, wrong: &'static str, edits: &'static [(&'static str, &'static str)]) -> Plant {
@@ -42,6 +46,10 @@ const fn shown(sights: &'static [&'static str], plant: Plant) -> Plant {
 
 const fn breaks(part: &'static str, plant: Plant) -> Plant {
     Plant { breaks: Some(part), ..plant }
+}
+
+const fn from_join(part: &'static str, plant: Plant) -> Plant {
+    Plant { breaks: Some(part), from_join: true, ..plant }
 }
 
 const fn of_clash(sights: &'static [&'static str], plant: Plant) -> Plant {
@@ -256,11 +264,10 @@ const NUMBERED: &str = "set_word(seen, WORD * pair, own_number);";
 const SHOWN: &str = "        set_word(slip, at + 3, shown_number(class, to, source, k, seen));";
 const SHOWN_NUMBER: &str = "    if source == 0 {
         word_at(seen, WORD * (usize::from(from) * k + usize::from(to)))";
-/// The fit test's count, and its pairs.
-const FIT_COUNT: &str = "    let count = word_at(desk, COUNT);";
+/// The fit test's pairs, and where one has a number but no kinds.
 const FIT_PAIRS: &str = "    for pair in 0..k * k {
         let (kinds, number) = (sheet[pair], word_at(seen, WORD * pair));";
-const FIT_ABOVE: &str = "        above |= number > count;";
+const FIT_NO_KINDS: &str = "kinds == 0 && number != 0";
 const ASKED: &str = "    *count = 0;
     if unfit(desk, sheet, seen, None).is_some() {";
 
@@ -277,24 +284,95 @@ const NINES: [&str; 6] = [
     "9 for a release",
     "9 for an event",
 ];
-const IN_FIRST_PAIR: [&str; 3] = [
+const IN_FIRST_PAIR: [&str; 2] = [
     "kinds without a number at the first pair",
     "number without kinds at the first pair",
-    "number above the count at the first pair",
 ];
-const BEHIND_FIRST_ROW: [&str; 3] = [
+const BEHIND_FIRST_ROW: [&str; 2] = [
     "kinds without a number behind the first row",
     "number without kinds behind the first row",
-    "number above the count behind the first row",
 ];
-const IN_LAST_PAIR: [&str; 6] = [
+const IN_LAST_PAIR: [&str; 4] = [
     "kinds without a number at the last pair",
     "number without kinds at the last pair",
-    "number above the count at the last pair",
     // Of one pair.
     "kinds without a number at the first pair",
     "number without kinds at the first pair",
-    "number above the count at the first pair",
+];
+
+/// Where a number above the count shows to be looked at.
+const ABOVE: [&str; 2] = ["step over a number above the count", "question over a number above the count"];
+
+/// A number is unfit for this too.
+macro_rules! tied {
+    ($unfit:literal) => {
+        &[(FIT_NO_KINDS, concat!("kinds == 0 && number != 0 || ", $unfit))]
+    };
+}
+
+/// Where a join looks whether each bench fits, at both; for which K it asks for room, and whether there is; where it refuses with 12
+/// and with 13.
+const FIRST_FITS: &str = "unfit(desk1, sheet1, seen1, None).is_none()";
+const SECOND_FITS: &str = "unfit(desk2, sheet2, seen2, None).is_none()";
+const UNFIT_BENCH: &str = "    if !first_fits || !second_fits {
+        return 11;
+    }";
+const LARGER: &str = "k1.max(k2)";
+const SHORT: &str = "(0..lengths.len()).any(|i| lengths[i] < sizes[i])";
+const OTHER_K: &str = "k1 != k2";
+const REFUSED_12: &str = "        return 12;";
+const CLOSED: &str = "desk1[1] == 1 || desk2[1] == 1";
+const REFUSED_13: &str = "        return 13;";
+/// Where the joined desk is made, its marks, the kinds and the numbers; where it is judged, closed and shown, and the answer.
+const FRESH: &str = "open(k1 as u64, desk, sheet, seen)";
+const MARKED: &str = "desk1[MARKS + class] | desk2[MARKS + class]";
+const KINDS: &str = "sheet1[pair] | sheet2[pair]";
+const NUMBER: &str = "match word_at(seen1, WORD * pair) {
+            0 => word_at(seen2, WORD * pair),
+            firsts => firsts,
+        }";
+const JUDGED: &str = "    let circle = least_circle(desk, sheet, seen);
+    let fault";
+const CLOSING: &str = "    desk[1] = fault;";
+const SHOWN_BY_JOIN: &str = "        show(slip, &circle, k1, seen);";
+const ANSWERED: &str = "    fault
+}";
+/// For joins into buffers that are too short: nothing is shown, and nothing made.
+const SHOW_IF_ROOM: (&str, &str) = (SHOWN_BY_JOIN, "        if slip.len() >= slip_len(k1) {\n            show(slip, &circle, k1, seen);\n        }");
+const MADE_IF_ROOM: (&str, &str) = ("    open(k1 as u64, desk, sheet, seen);", "    if open(k1 as u64, desk, sheet, seen) != 0 {\n        return 0;\n    }");
+
+/// What is said of joins.
+const IN_ORDER: &str = "joins are the same in either order";
+const HAVE_BOTH: &str = "joins have what either bench has";
+const OWN_DRAWING: &str = "joins with a fresh bench are the bench's own drawing";
+const JOIN_ANSWERS: &str = "answers of joins";
+const JOINED_BYTES: &str = "joined bytes";
+
+macro_rules! in_place {
+    ($place:ident, $new:literal) => {
+        &[($place, $new)]
+    };
+}
+
+/// The joined desk is fresh, and then this is done.
+macro_rules! fresh_but {
+    ($done:literal) => {
+        &[(FRESH, concat!("open(k1 as u64, desk, sheet, seen); ", $done, " 0"))]
+    };
+}
+
+/// Where the two benches have other kinds of a pair, and where they have other marks of a class.
+const OTHER_KINDS: [&str; 4] = [
+    "pair that the first bench alone has",
+    "pair that the second bench alone has",
+    "pair of both benches, a kind on the first alone",
+    "pair of both benches, a kind on the second alone",
+];
+const OTHER_MARKS: [&str; 4] = [
+    "class that the first bench alone marks",
+    "class that the second bench alone marks",
+    "class marked on both, a mark on the first alone",
+    "class marked on both, a mark on the second alone",
 ];
 
 /// At the last count this is done with a record that would be accepted.
@@ -1744,7 +1822,12 @@ pub const PLANTS: &[Plant] = &[
         plant(
             "fit-limit-64-more",
             "a depth of 64 more than a fit one is fit",
-            &[(OVER_LIMIT, "depths.iter().any(|&d| usize::from(d & !64) > DEEPEST)"), HELD_OVER, UNUSED_OVER],
+            &[
+                (OVER_LIMIT, "depths.iter().any(|&d| usize::from(d & !64) > DEEPEST)"),
+                HELD_OVER,
+                UNUSED_OVER,
+                ("        return 10;\n    }", "        return 10;\n    }\n    if desk[DEPTHS..MARKS].iter().any(|&d| usize::from(d) > DEEPEST) {\n        return 8;\n    }"),
+            ],
         ),
     ),
     // Deep frames: where a frame begins.
@@ -1866,7 +1949,7 @@ pub const PLANTS: &[Plant] = &[
         ),
     ),
     of_depth(&[], plant("count-638-read", "the count is read at byte 638", &[(OWN, "    let Some(own_number) = word_at(desk, 638).checked_add(1) else {\n        return 9;\n    };")])),
-    of_numbers(&[], plant("count-638-fit", "the fit test reads the count at byte 638", &[(FIT_COUNT, "    let count = word_at(desk, 638);")])),
+    of_numbers(&[], sharing("tie-638", "a number above the count of an earlier version, at byte 638, is unfit", tied!("number > word_at(desk, 638)"))),
     of_depth(
         &["old desk, zeros behind", "old desk, other bytes behind"],
         plant("old-read", "an old desk in a longer buffer is read in the old layout", read_as_old!("desk.len() >= DESK")),
@@ -2402,7 +2485,6 @@ static REFUSED: std::sync::atomic::AtomicU32 = std::sync::atomic::AtomicU32::new
             "count-high-first",
             "the count has its high byte first",
             &[
-                (FIT_COUNT, "    let count = word_at(desk, COUNT).swap_bytes();"),
                 (OWN, "    let Some(own_number) = word_at(desk, COUNT).swap_bytes().checked_add(1) else {\n        return 9;\n    };"),
                 (COUNTED, "    set_word(desk, COUNT, own_number.swap_bytes());"),
             ],
@@ -2738,31 +2820,130 @@ static REFUSED: std::sync::atomic::AtomicU32 = std::sync::atomic::AtomicU32::new
     ),
     // The fit test of count and numbers.
     of_numbers(&[], plant("fit-no-number", "kinds without a number are fit", &[("kinds != 0 && number == 0", "kinds > 15 && number == 0")])),
-    of_numbers(&[], plant("fit-no-kinds", "a number without kinds is fit", &[("kinds == 0 && number != 0", "kinds > 15 && number != 0")])),
-    of_numbers(&[], plant("fit-above", "a number above the count is fit", &[(FIT_ABOVE, "        above |= kinds > 15 && number > count;")])),
+    of_numbers(&[], sharing("fit-no-kinds", "a number without kinds is fit", &[(FIT_NO_KINDS, "kinds > 15 && number != 0")])),
+    // Numbers that are tied to the count.
+    breaks("reference", of_numbers(&ABOVE, sharing("tie-kept", "a number above the count is unfit", tied!("number > word_at(desk, COUNT)")))),
     of_numbers(
-        &["number at the count"],
-        plant("fit-at-count", "a number at the count is unfit", &[(FIT_ABOVE, "        above |= number != 0 && number >= count;")]),
+        &["number at the count", "number above the count at the first pair"],
+        sharing("tie-at-count", "a number at the count or above is unfit", tied!("number != 0 && number >= word_at(desk, COUNT)")),
     ),
     of_numbers(
         &["number one above the count"],
-        plant("fit-one-above", "a number one above the count is fit", &[(FIT_ABOVE, "        above |= number > count.saturating_add(1);")]),
+        sharing("tie-one-above", "a number one above the count is unfit", tied!("number != 0 && number == word_at(desk, COUNT).wrapping_add(1)")),
     ),
     of_numbers(
-        &["number under the count, its low byte greater", "number above the count, its low byte less"],
-        plant("fit-low-byte", "numbers and count are compared by their low bytes", &[(FIT_ABOVE, "        above |= number as u8 > count as u8;")]),
+        &["step over a number above the count", "question over a number above the count"],
+        sharing("tie-far-above", "a number more than one above the count is unfit", tied!("number > word_at(desk, COUNT).saturating_add(1)")),
     ),
     of_numbers(
-        &[],
-        plant("fit-two-bytes", "numbers and count are compared by their low two bytes", &[(FIT_ABOVE, "        above |= number as u16 > count as u16;")]),
+        &["number under the count, its low byte greater", "step over a number above the count", "question over a number above the count"],
+        sharing("tie-low-byte", "a number with a greater low byte than the count is unfit", tied!("number as u8 > word_at(desk, COUNT) as u8")),
     ),
     of_numbers(
-        &[],
-        plant("fit-three-bytes", "numbers and count are compared without their high bytes", &[(FIT_ABOVE, "        above |= number << 8 > count << 8;")]),
+        &["step over a number above the count", "question over a number above the count"],
+        sharing("tie-high-byte", "a number with a greater high byte than the count is unfit", tied!("number >> 24 > word_at(desk, COUNT) >> 24")),
     ),
     of_numbers(
-        &["number above the count over 2 to the 31", "number under 2 to the 31, the count over it"],
-        plant("fit-signed", "numbers and count are compared with a sign", &[(FIT_ABOVE, "        above |= number != 0 && number as i32 > count as i32;")]),
+        &["number above the count over 2 to the 31"],
+        sharing("tie-2-31", "a number over 2 to the 31 is unfit where the count is not", tied!("number >> 31 > word_at(desk, COUNT) >> 31")),
+    ),
+    of_numbers(
+        &["number under 2 to the 31, the count over it", "step over a number above the count", "question over a number above the count"],
+        sharing("tie-signed", "a number above the count is unfit, compared with a sign", tied!("number != 0 && number as i32 > word_at(desk, COUNT) as i32")),
+    ),
+    of_numbers(
+        &["number above a count but 0"],
+        sharing("tie-counted", "a number above the count is unfit, unless nothing is counted", tied!("word_at(desk, COUNT) != 0 && number > word_at(desk, COUNT)")),
+    ),
+    of_numbers(
+        &["number above a count of 0"],
+        sharing("tie-at-0", "a number is unfit where nothing is counted", tied!("number != 0 && word_at(desk, COUNT) == 0")),
+    ),
+    of_numbers(
+        &["number above the count at the first pair"],
+        sharing("tie-first-pair", "a number above the count is unfit at the first pair", tied!("pair == 0 && number > word_at(desk, COUNT)")),
+    ),
+    of_numbers(
+        &["number above the count at the last pair", "number above the count at the first pair"],
+        sharing("tie-last-pair", "a number above the count is unfit at the last pair", tied!("pair + 1 == k * k && number > word_at(desk, COUNT)")),
+    ),
+    of_numbers(
+        &["step over a number above the count", "question over a number above the count"],
+        sharing("tie-running", "a number above the count is unfit unless the cores are fresh", tied!("number > word_at(desk, COUNT) && desk[STATES..MARKS] != [0; MARKS - STATES]")),
+    ),
+    breaks(
+        "reference",
+        of_numbers(
+            &["step over a number above the count"],
+            plant(
+                "tie-step",
+                "a step refuses a number above the count",
+                &[(
+                    "    if unfit(desk, sheet, seen, Some(slip)).is_some() {\n        return 11;",
+                    "    let above = |desk: &[u8]| (0..sheet_len(usize::from(desk[0]))).any(|pair| word_at(seen, WORD * pair) > word_at(desk, COUNT));
+    if unfit(desk, sheet, seen, Some(slip)).is_some() || above(desk) {
+        return 11;",
+                )],
+            ),
+        ),
+    ),
+    of_numbers(
+        &["question over a number above the count"],
+        plant(
+            "tie-question",
+            "a question refuses a number above the count",
+            &[(
+                ASKED,
+                "    *count = 0;
+    let above = || (0..sheet_len(usize::from(desk[0]))).any(|pair| word_at(seen, WORD * pair) > word_at(desk, COUNT));
+    if unfit(desk, sheet, seen, None).is_some() || above() {",
+            )],
+        ),
+    ),
+    shown(
+        &["record in a piece over a number above the count"],
+        plant(
+            "tie-feed",
+            "a piece's record is refused with 11 over a number above the count",
+            &[(
+                "            self.answer = step(desk, sheet, seen, slip, &self.loose);",
+                "            let above = |desk: &[u8]| (0..sheet_len(usize::from(desk[0]))).any(|pair| word_at(seen, WORD * pair) > word_at(desk, COUNT));
+            let tied = unfit(desk, sheet, seen, None).is_none() && above(desk);
+            self.answer = if tied { 11 } else { step(desk, sheet, seen, slip, &self.loose) };",
+            )],
+        ),
+    ),
+    // Steps over numbers that a join brought.
+    breaks(
+        NUMBERS,
+        of_numbers(
+            &["pair drawn first on a desk with a number above the count"],
+            plant(
+                "number-from-most",
+                "a new pair gets a number above all that are above the count",
+                &[(NUMBERED, "let most = seen.chunks_exact(WORD).take(k * k).map(|four| word_at(four, 0)).max().unwrap_or(0);\n                    set_word(seen, WORD * pair, if most > own_number { most.saturating_add(1) } else { own_number });")],
+            ),
+        ),
+    ),
+    from_join(
+        ONLY_WITH_FAULT,
+        of_numbers(&[], plant("first-step-clean", "the first record that is counted is no fault", &[("    if left == 0 {", "    if left == 0 || own_number == 1 {")])),
+    ),
+    of_numbers(
+        &["kind of a numbered pair drawn again", "second kind of a numbered pair", "pairs drawn first and again by one record"],
+        plant(
+            "number-lowered",
+            "a number above the record's is lowered to it",
+            &[(FIRST, "                if sheet[pair] == 0 || word_at(seen, WORD * pair) > own_number {\n                    set_word(seen, WORD * pair, own_number);\n                }")],
+        ),
+    ),
+    of_numbers(
+        &["fault over a number above the count"],
+        plant(
+            "shown-up-to-count",
+            "a number above the count is shown as the count",
+            &[(SHOW, "    let count = word_at(desk, COUNT);\n    let lowered: Vec<u8> = seen.chunks_exact(WORD).flat_map(|four| word_at(four, 0).min(count).to_le_bytes()).collect();\n    show(slip, &circle.expect(\"where something remains, a cycle exists\"), k, &lowered);")],
+        ),
     ),
     of_numbers(
         &["pair behind the last that does not fit"],
@@ -4121,4 +4302,351 @@ static REFUSED: std::sync::atomic::AtomicU32 = std::sync::atomic::AtomicU32::new
     plant("first-twice", "the first record counts twice", taking!("piece.chunks_exact(RECORD).take(1).chain(piece.chunks_exact(RECORD))")),
     plant("same-once", "a record that comes again at once does not count", taking!("piece.chunks_exact(RECORD).enumerate().filter(|&(at, six)| at == 0 || piece[RECORD * (at - 1)..RECORD * at] != *six).map(|(_, six)| six)")),
     plant("bytes-low-first", "a record is read from its last byte on", passing!("read_record(&[six[5], six[4], six[3], six[2], six[1], six[0]])")),
+    // Joins: the order of the refusals.
+    breaks(
+        JOIN_ANSWERS,
+        shown(
+            &["join with an unfit bench of another K"],
+            plant(
+                "join-12-unfit",
+                "12 before 11 for an unfit bench",
+                &[(UNFIT_BENCH, "    if !first_fits || !second_fits {\n        return if desk1.first() != desk2.first() { 12 } else { 11 };\n    }")],
+            ),
+        ),
+    ),
+    breaks(JOIN_ANSWERS, sharing("join-12-room", "12 before 11 for room", in_place!(SHORT, "k1 == k2 && (0..lengths.len()).any(|i| lengths[i] < sizes[i])"))),
+    breaks(
+        JOIN_ANSWERS,
+        shown(
+            &["12 with the first bench closed", "12 with the second bench closed", "12 with both benches closed"],
+            sharing("join-13-12", "13 before 12", in_place!(OTHER_K, "k1 != k2 && desk1[1] == 0 && desk2[1] == 0")),
+        ),
+    ),
+    shown(
+        &["12 with the second bench closed", "12 with both benches closed"],
+        sharing("join-13-12-second", "13 for a closed second bench before 12", in_place!(OTHER_K, "k1 != k2 && desk2[1] == 0")),
+    ),
+    shown(
+        &["join short of room with a closed bench"],
+        sharing("join-13-room", "13 before 11 for room", in_place!(SHORT, "desk1[1] == 0 && desk2[1] == 0 && (0..lengths.len()).any(|i| lengths[i] < sizes[i])")),
+    ),
+    shown(
+        &["join with an unfit bench and a closed one", "join with a closed bench that is unfit", "join with both benches unfit"],
+        plant(
+            "join-13-unfit",
+            "13 before 11 for an unfit bench",
+            &[(UNFIT_BENCH, "    if !first_fits || !second_fits {\n        return if desk1.get(1) == Some(&1) || desk2.get(1) == Some(&1) { 13 } else { 11 };\n    }")],
+        ),
+    ),
+    plant("join-12-for-13", "12 for a closed bench", &[(REFUSED_13, "        return 12;")]),
+    plant("join-13-for-12", "13 for different K", &[(REFUSED_12, "        return 13;")]),
+    plant("join-10-for-13", "10 for a closed bench", &[(REFUSED_13, "        return 10;")]),
+    // Whether the benches fit: what makes no sense of lengths is passed over.
+    breaks(
+        JOIN_ANSWERS,
+        shown(
+            &["join with the first bench unfit alone", "join with both benches unfit"],
+            sharing("join-first-unfit", "of the first bench only lengths and K are looked at", in_place!(FIRST_FITS, "unfit(desk1, sheet1, seen1, None).is_none_or(|clause| CLAUSES[4..16].contains(&clause) || CLAUSES[17..].contains(&clause))")),
+        ),
+    ),
+    shown(
+        &["join with the second bench unfit alone", "join with both benches unfit"],
+        sharing("join-second-unfit", "of the second bench only lengths and K are looked at", in_place!(SECOND_FITS, "unfit(desk2, sheet2, seen2, None).is_none_or(|clause| CLAUSES[4..16].contains(&clause) || CLAUSES[17..].contains(&clause))")),
+    ),
+    sharing("join-first-numbers", "the first bench's numbers are not looked at", in_place!(FIRST_FITS, "unfit(desk1, sheet1, seen1, None).is_none_or(|clause| CLAUSES[17..].contains(&clause))")),
+    sharing("join-second-numbers", "the second bench's numbers are not looked at", in_place!(SECOND_FITS, "unfit(desk2, sheet2, seen2, None).is_none_or(|clause| CLAUSES[17..].contains(&clause))")),
+    sharing("join-first-cores", "the first bench's cores are not looked at", in_place!(FIRST_FITS, "unfit(desk1, sheet1, seen1, None).is_none_or(|clause| CLAUSES[5..13].contains(&clause))")),
+    sharing("join-second-cores", "the second bench's cores are not looked at", in_place!(SECOND_FITS, "unfit(desk2, sheet2, seen2, None).is_none_or(|clause| CLAUSES[5..13].contains(&clause))")),
+    breaks(
+        JOIN_ANSWERS,
+        plant(
+            "join-no-cores",
+            "the cores of neither bench are looked at",
+            &[
+                (FIRST_FITS, "unfit(desk1, sheet1, seen1, None).is_none_or(|clause| CLAUSES[5..13].contains(&clause))"),
+                (SECOND_FITS, "unfit(desk2, sheet2, seen2, None).is_none_or(|clause| CLAUSES[5..13].contains(&clause))"),
+            ],
+        ),
+    ),
+    sharing("tie-join-first", "a join refuses a number above the count of the first bench", in_place!(FIRST_FITS, "unfit(desk1, sheet1, seen1, None).is_none() && (0..sheet_len(usize::from(desk1[0]))).all(|pair| word_at(seen1, WORD * pair) <= word_at(desk1, COUNT))")),
+    sharing("tie-join-second", "a join refuses a number above the count of the second bench", in_place!(SECOND_FITS, "unfit(desk2, sheet2, seen2, None).is_none() && (0..sheet_len(usize::from(desk2[0]))).all(|pair| word_at(seen2, WORD * pair) <= word_at(desk2, COUNT))")),
+    breaks(
+        JOIN_ANSWERS,
+        plant(
+            "tie-join",
+            "a join refuses a number above the count of either bench",
+            &[(UNFIT_BENCH, "    let above = |desk: &[u8], seen: &[u8]| (0..sheet_len(usize::from(desk[0]))).any(|pair| word_at(seen, WORD * pair) > word_at(desk, COUNT));\n    if !first_fits || !second_fits || above(desk1, seen1) || above(desk2, seen2) {\n        return 11;\n    }")],
+        ),
+    ),
+    // For which K there must be room, and of what.
+    breaks(
+        JOIN_ANSWERS,
+        shown(
+            &["join into a sheet for the smaller K", "join into a second sheet for the smaller K", "join with a slip for the smaller K"],
+            sharing("join-smaller", "room is asked for the smaller K", in_place!(LARGER, "k1.min(k2)")),
+        ),
+    ),
+    breaks(
+        IN_ORDER,
+        shown(
+            &["join into a sheet for the smaller K", "join into a second sheet for the smaller K", "join with a slip for the smaller K"],
+            sharing("join-first-k", "room is asked for the first bench's K", in_place!(LARGER, "k1")),
+        ),
+    ),
+    shown(
+        &["join into a sheet for the smaller K", "join into a second sheet for the smaller K", "join with a slip for the smaller K"],
+        sharing("join-second-k", "room is asked for the second bench's K", in_place!(LARGER, "k2")),
+    ),
+    shown(
+        &["12, all just long enough for the larger K", "12, the first bench with more classes", "12, the second bench with more classes"],
+        sharing("join-both-k", "room is asked for both K together", in_place!(LARGER, "if k1 == k2 { k1 } else { (k1 + k2).min(64) }")),
+    ),
+    shown(&["join into buffers just long enough"], sharing("join-longer", "buffers just long enough are too short", in_place!(SHORT, "(0..lengths.len()).all(|i| lengths[i] == sizes[i])"))),
+    plant(
+        "join-slip-not-asked",
+        "a slip may be too short",
+        &[(SHORT, "(0..3).any(|i| lengths[i] < sizes[i])"), SHOW_IF_ROOM],
+    ),
+    sharing(
+        "join-slip-at-fault",
+        "a slip may be too short where no fault comes",
+        in_place!(SHORT, "(0..3).any(|i| lengths[i] < sizes[i]) || lengths[3] < sizes[3] && k1 == k2 && {
+            let (mut desk, mut sheet) = (desk1.to_vec(), sheet1.to_vec());
+            (MARKS..HOLDS).for_each(|at| desk[at] |= desk2[at]);
+            (0..sheet_len(k1)).for_each(|pair| sheet[pair] |= sheet2[pair]);
+            closed_strong_path(&desk, &sheet)
+        }"),
+    ),
+    shown(
+        &["join with a slip a byte short"],
+        plant("join-slip-a-byte", "a slip may be a byte short", &[(SHORT, "(0..lengths.len()).any(|i| lengths[i] + i / 3 < sizes[i])"), SHOW_IF_ROOM]),
+    ),
+    plant("join-slip-old", "a slip may have 1 + 3K bytes", &[("sheet_len(larger), seen_len(larger), slip_len(larger)]", "sheet_len(larger), seen_len(larger), 1 + 3 * larger]"), SHOW_IF_ROOM]),
+    plant("join-desk-not-asked", "a desk to be written may be too short", &[(SHORT, "(1..lengths.len()).any(|i| lengths[i] < sizes[i])"), MADE_IF_ROOM]),
+    shown(
+        &["join into a sheet a byte short"],
+        plant("join-sheet-a-byte", "a sheet to be written may be a byte short", &[(SHORT, "(0..lengths.len()).any(|i| lengths[i] + usize::from(i == 1) < sizes[i])"), MADE_IF_ROOM]),
+    ),
+    plant("join-seen-not-asked", "a second sheet to be written may be too short", &[(SHORT, "(0..lengths.len()).any(|i| i != 2 && lengths[i] < sizes[i])"), MADE_IF_ROOM]),
+    shown(
+        &["join into a second sheet a byte short"],
+        plant("join-seen-a-byte", "a second sheet to be written may be a byte short", &[(SHORT, "(0..lengths.len()).any(|i| lengths[i] + usize::from(i == 2) < sizes[i])"), MADE_IF_ROOM]),
+    ),
+    // Closed benches.
+    breaks(JOIN_ANSWERS, shown(&["13 for the second bench alone"], sharing("join-closed-first", "13 for the first bench only", in_place!(CLOSED, "desk1[1] == 1")))),
+    shown(&["13 for the first bench alone"], sharing("join-closed-second", "13 for the second bench only", in_place!(CLOSED, "desk2[1] == 1"))),
+    breaks(
+        JOIN_ANSWERS,
+        shown(&["13 for the first bench alone", "13 for the second bench alone"], sharing("join-closed-both", "13 for two closed benches only", in_place!(CLOSED, "desk1[1] == 1 && desk2[1] == 1"))),
+    ),
+    sharing("join-closed-never", "closed benches are joined", in_place!(CLOSED, "false")),
+    shown(
+        &["fault of the join and of the first bench", "fault of the join and of the second bench", "fault of the join and of both benches"],
+        sharing("join-closed-own", "13 for an open bench with a cycle of its own", in_place!(CLOSED, "desk1[1] == 1 || desk2[1] == 1 || closed_strong_path(desk1, sheet1) || closed_strong_path(desk2, sheet2)")),
+    ),
+    // Refusals that change something.
+    plant("join-11-slip", "11 for room clears the slip", &[("    if (0..lengths.len()).any(|i| lengths[i] < sizes[i]) {", "    if (0..lengths.len()).any(|i| lengths[i] < sizes[i]) {\n        slip.fill(0);")]),
+    plant("join-12-opens", "12 leaves the desk opened", &[(REFUSED_12, "        open(larger as u64, desk, sheet, seen);\n        return 12;")]),
+    breaks(JOINED_BYTES, plant("join-13-closes", "13 closes the desk", &[(REFUSED_13, "        desk[1] = 1;\n        return 13;")])),
+    // The joined desk: cores and count.
+    breaks(IN_ORDER, shown(&["state of the first bench but 0"], sharing("join-states-first", "the first bench's states are kept", fresh_but!("desk[STATES..DEPTHS].copy_from_slice(&desk1[STATES..DEPTHS]);")))),
+    shown(&["state of the second bench but 0"], sharing("join-states-second", "the second bench's states are kept", fresh_but!("desk[STATES..DEPTHS].copy_from_slice(&desk2[STATES..DEPTHS]);"))),
+    breaks(
+        JOINED_BYTES,
+        shown(
+            &["state of the first bench but 0", "state of the second bench but 0"],
+            sharing("join-states-greater", "of each core the greater state is kept", fresh_but!("(STATES..DEPTHS).for_each(|at| desk[at] = desk1[at].max(desk2[at]));")),
+        ),
+    ),
+    shown(&["locks held on the first bench"], sharing("join-depths", "the first bench's depths are kept", fresh_but!("desk[DEPTHS..MARKS].copy_from_slice(&desk1[DEPTHS..MARKS]);"))),
+    shown(&["locks held on the first bench", "state of the first bench but 0"], sharing("join-holds-first", "the first bench's held locks are kept", fresh_but!("desk[STATES..MARKS].copy_from_slice(&desk1[STATES..MARKS]); desk[HOLDS..COUNT].copy_from_slice(&desk1[HOLDS..COUNT]);"))),
+    shown(&["locks held on the second bench", "state of the second bench but 0"], sharing("join-holds-second", "the second bench's held locks are kept", fresh_but!("desk[STATES..MARKS].copy_from_slice(&desk2[STATES..MARKS]); desk[HOLDS..COUNT].copy_from_slice(&desk2[HOLDS..COUNT]);"))),
+    shown(&["tries held on the first bench"], sharing("join-origins-first", "the first bench's origins are kept", fresh_but!("desk[ORIGINS..COUNT].copy_from_slice(&desk1[ORIGINS..COUNT]);"))),
+    shown(&["tries held on the second bench"], sharing("join-origins-second", "the second bench's origins are kept", fresh_but!("desk[ORIGINS..COUNT].copy_from_slice(&desk2[ORIGINS..COUNT]);"))),
+    shown(&["count of the first bench but 0"], sharing("join-count-first", "the first bench's count is kept", fresh_but!("desk[COUNT..DESK].copy_from_slice(&desk1[COUNT..DESK]);"))),
+    shown(&["count of the second bench but 0"], sharing("join-count-second", "the second bench's count is kept", fresh_but!("desk[COUNT..DESK].copy_from_slice(&desk2[COUNT..DESK]);"))),
+    breaks(
+        JOINED_BYTES,
+        shown(
+            &["count of the first bench but 0", "count of the second bench but 0"],
+            sharing("join-count-added", "the counts are added", fresh_but!("set_word(desk, COUNT, word_at(desk1, COUNT).wrapping_add(word_at(desk2, COUNT)));")),
+        ),
+    ),
+    sharing("join-count-number", "the count is the greatest number", fresh_but!("set_word(desk, COUNT, (0..sheet_len(k1)).map(|pair| word_at(seen1, WORD * pair).max(word_at(seen2, WORD * pair))).max().unwrap_or(0));")),
+    plant("join-count-fault", "a fault is counted", &[(CLOSING, "    desk[1] = fault;\n    set_word(desk, COUNT, u32::from(fault));")]),
+    plant("join-desk-before", "held locks and count that lay there stay", &[("    open(k1 as u64, desk, sheet, seen);", "    let lay = desk[HOLDS..DESK].to_vec();\n    open(k1 as u64, desk, sheet, seen);\n    desk[HOLDS..DESK].copy_from_slice(&lay);")]),
+    shown(&["join into buffers with bytes behind"], sharing("join-past-desk", "bytes behind the desk are cleared", fresh_but!("desk[DESK..].fill(0);"))),
+    shown(&["join into buffers with bytes behind"], sharing("join-past-sheet", "bytes behind the sheet are cleared", fresh_but!("sheet.fill(0);"))),
+    shown(&["join into buffers with bytes behind"], sharing("join-past-seen", "bytes behind the second sheet are cleared", fresh_but!("seen.fill(0);"))),
+    // Marks.
+    breaks(IN_ORDER, shown(&OTHER_MARKS, sharing("join-marks-first", "the first bench's marks only", in_place!(MARKED, "desk1[MARKS + class]")))),
+    shown(&OTHER_MARKS, sharing("join-marks-second", "the second bench's marks only", in_place!(MARKED, "desk2[MARKS + class]"))),
+    breaks(HAVE_BOTH, shown(&OTHER_MARKS, sharing("join-marks-and", "marks of both benches only", in_place!(MARKED, "desk1[MARKS + class] & desk2[MARKS + class]")))),
+    breaks(
+        HAVE_BOTH,
+        shown(
+            &["class with the same marks on both benches", OTHER_MARKS[2], OTHER_MARKS[3]],
+            sharing("join-marks-xor", "marks of one bench only", in_place!(MARKED, "desk1[MARKS + class] ^ desk2[MARKS + class]")),
+        ),
+    ),
+    sharing("join-marks-sum", "marks are added", in_place!(MARKED, "desk1[MARKS + class].wrapping_add(desk2[MARKS + class])")),
+    shown(&[OTHER_MARKS[2], OTHER_MARKS[3]], sharing("join-marks-greater", "the greater mark byte", in_place!(MARKED, "desk1[MARKS + class].max(desk2[MARKS + class])"))),
+    shown(
+        &[OTHER_MARKS[3]],
+        sharing("join-marks-else", "the second bench's marks where the first has none", in_place!(MARKED, "if desk1[MARKS + class] != 0 { desk1[MARKS + class] } else { desk2[MARKS + class] }")),
+    ),
+    breaks(
+        HAVE_BOTH,
+        shown(&["marks of class 8 or more joined"], sharing("join-marks-8", "marks of classes from 8 on are lost", in_place!(MARKED, "if class < 8 { desk1[MARKS + class] | desk2[MARKS + class] } else { 0 }"))),
+    ),
+    shown(&["marks of class 63 joined"], sharing("join-marks-63", "marks of class 63 are lost", in_place!(MARKED, "if class < 63 { desk1[MARKS + class] | desk2[MARKS + class] } else { 0 }"))),
+    shown(&OTHER_MARKS, sharing("join-marks-second-8", "the second bench's marks from class 8 on are lost", in_place!(MARKED, "desk1[MARKS + class] | if class < 8 { desk2[MARKS + class] } else { 0 }"))),
+    shown(&OTHER_MARKS, sharing("join-marks-safe", "safe marks of the second bench are lost", in_place!(MARKED, "desk1[MARKS + class] | desk2[MARKS + class] & 0xCC"))),
+    sharing("join-marks-soft", "marks for soft are lost", in_place!(MARKED, "(desk1[MARKS + class] | desk2[MARKS + class]) & 15")),
+    breaks(OWN_DRAWING, sharing("join-marks-more", "a class marked on either bench is hard-unsafe E", in_place!(MARKED, "match desk1[MARKS + class] | desk2[MARKS + class] {\n            0 => 0,\n            marks => marks | 4,\n        }"))),
+    // Kinds.
+    breaks(IN_ORDER, shown(&OTHER_KINDS, sharing("join-kinds-first", "the first bench's kinds only", in_place!(KINDS, "sheet1[pair]")))),
+    shown(&OTHER_KINDS, sharing("join-kinds-second", "the second bench's kinds only", in_place!(KINDS, "sheet2[pair]"))),
+    breaks(HAVE_BOTH, shown(&OTHER_KINDS, sharing("join-kinds-and", "kinds of both benches only", in_place!(KINDS, "sheet1[pair] & sheet2[pair]")))),
+    breaks(
+        HAVE_BOTH,
+        shown(
+            &["pair with the same kinds on both benches", OTHER_KINDS[2], OTHER_KINDS[3]],
+            sharing("join-kinds-xor", "kinds of one bench only", in_place!(KINDS, "sheet1[pair] ^ sheet2[pair]")),
+        ),
+    ),
+    sharing("join-kinds-sum", "kinds are added", in_place!(KINDS, "sheet1[pair] + sheet2[pair] & 15")),
+    shown(&[OTHER_KINDS[2], OTHER_KINDS[3]], sharing("join-kinds-greater", "the greater byte of kinds", in_place!(KINDS, "sheet1[pair].max(sheet2[pair])"))),
+    shown(
+        &[OTHER_KINDS[3]],
+        sharing("join-kinds-else", "the second bench's kinds where the first has none", in_place!(KINDS, "if sheet1[pair] != 0 { sheet1[pair] } else { sheet2[pair] }")),
+    ),
+    shown(&OTHER_KINDS, sharing("join-kinds-n", "kinds of the second bench that end in N are lost", in_place!(KINDS, "sheet1[pair] | sheet2[pair] & 5"))),
+    shown(&OTHER_KINDS, sharing("join-kinds-turned", "the second bench's dependencies are turned round", in_place!(KINDS, "sheet1[pair] | sheet2[pair % k1 * k1 + pair / k1]"))),
+    sharing("join-kinds-last", "the last pair of the second bench is lost", in_place!(KINDS, "sheet1[pair] | if pair + 1 < sheet_len(k1) { sheet2[pair] } else { 0 }")),
+    sharing("join-kinds-8", "the second bench's dependencies of classes from 8 on are lost", in_place!(KINDS, "sheet1[pair] | if pair / k1 < 8 { sheet2[pair] } else { 0 }")),
+    breaks(OWN_DRAWING, sharing("join-kinds-more", "a pair of either bench gets EN", in_place!(KINDS, "match sheet1[pair] | sheet2[pair] {\n            0 => 0,\n            kinds => kinds | EN,\n        }"))),
+    // Numbers.
+    breaks(
+        JOINED_BYTES,
+        shown(
+            &["number on both benches, the first's less", "number on both benches, the first's greater"],
+            sharing("join-number-second", "the second bench's number first", in_place!(NUMBER, "match word_at(seen2, WORD * pair) {\n            0 => word_at(seen1, WORD * pair),\n            seconds => seconds,\n        }")),
+        ),
+    ),
+    breaks(
+        JOINED_BYTES,
+        shown(
+            &["number on both benches, the first's greater"],
+            sharing("join-number-least", "the lesser number", in_place!(NUMBER, "match (word_at(seen1, WORD * pair), word_at(seen2, WORD * pair)) {\n            (0, number) | (number, 0) => number,\n            (one, two) => one.min(two),\n        }")),
+        ),
+    ),
+    shown(&["number on both benches, the first's less"], sharing("join-number-greatest", "the greater number", in_place!(NUMBER, "word_at(seen1, WORD * pair).max(word_at(seen2, WORD * pair))"))),
+    breaks(OWN_DRAWING, sharing("join-number-first", "the first bench's numbers only", in_place!(NUMBER, "word_at(seen1, WORD * pair)"))),
+    shown(
+        &["number of the first bench with a low byte of 0"],
+        sharing("join-number-low", "the second bench's number where the first's has a low byte of 0", in_place!(NUMBER, "match seen1[WORD * pair] {\n            0 if word_at(seen2, WORD * pair) != 0 => word_at(seen2, WORD * pair),\n            _ if word_at(seen1, WORD * pair) == 0 => word_at(seen2, WORD * pair),\n            _ => word_at(seen1, WORD * pair),\n        }")),
+    ),
+    sharing("join-number-or", "numbers are joined bit by bit", in_place!(NUMBER, "word_at(seen1, WORD * pair) | word_at(seen2, WORD * pair)")),
+    sharing("join-number-new", "pairs are numbered anew", in_place!(NUMBER, "match sheet[pair] {\n            0 => 0,\n            _ => pair as u32 + 1,\n        }")),
+    shown(
+        &["pair of both benches, a kind on the second alone"],
+        sharing("join-number-kind", "the second bench's number where it brings a kind", in_place!(NUMBER, "match word_at(seen1, WORD * pair) {\n            firsts if firsts != 0 && sheet2[pair] & !sheet1[pair] == 0 => firsts,\n            firsts => match word_at(seen2, WORD * pair) {\n                0 => firsts,\n                seconds => seconds,\n            },\n        }")),
+    ),
+    shown(
+        &["number above the count of the first bench"],
+        sharing("join-number-counted", "the first bench's number where it is not above its count", in_place!(NUMBER, "match word_at(seen1, WORD * pair) {\n            firsts if firsts != 0 && firsts <= word_at(desk1, COUNT) => firsts,\n            firsts => match word_at(seen2, WORD * pair) {\n                0 => firsts,\n                seconds => seconds,\n            },\n        }")),
+    ),
+    sharing("join-number-1", "every number is 1", in_place!(NUMBER, "u32::from(sheet[pair] != 0)")),
+    // Whether it is a fault.
+    breaks(JOINED_BYTES, plant("join-stays-open", "the joined desk stays open after a fault", &[(CLOSING, "    desk[1] = 0;")])),
+    plant("join-closes", "the joined desk is always closed", &[(CLOSING, "    desk[1] = 1;")]),
+    breaks(HAVE_BOTH, plant("join-says-0", "a fault is answered with 0", &[(ANSWERED, "    fault * 0\n}")])),
+    plant("join-says-1", "no fault is answered with 1", &[(ANSWERED, "    fault | 1\n}")]),
+    breaks(
+        HAVE_BOTH,
+        shown(
+            &["fault of the join and of the first bench", "fault of the join and of the second bench", "fault of the join and of both benches"],
+            plant(
+                "join-own-ignored",
+                "a bench's own cycle is no fault",
+                &[(JUDGED, "    let own = closed_strong_path(desk1, sheet1) || closed_strong_path(desk2, sheet2);\n    let circle = least_circle(desk, sheet, seen).filter(|_| !own);\n    let fault")],
+            ),
+        ),
+    ),
+    shown(
+        &["fault of the join and of the second bench"],
+        plant(
+            "join-judged-first",
+            "only the first bench's own cycle is looked for where it stands alone",
+            &[(JUDGED, "    let second = closed_strong_path(desk2, sheet2) && !closed_strong_path(desk1, sheet1);\n    let circle = least_circle(desk, sheet, seen).filter(|_| !second);\n    let fault")],
+        ),
+    ),
+    breaks(
+        JOIN_ANSWERS,
+        shown(
+            &["fault of the join, of neither bench"],
+            plant(
+                "join-each-alone",
+                "a fault only where a bench has a cycle of its own",
+                &[(JUDGED, "    let own = closed_strong_path(desk1, sheet1) || closed_strong_path(desk2, sheet2);\n    let circle = least_circle(desk, sheet, seen).filter(|_| own);\n    let fault")],
+            ),
+        ),
+    ),
+    plant("join-locks-only", "interrupts are not looked at", &[(JUDGED, "    let marks = desk[MARKS..HOLDS].to_vec();\n    desk[MARKS..HOLDS].fill(0);\n    let circle = least_circle(desk, sheet, seen);\n    desk[MARKS..HOLDS].copy_from_slice(&marks);\n    let fault")]),
+    plant(
+        "join-marks-late",
+        "judged with the first bench's marks",
+        &[(JUDGED, "    let marks = desk[MARKS..HOLDS].to_vec();\n    desk[MARKS..HOLDS].copy_from_slice(&desk1[MARKS..HOLDS]);\n    let circle = least_circle(desk, sheet, seen);\n    desk[MARKS..HOLDS].copy_from_slice(&marks);\n    let fault")],
+    ),
+    // What is shown.
+    breaks(
+        NUMBERS,
+        shown(
+            &["number shown of a pair of the second bench alone"],
+            plant("join-shows-first", "the slip has the first bench's numbers", &[(SHOWN_BY_JOIN, "        show(slip, &circle, k1, seen1);")]),
+        ),
+    ),
+    shown(
+        &["number shown of a pair of the first bench alone", "number shown of the first bench, the second has another"],
+        plant("join-shows-second", "the slip has the second bench's numbers", &[(SHOWN_BY_JOIN, "        show(slip, &circle, k1, seen2);")]),
+    ),
+    breaks(
+        NUMBERS,
+        shown(
+            &["number shown of the first bench, the kind the second's"],
+            plant(
+                "join-shows-kind",
+                "the slip has the number of the bench that has the kind shown",
+                &[(
+                    SHOWN_BY_JOIN,
+                    "        show(slip, &circle, k1, seen);
+        for (i, &(class, kind, source)) in circle.iter().enumerate() {
+            let pair = usize::from(class) * k1 + usize::from(circle[(i + 1) % circle.len()].0);
+            if source == 0 && sheet1[pair] & kind == 0 {
+                set_word(slip, 4 + ENTRY * i, word_at(seen2, WORD * pair));
+            }
+        }",
+                )],
+            ),
+        ),
+    ),
+    plant("join-shows-no-number", "the slip has no numbers", &[(SHOWN_BY_JOIN, "        show(slip, &circle, k1, &vec![0; seen.len()]);")]),
+    plant("join-shows-nothing", "no slip is written", &[(SHOWN_BY_JOIN, "        let _ = circle;")]),
+    shown(&["clean join over a slip with bytes"], plant("join-slip-clean", "the slip is cleared where no fault comes", &[(CLOSING, "    desk[1] = fault;\n    if fault == 0 {\n        slip[..slip_len(k1)].fill(0);\n    }")])),
+    shown(&["clean join over a slip with bytes"], plant("join-slip-0", "the slip says 0 where no fault comes", &[(CLOSING, "    desk[1] = fault;\n    slip[0] *= fault;")])),
+    shown(&["slip longer than the cycle of a join"], plant("join-slip-past", "bytes of the slip past 1 + 7n are cleared", &[(SHOWN_BY_JOIN, "        slip[1..].fill(0);\n        show(slip, &circle, k1, seen);")])),
+    plant(
+        "join-shows-own",
+        "a bench's own cycle is shown, where it has one",
+        &[(JUDGED, "    let own = least_circle(desk1, sheet1, seen1).or_else(|| least_circle(desk2, sheet2, seen2));\n    let circle = own.or_else(|| least_circle(desk, sheet, seen));\n    let fault")],
+    ),
+    breaks(
+        LEAST,
+        plant(
+            "join-shows-other",
+            "another cycle than the least is shown, where there are several of one dependency",
+            &[(JUDGED, "    let circle = least_circle(desk, sheet, seen).map(|circle| match circle.len() {\n        1 => all_circles(desk, sheet, seen, 1).pop().unwrap_or(circle),\n        _ => circle,\n    });\n    let fault")],
+        ),
+    ),
 ];

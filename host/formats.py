@@ -1,4 +1,4 @@
-"""What host/test_formats and host/test_feed_formats share: the page that they read, the library, and the sizes and places of desk, sheets and slip.
+"""What host/test_formats, host/test_feed_formats and host/test_join_formats share: the page that they read, the library, and the sizes and places of desk, sheets and slip.
 
 The arguments are theirs: PATH/SHARED_LIBRARY [PAGE [--first]]. What the page says is read from it and tried: every cell that says what a record or a byte
 does. --first: stop at what is wrong first."""
@@ -11,7 +11,7 @@ header_text = (root / "include/plungerowl.h").read_text(encoding="utf-8")
 header = {name.replace("_", " ").lower(): int(value) for name, value in re.findall(r"PLUNGEROWL_(\w+) = (\d+)", header_text)}
 header_answers = {int(value) for value in re.findall(r" = (\d+)", re.search(r"enum plungerowl_answer \{(.*?)\n\};", header_text, re.DOTALL)[1])}
 page = (Path(sys.argv[2]) if len(sys.argv) > 2 else root / "docs/FORMATS.md").read_text(encoding="utf-8")
-for call in "open", "step", "ask", "feed_start", "feed", "feed_end", "balance":
+for call in "open", "step", "ask", "feed_start", "feed", "feed_end", "balance", "join":
     getattr(library, f"plungerowl_{call}").restype = ctypes.c_uint8
 checks = wrong = 0
 FILL = 0xEE
@@ -104,10 +104,19 @@ class Buffers:
         self.seen[NUMBER * (from_ * self.k + to):NUMBER * (from_ * self.k + to + 1)] = number.to_bytes(NUMBER, "little")
 
     def draw(self, from_, to, kinds, number=1):
-        """Lock dependencies from a class to another, with their number; the count is not below it."""
+        """Lock dependencies from a class to another, with their number; the count stays."""
         self.sheet[from_ * self.k + to] |= kinds
         self.put_number(from_, to, number if self.sheet[from_ * self.k + to] else 0)
-        self.put_count(max(self.count(), number))
+
+    def filled(self, fill=FILL):
+        """All bytes as before any call."""
+        for buffer in self.desk, self.sheet, self.seen, self.slip:
+            ctypes.memset(buffer, fill, len(buffer))
+        return self
+
+    def join(self, one, two):
+        """Two benches are joined into this one."""
+        return library.plungerowl_join(*one.lent()[:6], *two.lent()[:6], *self.lent())
 
 
 def low_first(octets):
@@ -172,6 +181,70 @@ old_origins_at = held_at + frames * OLD_DEPTH
 old_count_at = old_origins_at + frames * OLD_DEPTH // 8
 check("desks of earlier versions", [old_origins_at, old_count_at, old_count_at + NUMBER, DESK], [*OLD_DESKS, least])
 check("opening them", [Buffers(desk=n).opened for n in OLD_DESKS], [on_old] * len(OLD_DESKS))
+
+
+# ---- records in words, and the cycles of a graph
+
+
+def lock(text):
+    """The class and the mode of an acquire, or of its release: 1R, try 1R."""
+    tried, class_, letter = re.fullmatch(r"(try )?(\d)([ErR])", text).groups()
+    return int(class_), "ErR".index(letter) + TRY * bool(tried)
+
+
+def records_in(text):
+    for part in text.split("; "):
+        core, _, part = part.rpartition(": ")
+        core = numbers(core)[-1] if "core" in core else 0
+        for op in part.split(", "):
+            if match := re.fullmatch(r"(release )?((?:try )?\d[ErR])", op):
+                yield record(RELEASE if match[1] else ACQUIRE, *lock(match[2]), core)
+            else:
+                yield record(header[op], core=core)
+
+
+kinds = dict(zip(*[iter(said(r"the lock dependencies seen from one class to the other, summed: (ER) (\d+), (EN) (\d+), (SR) (\d+), (SN) (\d+)\."))] * 2))
+check("kinds in the slip", [x for k, v in kinds.items() for x in (v, k)], said(r"its kind \((\d+) (ER), (\d+) (EN), (\d+) (SR), (\d+) (SN)\)"))
+KIND_BYTES = said(r"So kinds are compared as (\d), (\d), (\d), (\d) \(ER, EN, SR, SN\)")
+check("the kinds as compared", [kinds[kind] for kind in ("ER", "EN", "SR", "SN")], KIND_BYTES)
+ORDER = said(r"the one with the fewest dependencies, and among those the least when the slip is compared from left to right, without the first-seen numbers:"
+             r"\n\n (n), (\w+), (\w+), (\w+), (\w+), (\w+), (\w+), and so on\n\n")
+check("the order of a slip's bytes", ORDER, ["n", *["class", "kind", "source"] * 2])
+
+
+def of_marks(marks, level):
+    """The interrupt dependencies of a level."""
+    unit = {"hard": 1, "soft": 16}[level]
+    return {(i, first + second, j) for i, a in enumerate(marks) for j, b in enumerate(marks)
+            for first, unsafe in (("E", 4), ("S", 8)) for second, safe in (("N", 1), ("R", 2)) if a & unit * unsafe and b & unit * safe}
+
+
+def in_order(cycle):
+    """What the page compares of a cycle of (class, kind byte, source byte)."""
+    return [len(cycle)] + [dict(zip(("class", "kind", "source"), entry))[name] for entry in cycle for name in ORDER[1:4]]
+
+
+def cycles(b):
+    """Every cycle of what desk and sheet have, by the page's rules, the lowest class first."""
+    leaving = [[(kind, 0, to) for to, byte in enumerate(b.sheet[from_ * b.k:from_ * b.k + b.k]) for kind in KIND_BYTES if byte & kind] for from_ in range(b.k)]
+    for source, level in (1, "hard"), (2, "soft"):
+        for from_, kind, to in of_marks(b.desk[marks_at:marks_at + b.k], level):
+            leaving[from_].append((kinds[kind], source, to))
+
+    def weak(kind, after):
+        return kind in (kinds["ER"], kinds["SR"]) and after in (kinds["SR"], kinds["SN"])
+
+    def longer(path, at):
+        for kind, source, to in leaving[at]:
+            if not (path and weak(path[-1][1], kind)):
+                new = [*path, (at, kind, source)]
+                if to == new[0][0] and not weak(kind, new[0][1]):
+                    yield new
+                elif to > new[0][0] and to not in [c for c, _, _ in new]:
+                    yield from longer(new, to)
+
+    for start in range(b.k):
+        yield from longer([], start)
 
 
 def in_state(state, core=0, k=8):

@@ -1,8 +1,9 @@
 /*
- * host.c - validate a lock log, or balance a piece of one, through
+ * host.c - validate a lock log, join two, or balance a piece of one, through
  * libplungerowl.a.
  *
  * Usage: host [-p BYTES] [LOG]      (standard input without LOG)
+ *        host join LOG1 LOG2
  *        host balance [PIECE]       (standard input without PIECE)
  *
  * Feeds the log as it comes, a read a piece, up to the first answer but 0; a
@@ -11,11 +12,19 @@
  * log, one line "class C reaches N: i j k" for each class from which a strong
  * path leads to something.
  *
+ * With join as its first argument it validates two logs and, where both are
+ * clean, joins their benches. Prints "clean", "fault" and the cycle, or
+ * "refused 12", and after the first two what each class reaches in the joined
+ * bench. Where a log is not clean it prints, for each that is not, "log 1: " or
+ * "log 2: " and what the program prints for that log by itself. Both logs are
+ * read before anything is printed.
+ *
  * With balance as its first argument it reads a piece: up to its end, but one
  * byte more than the longest piece has at most, which is enough to see that it
  * is too long. Prints a line "CLASS BALANCE" for each class whose balance is
  * not 0, the lowest first, so nothing at all where every balance is 0, or
- * "refused 14". A log in a file called balance is validated by ./balance.
+ * "refused 14". Logs in files called balance and join are validated by
+ * ./balance and ./join.
  *
  * Exit status: 0 the whole output was written, whatever it says; 2 trouble with
  * usage, input, output or memory; 3 the library broke its promises (guard
@@ -48,11 +57,19 @@ struct buffers {
     struct guarded piece;
 };
 
+static const char *input_name = "the input";
+
 static void quit(int status, const char *message)
 {
     fflush(stdout);
     fprintf(stderr, "host: %s\n", message);
     exit(status);
+}
+
+static void quit_input(const char *what)
+{
+    fprintf(stderr, "host: %s cannot be %s\n", input_name, what);
+    exit(STATUS_TROUBLE);
 }
 
 static void make_buffers(struct buffers *b, size_t piece_size)
@@ -145,7 +162,7 @@ static size_t read_bytes(int input, uint8_t *bytes, size_t size)
         length = read(input, bytes, size);
     } while (length < 0 && errno == EINTR);
     if (length < 0)
-        quit(STATUS_TROUBLE, "the input cannot be read");
+        quit_input("read");
     return (size_t)length;
 }
 
@@ -236,6 +253,18 @@ static void print_reach(const struct buffers *b)
         print_reach_of(b, class_);
 }
 
+/* What the program prints for a log that is not clean. */
+static void print_unclean(const struct buffers *b, unsigned answer,
+                          uint64_t record)
+{
+    if (answer == PLUNGEROWL_FAULT) {
+        printf("fault at record %" PRIu64 "\n", record);
+        print_cycle(b);
+    } else {
+        printf("refused %u at record %" PRIu64 "\n", answer, record);
+    }
+}
+
 static void validate_log(int input, size_t piece_size)
 {
     struct buffers b;
@@ -244,17 +273,92 @@ static void validate_log(int input, size_t piece_size)
 
     make_buffers(&b, piece_size);
     answer = feed_log(&b, input, &record);
-    if (answer == PLUNGEROWL_OK) {
+    if (answer == PLUNGEROWL_OK)
         printf("clean, %" PRIu64 " records\n", record);
+    else
+        print_unclean(&b, answer, record);
+    if (answer <= PLUNGEROWL_FAULT)
         print_reach(&b);
-    } else if (answer == PLUNGEROWL_FAULT) {
-        printf("fault at record %" PRIu64 "\n", record);
-        print_cycle(&b);
-        print_reach(&b);
-    } else {
-        printf("refused %u at record %" PRIu64 "\n", answer, record);
-    }
     free_buffers(&b);
+}
+
+/* Validate the log of a name, from its file. */
+static unsigned validate_file(struct buffers *b, const char *name,
+                              const char *path, uint64_t *record)
+{
+    int input = open(path, O_RDONLY);
+    unsigned answer;
+
+    input_name = name;
+    if (input < 0)
+        quit_input("opened");
+    make_buffers(b, PIECE_SIZE);
+    answer = feed_log(b, input, record);
+    close(input);
+    return answer;
+}
+
+static unsigned join_benches(const struct buffers *one,
+                             const struct buffers *two, struct buffers *b)
+{
+    unsigned answer = plungerowl_join(one->desk.bytes, one->desk.size,
+                                      one->sheet.bytes, one->sheet.size,
+                                      one->seen.bytes, one->seen.size,
+                                      two->desk.bytes, two->desk.size,
+                                      two->sheet.bytes, two->sheet.size,
+                                      two->seen.bytes, two->seen.size,
+                                      b->desk.bytes, b->desk.size,
+                                      b->sheet.bytes, b->sheet.size,
+                                      b->seen.bytes, b->seen.size,
+                                      b->slip.bytes, b->slip.size);
+    check_guards(one);
+    check_guards(two);
+    check_guards(b);
+    return answer;
+}
+
+/* The join of two clean logs. */
+static void print_join(const struct buffers *one, const struct buffers *two)
+{
+    struct buffers b;
+    unsigned answer;
+
+    make_buffers(&b, 1);
+    answer = join_benches(one, two, &b);
+    if (answer == PLUNGEROWL_OK) {
+        printf("clean\n");
+    } else if (answer == PLUNGEROWL_FAULT) {
+        printf("fault\n");
+        print_cycle(&b);
+    } else if (answer == PLUNGEROWL_OTHER_CLASSES) {
+        printf("refused %u\n", answer);
+    } else {
+        quit(STATUS_LIBRARY, "a join has an unknown answer");
+    }
+    if (answer <= PLUNGEROWL_FAULT)
+        print_reach(&b);
+    free_buffers(&b);
+}
+
+static void join_logs(char *const paths[2])
+{
+    static const char *const names[2] = { "log 1", "log 2" };
+    struct buffers b[2];
+    uint64_t records[2] = { 0, 0 };
+    unsigned answers[2], i;
+
+    for (i = 0; i < 2; i++)
+        answers[i] = validate_file(&b[i], names[i], paths[i], &records[i]);
+    for (i = 0; i < 2; i++) {
+        if (answers[i] == PLUNGEROWL_OK)
+            continue;
+        printf("%s: ", names[i]);
+        print_unclean(&b[i], answers[i], records[i]);
+    }
+    if (answers[0] == PLUNGEROWL_OK && answers[1] == PLUNGEROWL_OK)
+        print_join(&b[0], &b[1]);
+    free_buffers(&b[0]);
+    free_buffers(&b[1]);
 }
 
 /* Fill the buffer; how many bytes it got, fewer than it has if the input ends
@@ -318,12 +422,27 @@ static size_t piece_size_of(const char *text)
     return size;
 }
 
+static int end_output(void)
+{
+    if (fflush(stdout) != 0 || ferror(stdout))
+        quit(STATUS_TROUBLE, "the output cannot be written");
+    return STATUS_OK;
+}
+
 int main(int argc, char **argv)
 {
+    static const char usage[] = "usage: host [-p BYTES] [LOG], "
+                                "host join LOG1 LOG2, or host balance [PIECE]";
     size_t piece_size = PIECE_SIZE;
     int input = STDIN_FILENO;
     int balance = argc > 1 && strcmp(argv[1], "balance") == 0;
 
+    if (argc > 1 && strcmp(argv[1], "join") == 0) {
+        if (argc != 4)
+            quit(STATUS_TROUBLE, usage);
+        join_logs(argv + 2);
+        return end_output();
+    }
     if (balance) {
         argc--;
         argv++;
@@ -333,17 +452,14 @@ int main(int argc, char **argv)
         argv += 2;
     }
     if (argc > 2)
-        quit(STATUS_TROUBLE,
-             "usage: host [-p BYTES] [LOG], or host balance [PIECE]");
+        quit(STATUS_TROUBLE, usage);
     if (argc == 2 && (input = open(argv[1], O_RDONLY)) < 0)
-        quit(STATUS_TROUBLE, "the input cannot be opened");
+        quit_input("opened");
     if (balance)
         balance_piece(input);
     else
         validate_log(input, piece_size);
     if (input != STDIN_FILENO)
         close(input);
-    if (fflush(stdout) != 0 || ferror(stdout))
-        quit(STATUS_TROUBLE, "the output cannot be written");
-    return STATUS_OK;
+    return end_output();
 }

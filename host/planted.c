@@ -6,9 +6,10 @@
  * host/run_tests reads the lists below and tries each plant with the test of
  * the selftest that is meant for it.
  *
- * The feed has a second version here, in C over real_open and real_step, and
- * the balance has one too, with places for mistakes; the plants of the second
- * list and of the third use them, and "right" uses both, without a mistake.
+ * The feed has a second version here, in C over real_open and real_step, the
+ * balance has one too, and the join has one over real_ask and real_step, with
+ * places for mistakes; the plants of the second, the third and the fourth list
+ * use them, and "right" uses all three, without a mistake.
  */
 #include <stdlib.h>
 #include <string.h>
@@ -45,11 +46,18 @@
     X(fit_number_0_but_of_first, unfit_last_pair, wrong) \
     X(fit_number_without_kinds, unfit_numbers, wrong) \
     X(fit_high_number_without_kinds, unfit_numbers, wrong) \
-    X(fit_number_above_count, unfit_numbers, wrong) \
-    X(fit_number_above_count_of_0, unfit_counts, wrong) \
-    X(fit_number_above_by_high_byte, unfit_numbers, wrong) \
-    X(fit_number_above_with_high_count, unfit_counts, wrong) \
-    X(fit_highest_number, unfit_numbers, wrong) \
+    X(fit_tie_kept, unfit_numbers, wrong) \
+    X(fit_tie_kept_by_one, unfit_numbers, wrong) \
+    X(fit_tie_kept_for_count_0, any_count, wrong) \
+    X(fit_tie_kept_but_for_count_0, any_count, wrong) \
+    X(fit_tie_kept_by_high_byte, unfit_numbers, wrong) \
+    X(fit_tie_kept_with_high_count, any_count, wrong) \
+    X(fit_tie_kept_for_last_pair, unfit_last_pair, wrong) \
+    X(fit_tie_kept_for_joined, join_step_on, wrong) \
+    X(fit_tie_kept_in_steps, above_count, wrong) \
+    X(fit_tie_kept_asked, any_count, wrong) \
+    X(fit_tie_kept_asked_of_joined, join_step_on, wrong) \
+    X(fit_highest_number_refused, unfit_numbers, wrong) \
     X(fit_number_of_last_pair, unfit_last_pair, wrong) \
     X(fit_numbers_not_tested, unfit_numbers, wrong) \
     X(fit_numbers_not_tested_asked, unfit_numbers, wrong) \
@@ -57,11 +65,11 @@
     X(fit_number_1_refused, unfit_numbers, wrong) \
     X(fit_number_low_byte_0_refused, unfit_numbers, wrong) \
     X(fit_number_high_byte_first, unfit_numbers, wrong) \
-    X(fit_number_signed, unfit_counts, wrong) \
+    X(fit_number_signed, any_count, wrong) \
     X(fit_number_behind_last_pair, unfit_last_pair, wrong) \
     X(fit_kinds_behind_last_pair, unfit_last_pair, wrong) \
     X(fit_numbers_of_64_classes, seen_past, wrong) \
-    X(fit_count_without_numbers_refused, unfit_counts, wrong) \
+    X(fit_count_without_numbers_refused, any_count, wrong) \
     X(fit_number_as_count_refused_asked, unfit_numbers, wrong) \
     X(depth_8_at_20, depth_steps, wrong) \
     X(depth_8_at_32, depth_steps, wrong) \
@@ -440,6 +448,8 @@
     X(count_of_24_bits, count_carries, wrong) \
     X(count_of_31_bits, count_carries, wrong) \
     X(count_carry_lost, count_carries, wrong) \
+    X(count_from_highest_number, above_count, wrong) \
+    X(count_from_highest_number_of_joined, join_step_on, wrong) \
     X(count_high_byte_first, count_carries, wrong) \
     X(full_count_wraps, count_full, wrong) \
     X(full_count_stays, count_full, wrong) \
@@ -486,6 +496,10 @@
     X(seen_not_at_fault, seen_of_the_fault, wrong) \
     X(seen_of_marks, seen_by_marks, wrong) \
     X(seen_as_count_renewed, seen_from_elsewhere, wrong) \
+    X(seen_above_count_renewed, above_count, wrong) \
+    X(seen_above_count_renewed_of_joined, join_step_on, wrong) \
+    X(seen_from_highest_number, above_count, wrong) \
+    X(seen_from_highest_number_of_joined, join_step_on, wrong) \
     X(slip_number_of_marks, seen_by_marks, wrong) \
     X(slip_number_of_hard_marks, seen_by_marks, wrong) \
     X(slip_number_of_soft_marks, seen_by_marks, wrong) \
@@ -504,6 +518,8 @@
     X(slip_number_of_first_only, p2, wrong) \
     X(slip_number_of_last_left_out, full_slip, wrong) \
     X(slip_number_0_of_later_kind, seen_later_kind, wrong) \
+    X(slip_number_above_count_left_out, above_count, wrong) \
+    X(slip_number_at_most_count, join_step_on, wrong) \
     X(slip_number_before_source, p2, wrong) \
     X(slip_number_before_class, p2, wrong) \
     X(slip_entries_of_3, p2, wrong) \
@@ -724,7 +740,12 @@
     X(end_drops_stop, feed_stop, wrong) \
     X(end_repeats_as_3, feed_stop, wrong) \
     X(end_repeats_number_more, feed_stop, wrong) \
-    X(end_reads_behind_feed, feed_end, killed)
+    X(end_reads_behind_feed, feed_end, killed) \
+    X(feed_tie_kept, above_count, wrong) \
+    X(feed_tie_kept_for_joined, join_feed_on, wrong) \
+    X(feed_refuses_fresh_with_kinds, join_feed_on, wrong) \
+    X(end_tie_kept, above_count, wrong) \
+    X(end_tie_kept_for_joined, join_feed_on, wrong)
 
 #define BALANCE_PLANTS(X) \
     X(balance_60000_refused, balance_lengths, wrong) \
@@ -950,13 +971,257 @@
     X(balance_length_of_32_bits, balance_huge, wrong) \
     X(balance_searches_signature, balance_header, wrong)
 
+#define JOIN_PLANTS(X) \
+    X(join_one_not_tested, join_unfit, wrong) \
+    X(join_two_not_tested, join_unfit, wrong) \
+    X(join_sheets_not_tested, join_unfit, wrong) \
+    X(join_kinds_not_tested, join_unfit, wrong) \
+    X(join_numbers_not_tested, join_unfit, wrong) \
+    X(join_numbers_of_one_not_tested, join_unfit, wrong) \
+    X(join_numbers_of_two_not_tested, join_unfit, wrong) \
+    X(join_marks_not_tested, join_unfit, wrong) \
+    X(join_origins_not_tested, join_unfit, wrong) \
+    X(join_cores_not_tested, join_unfit, wrong) \
+    X(join_closed_2_taken, join_unfit, wrong) \
+    X(join_marks_fit_by_either, join_unfit_halves, wrong) \
+    X(join_pairs_fit_by_either, join_unfit_halves, wrong) \
+    X(join_tie_kept, join_untied, wrong) \
+    X(join_tie_of_one, join_untied, wrong) \
+    X(join_tie_of_two, join_untied, wrong) \
+    X(join_tie_by_other_count, join_untied, wrong) \
+    X(join_tie_by_sum, join_untied, wrong) \
+    X(join_tie_of_joined, join_untied, wrong) \
+    X(join_desk_short_by_one, join_every_k, wrong) \
+    X(join_sheet_short_by_one, join_every_k, wrong) \
+    X(join_seen_short_by_one, join_every_k, wrong) \
+    X(join_slip_short_by_one, join_every_k, wrong) \
+    X(join_desk_of_578, join_short, wrong) \
+    X(join_desk_of_642, join_short, wrong) \
+    X(join_desk_of_1394, join_short, wrong) \
+    X(join_seen_of_k_x_k, join_short, wrong) \
+    X(join_slip_of_3, join_short, wrong) \
+    X(join_slip_not_tested, join_lengths, wrong) \
+    X(join_slip_for_faults_only, join_lengths, wrong) \
+    X(join_room_for_64, join_every_k, wrong) \
+    X(join_room_for_smaller, join_classes, wrong) \
+    X(join_room_for_first, join_classes, wrong) \
+    X(join_room_for_second, join_classes, wrong) \
+    X(join_sheet_for_smaller, join_classes, wrong) \
+    X(join_seen_for_smaller, join_classes, wrong) \
+    X(join_slip_for_smaller, join_classes, wrong) \
+    X(join_sheet_for_first, join_classes, wrong) \
+    X(join_slip_for_second, join_classes, wrong) \
+    X(join_room_for_both, join_classes, wrong) \
+    X(join_twelve_before_11, join_order, wrong) \
+    X(join_twelve_before_fit, join_order, wrong) \
+    X(join_twelve_before_room, join_classes, wrong) \
+    X(join_twelve_before_fit_of_two, join_order, wrong) \
+    X(join_thirteen_before_11, join_order, wrong) \
+    X(join_thirteen_before_fit, join_order, wrong) \
+    X(join_thirteen_before_room, join_order, wrong) \
+    X(join_thirteen_before_fit_of_two, join_order, wrong) \
+    X(join_thirteen_before_12, join_order, wrong) \
+    X(join_thirteen_of_one_before_12, join_order, wrong) \
+    X(join_thirteen_of_two_before_12, join_order, wrong) \
+    X(join_unfit_as_2, join_unfit, wrong) \
+    X(join_unfit_as_10, join_unfit, wrong) \
+    X(join_unfit_as_13, join_unfit, wrong) \
+    X(join_room_as_2, join_every_k, wrong) \
+    X(join_room_as_12, join_classes, wrong) \
+    X(join_other_k_as_11, join_classes, wrong) \
+    X(join_other_k_as_2, join_other_classes, wrong) \
+    X(join_other_k_as_13, join_other_classes, wrong) \
+    X(join_other_k_taken, join_other_classes, wrong) \
+    X(join_smaller_k_taken, join_classes, wrong) \
+    X(join_larger_k_taken, join_classes, wrong) \
+    X(join_closed_as_10, join_closed, wrong) \
+    X(join_closed_as_11, join_closed, wrong) \
+    X(join_closed_as_12, join_closed, wrong) \
+    X(join_closed_as_1, join_closed, wrong) \
+    X(join_one_closed_taken, join_closed, wrong) \
+    X(join_two_closed_taken, join_closed, wrong) \
+    X(join_closed_if_both, join_closed, wrong) \
+    X(join_closed_with_cycle_only, join_closed, wrong) \
+    X(join_own_cycle_as_13, join_own_cycle, wrong) \
+    X(join_own_cycle_of_two_as_13, join_own_cycle, wrong) \
+    X(join_full_count_as_9, join_fresh, wrong) \
+    X(join_held_locks_as_7, join_fresh, wrong) \
+    X(join_itself_as_11, join_itself, wrong) \
+    X(join_same_desk_as_11, join_overlap, wrong) \
+    X(join_same_sheet_as_11, join_overlap, wrong) \
+    X(join_same_seen_as_11, join_overlap, wrong) \
+    X(join_eleven_writes_desk, join_every_k, wrong) \
+    X(join_eleven_clears_seen, join_lengths, wrong) \
+    X(join_eleven_writes_slip, join_lengths, wrong) \
+    X(join_twelve_writes_sheet, join_classes, wrong) \
+    X(join_twelve_opens, join_other_classes, wrong) \
+    X(join_thirteen_closes, join_closed, wrong) \
+    X(join_thirteen_writes_slip, join_closed, wrong) \
+    X(join_thirteen_joins, join_closed, wrong) \
+    X(join_k_not_written, join_every_k, wrong) \
+    X(join_keeps_states_of_one, join_parts, wrong) \
+    X(join_keeps_states_of_two, join_parts, wrong) \
+    X(join_keeps_depths_of_one, join_parts, wrong) \
+    X(join_keeps_held_of_one, join_parts, wrong) \
+    X(join_keeps_held_of_two, join_parts, wrong) \
+    X(join_keeps_origins_of_two, join_parts, wrong) \
+    X(join_keeps_count_of_one, join_parts, wrong) \
+    X(join_keeps_count_of_two, join_parts, wrong) \
+    X(join_count_of_both, join_fresh, wrong) \
+    X(join_count_highest, join_untied, wrong) \
+    X(join_count_1_at_fault, join_fresh, wrong) \
+    X(join_count_of_pairs, join_pairs, wrong) \
+    X(join_copies_desk_of_one, join_fresh, wrong) \
+    X(join_leaves_last_byte, join_every_k, wrong) \
+    X(join_leaves_origins, join_every_k, wrong) \
+    X(join_leaves_closed, join_over, wrong) \
+    X(join_not_closed_at_fault, join_example, wrong) \
+    X(join_closed_at_once, join_every_k, wrong) \
+    X(join_closed_as_2, join_example, wrong) \
+    X(join_cores_with_hard_off, join_every_k, wrong) \
+    X(join_marks_of_one, join_marks, wrong) \
+    X(join_marks_of_two, join_marks, wrong) \
+    X(join_marks_of_both_only, join_marks, wrong) \
+    X(join_marks_xor, join_marks, wrong) \
+    X(join_marks_added, join_marks, wrong) \
+    X(join_marks_higher, join_marks, wrong) \
+    X(join_marks_of_one_first, join_marks, wrong) \
+    X(join_marks_soft_of_one, join_marks, wrong) \
+    X(join_marks_safe_of_one, join_marks, wrong) \
+    X(join_marks_unsafe_of_two, join_marks, wrong) \
+    X(join_marks_of_63_left_out, join_parts, wrong) \
+    X(join_marks_of_first_8, join_parts, wrong) \
+    X(join_sheet_of_one, join_kinds, wrong) \
+    X(join_sheet_of_two, join_kinds, wrong) \
+    X(join_sheet_of_both_only, join_kinds, wrong) \
+    X(join_sheet_xor, join_kinds, wrong) \
+    X(join_sheet_added, join_kinds, wrong) \
+    X(join_sheet_higher, join_kinds, wrong) \
+    X(join_sheet_of_one_first, join_kinds, wrong) \
+    X(join_sheet_of_two_first, join_kinds, wrong) \
+    X(join_sheet_lowest_kind, join_kinds, wrong) \
+    X(join_sheet_without_weak, join_kinds, wrong) \
+    X(join_sheet_first_pair_left, join_pairs, wrong) \
+    X(join_sheet_last_pair_left, join_pairs, wrong) \
+    X(join_sheet_diagonal_left_out, join_pairs, wrong) \
+    X(join_sheet_of_two_transposed, join_pairs, wrong) \
+    X(join_sheet_only_63_rows, join_all_pairs, wrong) \
+    X(join_number_of_two_first, join_numbers, wrong) \
+    X(join_number_lower, join_numbers, wrong) \
+    X(join_number_higher, join_numbers, wrong) \
+    X(join_number_added, join_numbers, wrong) \
+    X(join_number_or, join_numbers, wrong) \
+    X(join_number_by_low_byte, join_numbers, wrong) \
+    X(join_number_by_16_bits, join_numbers, wrong) \
+    X(join_number_by_24_bits, join_numbers, wrong) \
+    X(join_number_of_one_only, join_numbers, wrong) \
+    X(join_number_of_two_only, join_numbers, wrong) \
+    X(join_number_always_1, join_numbers, wrong) \
+    X(join_number_0, join_numbers, wrong) \
+    X(join_number_of_3_bytes, join_numbers, wrong) \
+    X(join_number_of_31_bits, join_numbers, wrong) \
+    X(join_number_high_byte_first, join_numbers, wrong) \
+    X(join_number_by_lowest_kind, join_number_of_other_kind, wrong) \
+    X(join_number_behind_count_of_one, join_number_of_other_kind, wrong) \
+    X(join_number_at_most_count, join_untied, wrong) \
+    X(join_number_of_last_left, join_pairs, wrong) \
+    X(join_number_of_two_transposed, join_pairs, wrong) \
+    X(join_number_where_kinds_differ, join_numbers, wrong) \
+    X(join_never_fault, join_example, wrong) \
+    X(join_always_fault, join_every_k, wrong) \
+    X(join_fault_not_seen_of_one_class, join_kinds, wrong) \
+    X(join_searched_without_marks, join_by_marks, wrong) \
+    X(join_searched_without_soft, join_by_marks, wrong) \
+    X(join_searched_without_hard, join_by_marks, wrong) \
+    X(join_searched_marks_of_one, join_by_marks_of_logs, wrong) \
+    X(join_searched_sheet_of_one, join_example, wrong) \
+    X(join_searched_sheet_of_two, join_there_and_back, wrong) \
+    X(join_searched_apart, join_there_and_back, wrong) \
+    X(join_searched_apart_of_logs, join_logs, wrong) \
+    X(join_searched_for_new_only, join_own_cycle, wrong) \
+    X(join_joints_ignored, join_there_and_back, wrong) \
+    X(join_joints_ignored_in_paths, join_paths, wrong) \
+    X(join_lost_between_benches, join_full_slip, wrong) \
+    X(join_fault_remembered, join_refused, wrong) \
+    X(join_slip_not_written, join_example, wrong) \
+    X(join_slip_numbers_0, join_example, wrong) \
+    X(join_slip_numbers_of_one, join_example, wrong) \
+    X(join_slip_numbers_of_two, join_example, wrong) \
+    X(join_slip_numbers_by_kind, join_number_of_other_kind, wrong) \
+    X(join_slip_number_with_marks, join_shown, wrong) \
+    X(join_slip_high_byte_first, join_numbers, wrong) \
+    X(join_slip_from_second_class, join_example, wrong) \
+    X(join_slip_entries_with_3, join_example, wrong) \
+    X(join_slip_of_own_cycle, join_own_cycle, wrong) \
+    X(join_slip_of_own_cycle_shown, join_random, wrong) \
+    X(join_slip_cleared_when_clean, join_every_k, wrong) \
+    X(join_slip_rest_cleared, join_example, wrong) \
+    X(join_slip_rest_cleared_of_63, join_full_slip, wrong) \
+    X(join_adds_to_old_marks, join_over, wrong) \
+    X(join_adds_to_old_sheet, join_over, wrong) \
+    X(join_keeps_old_numbers, join_over, wrong) \
+    X(join_leaves_where_no_kinds, join_over, wrong) \
+    X(join_leaves_numbers_where_none, join_over, wrong) \
+    X(join_clears_all_of_desk, join_past, wrong) \
+    X(join_clears_all_of_sheet, join_past, wrong) \
+    X(join_clears_all_of_seen, join_past, wrong) \
+    X(join_writes_seen_of_16_classes, join_past, wrong) \
+    X(join_closes_one_at_fault, join_example, wrong) \
+    X(join_closes_both_at_fault, join_example, wrong) \
+    X(join_opens_one_after, join_fresh, wrong) \
+    X(join_reads_behind_desk_1, join_example, killed) \
+    X(join_reads_behind_sheet_1, join_example, killed) \
+    X(join_reads_behind_seen_1, join_example, killed) \
+    X(join_reads_behind_desk_2, join_example, killed) \
+    X(join_reads_behind_sheet_2, join_example, killed) \
+    X(join_reads_behind_seen_2, join_example, killed) \
+    X(join_reads_behind_desk_3, join_example, killed) \
+    X(join_reads_behind_sheet_3, join_example, killed) \
+    X(join_reads_behind_seen_3, join_example, killed) \
+    X(join_reads_behind_slip_3, join_example, killed) \
+    X(join_reads_before_desk_1, join_example, killed) \
+    X(join_reads_before_sheet_1, join_example, killed) \
+    X(join_reads_before_seen_1, join_example, killed) \
+    X(join_reads_before_desk_2, join_example, killed) \
+    X(join_reads_before_sheet_2, join_example, killed) \
+    X(join_reads_before_seen_2, join_example, killed) \
+    X(join_reads_before_desk_3, join_example, killed) \
+    X(join_reads_before_sheet_3, join_example, killed) \
+    X(join_reads_before_seen_3, join_example, killed) \
+    X(join_reads_before_slip_3, join_example, killed) \
+    X(join_writes_behind_desk_1, join_example, wrong) \
+    X(join_writes_behind_sheet_1, join_example, wrong) \
+    X(join_writes_behind_seen_1, join_example, wrong) \
+    X(join_writes_behind_desk_2, join_example, wrong) \
+    X(join_writes_behind_sheet_2, join_example, wrong) \
+    X(join_writes_behind_seen_2, join_example, wrong) \
+    X(join_writes_behind_desk_3, join_example, wrong) \
+    X(join_writes_behind_sheet_3, join_example, wrong) \
+    X(join_writes_behind_seen_3, join_example, wrong) \
+    X(join_writes_behind_slip_3, join_example, wrong) \
+    X(join_writes_desk_1, join_example, wrong) \
+    X(join_writes_sheet_1, join_example, wrong) \
+    X(join_writes_seen_1, join_example, wrong) \
+    X(join_writes_desk_2, join_example, wrong) \
+    X(join_writes_sheet_2, join_example, wrong) \
+    X(join_writes_seen_2, join_example, wrong) \
+    X(join_writes_desk_1_and_back, join_read_only, killed) \
+    X(join_writes_sheet_1_and_back, join_read_only, killed) \
+    X(join_writes_seen_1_and_back, join_read_only, killed) \
+    X(join_writes_desk_2_and_back, join_read_only, killed) \
+    X(join_writes_sheet_2_and_back, join_read_only, killed) \
+    X(join_writes_seen_2_and_back, join_read_only, killed) \
+    X(join_reads_k_of_one_first, join_short, killed) \
+    X(join_reads_k_of_two_first, join_short, killed)
+
 #define ENUMERATOR(name, test, how) name,
 #define NAME(name, test, how) #name,
 
 enum plant { PLANTS(ENUMERATOR) FEED_PLANTS(ENUMERATOR) right,
-             BALANCE_PLANTS(ENUMERATOR) none };
+             BALANCE_PLANTS(ENUMERATOR) JOIN_PLANTS(ENUMERATOR) none };
 static const char *const names[] = { PLANTS(NAME) FEED_PLANTS(NAME) "right",
-                                     BALANCE_PLANTS(NAME) "none" };
+                                     BALANCE_PLANTS(NAME) JOIN_PLANTS(NAME)
+                                     "none" };
 
 uint8_t real_feed_start(uint8_t *, size_t);
 uint8_t real_feed(uint8_t *, size_t, uint8_t *, size_t, uint8_t *, size_t,
@@ -971,6 +1236,11 @@ uint8_t real_step(uint8_t *, size_t, uint8_t *, size_t, uint8_t *, size_t,
 uint8_t real_ask(const uint8_t *, size_t, const uint8_t *, size_t,
                  const uint8_t *, size_t, uint64_t, uint64_t *, uint32_t *);
 uint8_t real_balance(const uint8_t *, size_t, int32_t *);
+uint8_t real_join(const uint8_t *, size_t, const uint8_t *, size_t,
+                  const uint8_t *, size_t, const uint8_t *, size_t,
+                  const uint8_t *, size_t, const uint8_t *, size_t,
+                  uint8_t *, size_t, uint8_t *, size_t, uint8_t *, size_t,
+                  uint8_t *, size_t);
 
 static enum plant plant(void)
 {
@@ -1088,19 +1358,33 @@ static int has_stray_origin(const uint8_t *desk)
 }
 
 /* Whether the numbers of the first pairs are unfit. */
-static int has_unfit_number(const uint8_t *desk, const uint8_t *sheet,
-                            const uint8_t *seen, unsigned pairs)
+static int has_unfit_number(const uint8_t *sheet, const uint8_t *seen,
+                            unsigned pairs)
 {
-    uint32_t count = number_at(desk + ACCEPTED_AT);
     unsigned i;
 
-    for (i = 0; i < pairs; i++) {
-        uint32_t number = number_at(seen + NUMBER * i);
-
-        if ((sheet[i] == 0) != (number == 0) || number > count)
+    for (i = 0; i < pairs; i++)
+        if ((sheet[i] == 0) != (number_at(seen + NUMBER * i) == 0))
             return 1;
-    }
     return 0;
+}
+
+/* The highest number of all pairs, and whether it is above the count, which is
+ * fit. */
+static uint32_t highest_number(const uint8_t *seen, unsigned k)
+{
+    uint32_t highest = 0;
+    unsigned i;
+
+    for (i = 0; i < k * k; i++)
+        if (number_at(seen + NUMBER * i) > highest)
+            highest = number_at(seen + NUMBER * i);
+    return highest;
+}
+
+static int has_number_above(const uint8_t *desk, const uint8_t *seen)
+{
+    return highest_number(seen, desk[0]) > number_at(desk + ACCEPTED_AT);
 }
 
 /* A clause about a pair is not seen. */
@@ -1115,15 +1399,6 @@ static int pair_missed(unsigned pair, unsigned pairs, unsigned kinds,
     case fit_number_without_kinds: return !kinds && number && number == count;
     case fit_high_number_without_kinds:
         return !kinds && number && number % 65536 == 0;
-    case fit_number_above_count:
-        return kinds && number > count && number - count == 1;
-    case fit_number_above_count_of_0: return kinds && number && count == 0;
-    case fit_number_above_by_high_byte:
-        return kinds && number > count
-               && (number & 0xFFFFFF) <= (count & 0xFFFFFF);
-    case fit_number_above_with_high_count:
-        return kinds && number > count && count > INT32_MAX;
-    case fit_highest_number: return kinds && number == UINT32_MAX;
     default: return 0;
     }
 }
@@ -1135,15 +1410,37 @@ static int number_missed(const uint8_t *desk, const uint8_t *sheet,
     uint32_t count = number_at(desk + ACCEPTED_AT);
 
     if (plant() == fit_numbers_not_tested)
-        return has_unfit_number(desk, sheet, seen, pairs);
+        return has_unfit_number(sheet, seen, pairs);
     if (plant() == fit_number_of_last_pair)
-        return has_unfit_number(desk, sheet, seen, pairs)
-               && !has_unfit_number(desk, sheet, seen, pairs - 1);
+        return has_unfit_number(sheet, seen, pairs)
+               && !has_unfit_number(sheet, seen, pairs - 1);
     for (i = 0; i < pairs; i++)
         if (pair_missed(i, pairs, sheet[i], number_at(seen + NUMBER * i),
                         count))
             return 1;
     return 0;
+}
+
+/* A number above the count is refused, as it was before benches were joined. */
+static int ties_number(unsigned pair, unsigned pairs, uint32_t number,
+                       uint32_t count)
+{
+    int above = number > count;
+
+    switch (plant()) {
+    case fit_tie_kept:
+    case fit_tie_kept_in_steps: return above;
+    case fit_tie_kept_by_one: return above && number - count == 1;
+    case fit_tie_kept_for_count_0:
+    case fit_tie_kept_for_joined: return above && count == 0;
+    case fit_tie_kept_but_for_count_0: return above && count > 0;
+    case fit_tie_kept_by_high_byte:
+        return above && (number & 0xFFFFFF) <= (count & 0xFFFFFF);
+    case fit_tie_kept_with_high_count: return above && count > INT32_MAX;
+    case fit_tie_kept_for_last_pair: return above && pair + 1 == pairs;
+    case fit_highest_number_refused: return number == UINT32_MAX;
+    default: return 0;
+    }
 }
 
 /* Fit numbers that a wrong version refuses. */
@@ -1160,6 +1457,8 @@ static int refuses_number(const uint8_t *desk, const uint8_t *sheet,
 
         put_number(turned, number);
         turn_number(turned);
+        if (ties_number(i, pairs, number, count))
+            return 1;
         if (number != 0
             && ((plant() == fit_number_as_count_refused && number == count)
                 || (plant() == fit_number_1_refused && number == 1)
@@ -1173,13 +1472,13 @@ static int refuses_number(const uint8_t *desk, const uint8_t *sheet,
     }
     switch (plant()) {
     case fit_number_behind_last_pair:
-        return seen_len >= NUMBER * (pairs + (size_t)1)
-               && number_at(seen + NUMBER * pairs) > count;
+        return seen_len >= NUMBER * (pairs + (size_t)1) && sheet_len > pairs
+               && sheet[pairs] == 0 && number_at(seen + NUMBER * pairs) == 1;
     case fit_kinds_behind_last_pair:
         return sheet_len > pairs && sheet[pairs] == PLUNGEROWL_ER;
     case fit_numbers_of_64_classes:
         return sheet_len >= 64 * 64 && seen_len >= NUMBER * 64 * 64
-               && has_unfit_number(desk, sheet, seen, 64 * 64);
+               && has_unfit_number(sheet, seen, 64 * 64);
     case fit_count_without_numbers_refused:
         for (i = 0; i < pairs && sheet[i] == 0; i++)
             ;
@@ -2976,6 +3275,11 @@ static void spoil_count(struct call *c, uint8_t answer)
     case count_carry_lost:
         next = (old & 0xFFFFFF00) | ((old + 1) & 0xFF);
         break;
+    case count_from_highest_number:
+    case count_from_highest_number_of_joined:
+        if (old < highest_number(c->old_seen, c->k))
+            next = highest_number(c->old_seen, c->k) + 1;
+        break;
     case full_count_wraps: next = old == UINT32_MAX ? 0 : next; break;
     case full_count_stays: next = old == UINT32_MAX ? old : next; break;
     default: next = is_counted(c, answer) ? next : old; break;
@@ -2999,7 +3303,10 @@ static void spoil_pair(struct call *c, unsigned from, unsigned to,
         || (plant() == seen_by_latest_kind
             && c->sheet[pair] != c->old_sheet[pair])
         || (plant() == seen_as_count_renewed
-            && number_at(number) + 1 == count))
+            && number_at(number) + 1 == count)
+        || (is_either(seen_above_count_renewed,
+                      seen_above_count_renewed_of_joined)
+            && number_at(number) > count))
         put_number(number, count);
     if (!first)
         return;
@@ -3043,6 +3350,11 @@ static void spoil_pair(struct call *c, unsigned from, unsigned to,
         break;
     case seen_counts_refused:
         put_number(number, count + (uint32_t)refused_since);
+        break;
+    case seen_from_highest_number:
+    case seen_from_highest_number_of_joined:
+        if (count <= highest_number(c->old_seen, c->k))
+            put_number(number, highest_number(c->old_seen, c->k) + 1);
         break;
     case seen_not_at_fault:
         if (answer == PLUNGEROWL_FAULT)
@@ -3140,6 +3452,14 @@ static void spoil_entry(const struct call *c, uint8_t *slip, unsigned i)
     case slip_number_0_of_later_kind:
         if ((kinds & (kinds - 1)) != 0)
             put_number(number, 0);
+        break;
+    case slip_number_above_count_left_out:
+        if (number_at(number) > old_count(c) + 1)
+            put_number(number, 0);
+        break;
+    case slip_number_at_most_count:
+        if (number_at(number) > old_count(c) + 1)
+            put_number(number, old_count(c) + 1);
         break;
     case slip_number_before_source:
         memmove(entry + 2, number, NUMBER);
@@ -3454,7 +3774,7 @@ uint8_t plungerowl_ask(const uint8_t *desk, size_t desk_len,
     case fit_numbers_not_tested_asked:
         if (answer == PLUNGEROWL_UNFIT
             && are_long(desk, desk_len, sheet_len, seen_len)
-            && has_unfit_number(desk, sheet, seen, desk[0] * desk[0]))
+            && has_unfit_number(sheet, seen, desk[0] * desk[0]))
             return PLUNGEROWL_OK;
         break;
     case fit_number_as_count_refused_asked:
@@ -3465,6 +3785,13 @@ uint8_t plungerowl_ask(const uint8_t *desk, size_t desk_len,
     case ask_desk_without_origins:
         if (answer == PLUNGEROWL_UNFIT && desk_len == ORIGINS_AT)
             return PLUNGEROWL_OK;
+        break;
+    case fit_tie_kept_asked:
+    case fit_tie_kept_asked_of_joined:
+        if (answer != PLUNGEROWL_UNFIT && has_number_above(desk, seen)) {
+            *word = *count = 0;
+            return PLUNGEROWL_UNFIT;
+        }
         break;
     case fit_no_origins_asked:
         if (answer == PLUNGEROWL_UNFIT && desk_len >= DESK_SIZE
@@ -3811,6 +4138,25 @@ static unsigned fed_answer(const struct lent *l, const struct progress *p,
     }
 }
 
+/* Numbers above the count are refused, in a feed or at its end. */
+static int ties_fed(const struct lent *l, const struct progress *p)
+{
+    if (!are_long(l->desk, l->desk_len, l->sheet_len, l->seen_len))
+        return 0;
+    switch (plant()) {
+    case feed_tie_kept:
+    case feed_tie_kept_for_joined:
+        return p->count == RECORD_SIZE && has_number_above(l->desk, l->seen);
+    case feed_refuses_fresh_with_kinds:
+        return number_at(l->desk + ACCEPTED_AT) == 0
+               && highest_number(l->seen, l->desk[0]) > 0;
+    case end_tie_kept:
+    case end_tie_kept_for_joined:
+        return p->count < RECORD_SIZE && has_number_above(l->desk, l->seen);
+    default: return 0;
+    }
+}
+
 static void judge_record(struct lent *l, struct progress *p)
 {
     static struct call call;
@@ -3825,6 +4171,7 @@ static void judge_record(struct lent *l, struct progress *p)
         f = find_fed(l, p);
     spoil_fed_mode(l, p);
     p->answer = plant() == feed_8_at_20 && depth >= 20 ? PLUNGEROWL_FRAME_FULL
+                : ties_fed(l, p) ? PLUNGEROWL_UNFIT
                 : real_step(l->desk, l->desk_len, l->sheet, l->sheet_len,
                             l->seen, l->seen_len, l->slip, l->slip_len,
                             p->loose, p->count);
@@ -4327,7 +4674,7 @@ enum { CLASSES = PLUNGEROWL_MAX_CLASSES, MOST_BYTES = PLUNGEROWL_MAX_PIECE_SIZE,
 
 static int is_balance_plant(void)
 {
-    return plant() >= right && plant() < none;
+    return plant() >= right && plant() < join_one_not_tested;
 }
 
 static int starts_as_log(const uint8_t *piece, size_t length)
@@ -4941,5 +5288,799 @@ uint8_t plungerowl_balance(const uint8_t *piece, size_t piece_len,
         write_sums(sums, met, length, balances);
     }
     spoil_around(piece, piece_len, answer, balances);
+    return (uint8_t)answer;
+}
+
+/* ---------------------------------------------------------------- the join */
+
+static int is_join_plant(void)
+{
+    return plant() == right
+           || (plant() >= join_one_not_tested && plant() < none);
+}
+
+struct bench {
+    const uint8_t *desk, *sheet, *seen;
+    size_t desk_len, sheet_len, seen_len;
+};
+
+/* What a join was lent, in the order of its arguments too. */
+enum { LENT = 10, READ = 6 };
+
+struct joint {
+    struct bench one, two;
+    uint8_t *desk, *sheet, *seen, *slip;
+    size_t desk_len, sheet_len, seen_len, slip_len;
+    uint8_t *lent[LENT];
+    size_t lengths[LENT];
+};
+
+/* A bench of bytes that may be changed. */
+struct copied {
+    uint8_t desk[DESK_SIZE];
+    uint8_t sheet[PLUNGEROWL_SHEET_SIZE(CLASSES)];
+    uint8_t seen[PLUNGEROWL_SEEN_SIZE(CLASSES)];
+    uint8_t slip[PLUNGEROWL_SLIP_SIZE(CLASSES)];
+};
+
+static int is_long_bench(const struct bench *b)
+{
+    return are_long(b->desk, b->desk_len, b->sheet_len, b->seen_len);
+}
+
+static void copy_bench(struct copied *to, const struct bench *from)
+{
+    memcpy(to->desk, from->desk, DESK_SIZE);
+    memcpy(to->sheet, from->sheet, PLUNGEROWL_SHEET_SIZE(from->desk[0]));
+    memcpy(to->seen, from->seen, PLUNGEROWL_SEEN_SIZE(from->desk[0]));
+}
+
+/* By the real question, and by the real step with a record that draws nothing;
+ * that leaves the cycle in the slip. */
+static int is_fit(const struct copied *b)
+{
+    uint64_t word;
+    uint32_t count;
+
+    return real_ask(b->desk, DESK_SIZE, b->sheet, sizeof b->sheet, b->seen,
+                    sizeof b->seen, 0, &word, &count) != PLUNGEROWL_UNFIT;
+}
+
+static int has_cycle(struct copied *b)
+{
+    static const uint8_t hard_on[] = { 0x4C, 0x4B, 0, PLUNGEROWL_HARD_ON,
+                                       0, 0 };
+    uint8_t desk[DESK_SIZE] = { 0 };
+
+    desk[0] = b->desk[0];
+    memcpy(desk + MARKS_AT, b->desk + MARKS_AT, CLASSES);
+    return real_step(desk, DESK_SIZE, b->sheet, sizeof b->sheet, b->seen,
+                     sizeof b->seen, b->slip, sizeof b->slip, hard_on,
+                     sizeof hard_on) == PLUNGEROWL_FAULT;
+}
+
+static int has_own_cycle(const struct bench *b)
+{
+    static struct copied copy;
+
+    copy_bench(&copy, b);
+    return has_cycle(&copy);
+}
+
+/* A part of the fit test is left out, or done on both benches together. */
+static void pass_unfit(struct copied *b, const struct bench *other, int second)
+{
+    unsigned pairs = b->desk[0] * b->desk[0], i;
+    int same = other->desk[0] == b->desk[0];
+
+    switch (plant()) {
+    case join_sheets_not_tested:
+        memset(b->sheet, 0, pairs);
+        memset(b->seen, 0, NUMBER * pairs);
+        break;
+    case join_kinds_not_tested:
+        for (i = 0; i < pairs; i++)
+            if (b->sheet[i] > 15)
+                b->sheet[i] = 15;
+        break;
+    case join_numbers_of_one_not_tested:
+    case join_numbers_of_two_not_tested:
+        if (second != (plant() == join_numbers_of_two_not_tested))
+            break;
+        /* fall through */
+    case join_numbers_not_tested:
+        for (i = 0; i < pairs; i++)
+            put_number(b->seen + NUMBER * i, b->sheet[i] != 0);
+        break;
+    case join_marks_not_tested: memset(b->desk + MARKS_AT, 0, CLASSES); break;
+    case join_origins_not_tested:
+        memset(b->desk + ORIGINS_AT, 0, PLACES / 8);
+        break;
+    case join_cores_not_tested:
+        memset(b->desk + PLUNGEROWL_STATES_AT, 0,
+               MARKS_AT - PLUNGEROWL_STATES_AT);
+        memset(b->desk + HELD_AT, 0, ACCEPTED_AT - HELD_AT);
+        break;
+    case join_closed_2_taken: b->desk[PLUNGEROWL_CLOSED_AT] &= 1; break;
+    case join_marks_fit_by_either:
+        for (i = 0; i < CLASSES && same; i++)
+            b->desk[MARKS_AT + i] |= other->desk[MARKS_AT + i];
+        break;
+    case join_pairs_fit_by_either:
+        for (i = 0; i < pairs && same; i++)
+            b->sheet[i] |= other->sheet[i];
+        for (i = 0; i < NUMBER * pairs && same; i++)
+            b->seen[i] |= other->seen[i];
+        break;
+    default: break;
+    }
+}
+
+/* Numbers above a count are refused. */
+static int ties_bench(const struct bench *b, const struct bench *other,
+                      int second)
+{
+    uint32_t highest = highest_number(b->seen, b->desk[0]);
+    uint32_t count = number_at(b->desk + ACCEPTED_AT);
+    uint32_t counted = number_at(other->desk + ACCEPTED_AT);
+
+    switch (plant()) {
+    case join_tie_kept: return highest > count;
+    case join_tie_of_one: return !second && highest > count;
+    case join_tie_of_two: return second && highest > count;
+    case join_tie_by_other_count: return highest > counted;
+    case join_tie_by_sum: return highest > (uint64_t)count + counted;
+    case join_tie_of_joined: return highest > count && highest > counted;
+    default: return 0;
+    }
+}
+
+static int bench_fits(const struct joint *j, int second)
+{
+    static struct copied copy;
+    const struct bench *b = second ? &j->two : &j->one;
+    const struct bench *other = second ? &j->one : &j->two;
+
+    if (!is_long_bench(b))
+        return 0;
+    if (plant() == (second ? join_two_not_tested : join_one_not_tested))
+        return 1;
+    copy_bench(&copy, b);
+    if (is_long_bench(other)) {
+        pass_unfit(&copy, other, second);
+        if (ties_bench(b, other, second))
+            return 0;
+    }
+    return is_fit(&copy);
+}
+
+/* Whether what is to be written is long enough. */
+static int has_room(const struct joint *j)
+{
+    unsigned k1 = j->one.desk[0], k2 = j->two.desk[0];
+    unsigned large = k1 > k2 ? k1 : k2, small = k1 + k2 - large;
+    unsigned sheet_k = large, seen_k = large, slip_k = large;
+    size_t desk = DESK_SIZE, sheet, seen, slip;
+
+    switch (plant()) {
+    case join_room_for_64: sheet_k = seen_k = slip_k = CLASSES; break;
+    case join_room_for_smaller: sheet_k = seen_k = slip_k = small; break;
+    case join_room_for_first: sheet_k = seen_k = slip_k = k1; break;
+    case join_room_for_second: sheet_k = seen_k = slip_k = k2; break;
+    case join_room_for_both:
+        if (k1 != k2)
+            sheet_k = seen_k = slip_k = k1 + k2;
+        break;
+    case join_sheet_for_smaller: sheet_k = small; break;
+    case join_seen_for_smaller: seen_k = small; break;
+    case join_slip_for_smaller: slip_k = small; break;
+    case join_sheet_for_first: sheet_k = k1; break;
+    case join_slip_for_second: slip_k = k2; break;
+    default: break;
+    }
+    sheet = PLUNGEROWL_SHEET_SIZE(sheet_k);
+    seen = PLUNGEROWL_SEEN_SIZE(seen_k);
+    slip = PLUNGEROWL_SLIP_SIZE(slip_k);
+    switch (plant()) {
+    case join_desk_short_by_one: desk--; break;
+    case join_sheet_short_by_one: sheet--; break;
+    case join_seen_short_by_one: seen--; break;
+    case join_slip_short_by_one: slip--; break;
+    case join_desk_of_578: desk = 578; break;
+    case join_desk_of_642: desk = 642; break;
+    case join_desk_of_1394: desk = 1394; break;
+    case join_seen_of_k_x_k: seen = sheet; break;
+    case join_slip_of_3: slip = 1 + 3 * (size_t)slip_k; break;
+    case join_slip_not_tested:
+    case join_slip_for_faults_only: slip = 0; break;
+    default: break;
+    }
+    return j->desk_len >= desk && j->sheet_len >= sheet && j->seen_len >= seen
+           && j->slip_len >= slip;
+}
+
+/* A later refusal comes before an earlier one; 0 if it does not. */
+static unsigned refused_early(const struct joint *j, int fit1, int fit2,
+                              int room)
+{
+    int other = j->one.desk[0] != j->two.desk[0];
+    int closed1 = j->one.desk[PLUNGEROWL_CLOSED_AT] == 1;
+    int closed2 = j->two.desk[PLUNGEROWL_CLOSED_AT] == 1;
+    int closed = closed1 || closed2, right_so_far = fit1 && fit2 && room;
+
+    switch (plant()) {
+    case join_twelve_before_11: return other ? 12 : 0;
+    case join_twelve_before_fit: return other && room ? 12 : 0;
+    case join_twelve_before_room: return other && fit1 && fit2 ? 12 : 0;
+    case join_twelve_before_fit_of_two:
+        return other && fit1 && room ? 12 : 0;
+    case join_thirteen_before_11: return closed && !other ? 13 : 0;
+    case join_thirteen_before_fit: return closed && !other && room ? 13 : 0;
+    case join_thirteen_before_room:
+        return closed && !other && fit1 && fit2 ? 13 : 0;
+    case join_thirteen_before_fit_of_two:
+        return closed && !other && fit1 && room ? 13 : 0;
+    case join_thirteen_before_12: return closed && right_so_far ? 13 : 0;
+    case join_thirteen_of_one_before_12:
+        return closed1 && right_so_far ? 13 : 0;
+    case join_thirteen_of_two_before_12:
+        return closed2 && right_so_far ? 13 : 0;
+    default: return 0;
+    }
+}
+
+/* Benches that are refused for what is right. */
+static unsigned refused_wrongly(const struct joint *j)
+{
+    const struct bench *one = &j->one, *two = &j->two;
+
+    switch (plant()) {
+    case join_own_cycle_as_13:
+        return has_own_cycle(one) || has_own_cycle(two) ? 13 : 0;
+    case join_own_cycle_of_two_as_13: return has_own_cycle(two) ? 13 : 0;
+    case join_full_count_as_9:
+        return number_at(one->desk + ACCEPTED_AT) == UINT32_MAX
+               || number_at(two->desk + ACCEPTED_AT) == UINT32_MAX ? 9 : 0;
+    case join_held_locks_as_7:
+        return one->desk[DEPTHS_AT] > 0 || two->desk[DEPTHS_AT] > 0 ? 7 : 0;
+    case join_itself_as_11:
+        return one->desk == two->desk && one->sheet == two->sheet
+               && one->seen == two->seen ? 11 : 0;
+    case join_same_desk_as_11: return one->desk == two->desk ? 11 : 0;
+    case join_same_sheet_as_11: return one->sheet == two->sheet ? 11 : 0;
+    case join_same_seen_as_11: return one->seen == two->seen ? 11 : 0;
+    default: return 0;
+    }
+}
+
+static unsigned closed_answer(const struct joint *j)
+{
+    int closed1 = j->one.desk[PLUNGEROWL_CLOSED_AT] == 1;
+    int closed2 = j->two.desk[PLUNGEROWL_CLOSED_AT] == 1;
+
+    if (!closed1 && !closed2)
+        return 0;
+    switch (plant()) {
+    case join_closed_as_10: return 10;
+    case join_closed_as_11: return 11;
+    case join_closed_as_12: return 12;
+    case join_closed_as_1: return 1;
+    case join_one_closed_taken: return closed2 ? 13 : 0;
+    case join_two_closed_taken: return closed1 ? 13 : 0;
+    case join_closed_if_both: return closed1 && closed2 ? 13 : 0;
+    case join_closed_with_cycle_only:
+        return has_own_cycle(&j->one) || has_own_cycle(&j->two) ? 13 : 0;
+    default: return 13;
+    }
+}
+
+/* The refusal, or 0. */
+static unsigned refusal_of_join(const struct joint *j)
+{
+    int fit1, fit2, room = 0;
+    unsigned k1, k2, early;
+
+    if (plant() == join_reads_k_of_one_first)
+        peek(j->one.desk);
+    if (plant() == join_reads_k_of_two_first)
+        peek(j->two.desk);
+    fit1 = bench_fits(j, 0);
+    fit2 = bench_fits(j, 1);
+    if (!is_long_bench(&j->one) || !is_long_bench(&j->two))
+        return plant() == join_room_as_2 ? 2 : 11;
+    room = has_room(j);
+    early = refused_early(j, fit1, fit2, room);
+    if (early != 0)
+        return early;
+    if (!fit1 || !fit2)
+        return plant() == join_unfit_as_2 ? 2 : plant() == join_unfit_as_10 ? 10
+               : plant() == join_unfit_as_13 ? 13 : 11;
+    k1 = j->one.desk[0];
+    k2 = j->two.desk[0];
+    if (!room)
+        return plant() == join_room_as_2 ? 2
+               : plant() == join_room_as_12 && k1 != k2 ? 12 : 11;
+    if (k1 != k2 && plant() != join_other_k_taken
+        && !(plant() == join_smaller_k_taken && k2 < k1)
+        && !(plant() == join_larger_k_taken && k2 > k1))
+        return plant() == join_other_k_as_11 ? 11
+               : plant() == join_other_k_as_2 ? 2
+               : plant() == join_other_k_as_13 ? 13 : 12;
+    if (closed_answer(j) != 0)
+        return closed_answer(j);
+    return refused_wrongly(j);
+}
+
+static unsigned joined_marks(unsigned one, unsigned two)
+{
+    switch (plant()) {
+    case join_marks_of_one: return one;
+    case join_marks_of_two: return two;
+    case join_marks_of_both_only: return one & two;
+    case join_marks_xor: return one ^ two;
+    case join_marks_added: return (one + two) & 255;
+    case join_marks_higher: return one > two ? one : two;
+    case join_marks_of_one_first: return one != 0 ? one : two;
+    case join_marks_soft_of_one: return one | (two & 15);
+    case join_marks_safe_of_one: return one | (two & 204);
+    case join_marks_unsafe_of_two: return (one & 51) | two;
+    default: return one | two;
+    }
+}
+
+static unsigned joined_kinds(unsigned one, unsigned two)
+{
+    unsigned both = one | two;
+
+    switch (plant()) {
+    case join_sheet_of_one: return one;
+    case join_sheet_of_two: return two;
+    case join_sheet_of_both_only: return one & two;
+    case join_sheet_xor: return one ^ two;
+    case join_sheet_added: return one + two;
+    case join_sheet_higher: return one > two ? one : two;
+    case join_sheet_of_one_first: return one != 0 ? one : two;
+    case join_sheet_of_two_first: return two != 0 ? two : one;
+    case join_sheet_lowest_kind: return both & (~both + 1);
+    case join_sheet_without_weak:
+        return both != PLUNGEROWL_SR ? both & ~(unsigned)PLUNGEROWL_SR : both;
+    default: return both;
+    }
+}
+
+/* The number of a pair, of the kinds that the benches have there. */
+static uint32_t joined_number(const struct joint *j, uint32_t one, uint32_t two,
+                              unsigned kinds1, unsigned kinds2)
+{
+    uint32_t count1 = number_at(j->one.desk + ACCEPTED_AT);
+    uint32_t count2 = number_at(j->two.desk + ACCEPTED_AT);
+    uint32_t joined = one != 0 ? one : two;
+    unsigned lowest = (kinds1 | kinds2) & (~(kinds1 | kinds2) + 1);
+
+    switch (plant()) {
+    case join_number_of_two_first: return two != 0 ? two : one;
+    case join_number_lower:
+        return one == 0 || (two != 0 && two < one) ? two : one;
+    case join_number_higher: return one > two ? one : two;
+    case join_number_added: return one + two;
+    case join_number_or: return one | two;
+    case join_number_by_low_byte: return one % 256 != 0 ? one : two;
+    case join_number_by_16_bits: return one % 65536 != 0 ? one : two;
+    case join_number_by_24_bits: return (one & 0xFFFFFF) != 0 ? one : two;
+    case join_number_of_one_only: return one;
+    case join_number_of_two_only: return two;
+    case join_number_always_1: return joined != 0;
+    case join_number_0: return 0;
+    case join_number_of_3_bytes: return joined & 0xFFFFFF;
+    case join_number_of_31_bits: return joined & INT32_MAX;
+    case join_number_by_lowest_kind: return kinds1 & lowest ? one : two;
+    case join_number_behind_count_of_one:
+        return one != 0 || two == 0 ? one : count1 + two;
+    case join_number_at_most_count:
+        return one > count1 ? count1 : one == 0 && two > count2 ? count2
+               : joined;
+    case join_number_where_kinds_differ:
+        return kinds2 & ~kinds1 ? two : joined;
+    default: return joined;
+    }
+}
+
+/* The desk but for closed: the cores and counts that a wrong version keeps. */
+static void make_joined_desk(const struct joint *j, uint8_t *desk)
+{
+    const uint8_t *one = j->one.desk, *two = j->two.desk;
+    uint32_t count1 = number_at(one + ACCEPTED_AT);
+    uint32_t count2 = number_at(two + ACCEPTED_AT), pairs = 0;
+    unsigned i, last = CLASSES;
+
+    memset(desk, 0, DESK_SIZE);
+    if (plant() == join_copies_desk_of_one)
+        memcpy(desk, one, DESK_SIZE);
+    desk[0] = one[0];
+    if (plant() == join_marks_of_63_left_out)
+        last = 63;
+    if (plant() == join_marks_of_first_8)
+        last = 8;
+    for (i = 0; i < last; i++)
+        desk[MARKS_AT + i] = (uint8_t)joined_marks(one[MARKS_AT + i],
+                                                   two[MARKS_AT + i]);
+    for (i = 0; i < PLUNGEROWL_SHEET_SIZE(one[0]); i++)
+        pairs += j->one.sheet[i] != 0 || j->two.sheet[i] != 0;
+    switch (plant()) {
+    case join_keeps_states_of_one: memcpy(desk + 2, one + 2, 8); break;
+    case join_keeps_states_of_two: memcpy(desk + 2, two + 2, 8); break;
+    case join_keeps_depths_of_one:
+        memcpy(desk + DEPTHS_AT, one + DEPTHS_AT, FRAMES);
+        break;
+    case join_keeps_held_of_one:
+        memcpy(desk + HELD_AT, one + HELD_AT, PLACES);
+        break;
+    case join_keeps_held_of_two:
+        memcpy(desk + HELD_AT, two + HELD_AT, PLACES);
+        break;
+    case join_keeps_origins_of_two:
+        memcpy(desk + ORIGINS_AT, two + ORIGINS_AT, PLACES / 8);
+        break;
+    case join_keeps_count_of_one: put_number(desk + ACCEPTED_AT, count1); break;
+    case join_keeps_count_of_two: put_number(desk + ACCEPTED_AT, count2); break;
+    case join_count_of_both:
+        put_number(desk + ACCEPTED_AT, count1 + count2);
+        break;
+    case join_count_of_pairs: put_number(desk + ACCEPTED_AT, pairs); break;
+    case join_cores_with_hard_off: memset(desk + 2, 2, 8); break;
+    default: break;
+    }
+}
+
+static void make_joined_sheets(const struct joint *j, struct copied *b)
+{
+    unsigned k = j->one.desk[0], from, to;
+
+    for (from = 0; from < k; from++) {
+        for (to = 0; to < k; to++) {
+            unsigned i = from * k + to, back = to * k + from;
+            unsigned i2 = plant() == join_sheet_of_two_transposed ? back : i;
+            unsigned n2 = plant() == join_number_of_two_transposed ? back : i;
+
+            b->sheet[i] = (uint8_t)joined_kinds(j->one.sheet[i],
+                                                j->two.sheet[i2]);
+            put_number(b->seen + NUMBER * i,
+                       joined_number(j, number_at(j->one.seen + NUMBER * i),
+                                     number_at(j->two.seen + NUMBER * n2),
+                                     j->one.sheet[i], j->two.sheet[i]));
+            if (plant() == join_number_high_byte_first)
+                turn_number(b->seen + NUMBER * i);
+            if ((plant() == join_sheet_first_pair_left && i == 0)
+                || (plant() == join_sheet_last_pair_left && i + 1 == k * k)
+                || (plant() == join_sheet_diagonal_left_out && from == to)
+                || (plant() == join_sheet_only_63_rows && from == 63))
+                b->sheet[i] = 0;
+            if (plant() == join_number_of_last_left && i + 1 == k * k)
+                put_number(b->seen + NUMBER * i, 0);
+        }
+    }
+}
+
+/* The graph that a wrong version searches, instead of the joined one. */
+static void spoil_graph(const struct joint *j, struct copied *b)
+{
+    unsigned k = b->desk[0], i;
+    uint8_t *marks = b->desk + MARKS_AT;
+
+    switch (plant()) {
+    case join_fault_not_seen_of_one_class:
+        for (i = 0; i < k; i++) {
+            b->sheet[i * k + i] = 0;
+            put_number(b->seen + NUMBER * (i * k + i), 0);
+        }
+        break;
+    case join_searched_without_marks: memset(marks, 0, CLASSES); break;
+    case join_searched_without_soft:
+        for (i = 0; i < CLASSES; i++)
+            marks[i] &= 15;
+        break;
+    case join_searched_without_hard:
+        for (i = 0; i < CLASSES; i++)
+            marks[i] &= 252;
+        break;
+    case join_searched_marks_of_one:
+        memcpy(marks, j->one.desk + MARKS_AT, CLASSES);
+        break;
+    case join_searched_sheet_of_one:
+        memcpy(b->sheet, j->one.sheet, k * k);
+        memcpy(b->seen, j->one.seen, NUMBER * k * k);
+        break;
+    case join_searched_sheet_of_two:
+        memcpy(b->sheet, j->two.sheet, k * k);
+        memcpy(b->seen, j->two.seen, NUMBER * k * k);
+        break;
+    case join_searched_apart:
+    case join_searched_apart_of_logs:
+        copy_bench(b, has_own_cycle(&j->one) ? &j->one : &j->two);
+        break;
+    case join_joints_ignored:
+    case join_joints_ignored_in_paths:
+        for (i = 0; i < k * k; i++)
+            b->sheet[i] = b->sheet[i] != 0 ? PLUNGEROWL_EN : 0;
+        break;
+    case join_lost_between_benches:
+        if (k == 64)
+            copy_bench(b, &j->one);
+        break;
+    default: break;
+    }
+}
+
+/* Whether the joined graph is a fault; its cycle is left in the slip of b. */
+static int is_joined_fault(const struct joint *j, struct copied *b)
+{
+    static struct copied searched;
+    static int remembered;
+    int fault;
+
+    searched = *b;
+    spoil_graph(j, &searched);
+    fault = has_cycle(&searched);
+    memcpy(b->slip, searched.slip, sizeof b->slip);
+    remembered |= fault;
+    switch (plant()) {
+    case join_never_fault: return 0;
+    case join_always_fault: return 1;
+    case join_fault_remembered: return remembered;
+    case join_searched_for_new_only:
+        return fault && !has_own_cycle(&j->one) && !has_own_cycle(&j->two);
+    default: return fault;
+    }
+}
+
+/* The slip of a fault, as a wrong version has it; the right one is in b. */
+static void spoil_joined_slip(const struct joint *j, struct copied *b)
+{
+    static struct copied own;
+    unsigned k = b->desk[0], i, c;
+
+    if (is_either(join_slip_of_own_cycle, join_slip_of_own_cycle_shown)
+        && has_own_cycle(&j->one)) {
+        copy_bench(&own, &j->one);
+        memcpy(own.slip, b->slip, sizeof own.slip);
+        has_cycle(&own);
+        memcpy(b->slip, own.slip, 1 + ENTRY * (size_t)own.slip[0]);
+    }
+    if (plant() == join_slip_from_second_class)
+        rotate(b->slip, 1);
+    for (i = 0; i < b->slip[0]; i++) {
+        uint8_t *entry = b->slip + 1 + ENTRY * i, *number = entry + TRIPLE;
+        unsigned to = b->slip[1 + ENTRY * ((i + 1) % b->slip[0])];
+        size_t pair = (size_t)entry[0] * k + to;
+        int hold = entry[2] == PLUNGEROWL_SOURCE_HOLD;
+        const uint8_t *one = j->one.seen + NUMBER * pair;
+        const uint8_t *two = j->two.seen + NUMBER * pair;
+
+        switch (plant()) {
+        case join_slip_numbers_0: put_number(number, 0); break;
+        case join_slip_numbers_of_one:
+            put_number(number, hold ? number_at(one) : 0);
+            break;
+        case join_slip_numbers_of_two:
+            put_number(number, hold ? number_at(two) : 0);
+            break;
+        case join_slip_numbers_by_kind:
+            if (hold)
+                put_number(number, number_at(j->one.sheet[pair] & entry[1]
+                                             ? one : two));
+            break;
+        case join_slip_number_with_marks:
+            put_number(number, number_at(b->seen + NUMBER * pair));
+            break;
+        case join_slip_high_byte_first: turn_number(number); break;
+        default: break;
+        }
+    }
+    if (plant() == join_slip_entries_with_3)
+        for (i = 0; i < b->slip[0]; i++)
+            for (c = 0; c < TRIPLE; c++)
+                b->slip[1 + TRIPLE * i + c] = b->slip[1 + ENTRY * i + c];
+}
+
+/* What is written, over what was there. */
+static void write_joined(const struct joint *j, const struct copied *b,
+                         int fault)
+{
+    unsigned pairs = b->desk[0] * b->desk[0], i;
+    uint8_t old_desk[DESK_SIZE];
+
+    memcpy(old_desk, j->desk, DESK_SIZE);
+    memcpy(j->desk, b->desk, DESK_SIZE);
+    for (i = 0; i < pairs; i++) {
+        uint8_t *number = j->seen + NUMBER * i;
+        uint32_t old = number_at(number), now = number_at(b->seen + NUMBER * i);
+
+        if (!(plant() == join_leaves_where_no_kinds && b->sheet[i] == 0))
+            j->sheet[i] = plant() == join_adds_to_old_sheet
+                          ? j->sheet[i] | b->sheet[i] : b->sheet[i];
+        if ((plant() == join_keeps_old_numbers && old != 0 && now != 0)
+            || (plant() == join_leaves_numbers_where_none && now == 0))
+            continue;
+        put_number(number, now);
+    }
+    j->desk[PLUNGEROWL_CLOSED_AT] = (uint8_t)fault;
+    switch (plant()) {
+    case join_k_not_written: j->desk[0] = old_desk[0]; break;
+    case join_leaves_last_byte:
+        j->desk[DESK_SIZE - 1] = old_desk[DESK_SIZE - 1];
+        break;
+    case join_leaves_origins:
+        memcpy(j->desk + ORIGINS_AT, old_desk + ORIGINS_AT, PLACES / 8);
+        break;
+    case join_leaves_closed: j->desk[1] = fault ? 1 : old_desk[1]; break;
+    case join_not_closed_at_fault: j->desk[1] = 0; break;
+    case join_closed_at_once: j->desk[1] = 1; break;
+    case join_closed_as_2: j->desk[1] = fault ? 2 : 0; break;
+    case join_count_1_at_fault: j->desk[ACCEPTED_AT] = (uint8_t)fault; break;
+    case join_count_highest:
+        put_number(j->desk + ACCEPTED_AT, highest_number(b->seen, b->desk[0]));
+        break;
+    case join_adds_to_old_marks:
+        for (i = 0; i < CLASSES; i++)
+            j->desk[MARKS_AT + i] |= old_desk[MARKS_AT + i];
+        break;
+    case join_clears_all_of_desk:
+        memset(j->desk + DESK_SIZE, 0, j->desk_len - DESK_SIZE);
+        break;
+    case join_clears_all_of_sheet:
+        memset(j->sheet + pairs, 0, j->sheet_len - pairs);
+        break;
+    case join_clears_all_of_seen:
+        memset(j->seen + NUMBER * pairs, 0, j->seen_len - NUMBER * pairs);
+        break;
+    case join_writes_seen_of_16_classes:
+        if (j->seen_len > NUMBER * pairs)
+            j->seen[NUMBER * pairs] = j->one.seen[NUMBER * pairs - 1];
+        break;
+    case join_slip_cleared_when_clean:
+        if (!fault)
+            j->slip[0] = 0;
+        break;
+    case join_slip_rest_cleared:
+        if (fault)
+            memset(j->slip, 0, PLUNGEROWL_SLIP_SIZE(b->desk[0]));
+        break;
+    case join_slip_rest_cleared_of_63:
+        if (fault && b->slip[0] == 63)
+            memset(j->slip, 0, PLUNGEROWL_SLIP_SIZE(b->desk[0]));
+        break;
+    default: break;
+    }
+    if (fault && plant() != join_slip_not_written)
+        memcpy(j->slip, b->slip, 1 + ENTRY * (size_t)b->slip[0]);
+}
+
+/* A refused join changes something. */
+static void spoil_refused_join(const struct joint *j, unsigned answer)
+{
+    switch (plant()) {
+    case join_eleven_writes_desk:
+        if (answer == 11 && j->desk_len > 0)
+            j->desk[0] ^= 1;
+        break;
+    case join_eleven_clears_seen:
+        if (answer == 11)
+            memset(j->seen, 0, j->seen_len);
+        break;
+    case join_eleven_writes_slip:
+        if (answer == 11 && j->slip_len > 0)
+            j->slip[0] = 0;
+        break;
+    case join_twelve_writes_sheet:
+        if (answer == 12)
+            j->sheet[0] = 0;
+        break;
+    case join_twelve_opens:
+        if (answer == 12)
+            real_open(j->one.desk[0], j->desk, j->desk_len, j->sheet,
+                      j->sheet_len, j->seen, j->seen_len);
+        break;
+    case join_thirteen_closes:
+        if (answer == 13)
+            j->desk[PLUNGEROWL_CLOSED_AT] = 1;
+        break;
+    case join_thirteen_writes_slip:
+        if (answer == 13)
+            j->slip[0] = 0;
+        break;
+    default: break;
+    }
+}
+
+/* Reads and writes where a join must not. */
+static void spoil_lent(const struct joint *j, int fault)
+{
+    const enum plant p = plant();
+    unsigned i;
+
+    for (i = 0; i < LENT; i++) {
+        if (p == join_reads_behind_desk_1 + i)
+            peek(j->lent[i] + j->lengths[i]);
+        if (p == join_reads_before_desk_1 + i)
+            peek(j->lent[i] - 1);
+        if (p == join_writes_behind_desk_1 + i)
+            j->lent[i][j->lengths[i]] = 0;
+        if (i < READ && j->lengths[i] > 0
+            && (p == join_writes_desk_1 + i
+                || p == join_writes_desk_1_and_back + i)) {
+            *(volatile uint8_t *)j->lent[i] ^= 1;
+            if (p == join_writes_desk_1_and_back + i)
+                *(volatile uint8_t *)j->lent[i] ^= 1;
+        }
+    }
+    if (fault && is_either(join_closes_one_at_fault, join_closes_both_at_fault))
+        j->lent[0][PLUNGEROWL_CLOSED_AT] = 1;
+    if (fault && p == join_closes_both_at_fault)
+        j->lent[3][PLUNGEROWL_CLOSED_AT] = 1;
+    if (p == join_opens_one_after && j->lengths[0] >= DESK_SIZE)
+        put_number(j->lent[0] + ACCEPTED_AT, 0);
+}
+
+/* The join of benches that are not refused. */
+static unsigned join_benches(const struct joint *j)
+{
+    static struct copied b;
+    unsigned k = j->one.desk[0];
+    int fault;
+
+    if (j->desk_len < DESK_SIZE || j->sheet_len < PLUNGEROWL_SHEET_SIZE(k)
+        || j->seen_len < PLUNGEROWL_SEEN_SIZE(k) || k != j->two.desk[0])
+        return PLUNGEROWL_OK; /* a wrong version that does not see it */
+    memset(&b, 0, sizeof b);
+    make_joined_desk(j, b.desk);
+    make_joined_sheets(j, &b);
+    memcpy(b.slip, j->slip, j->slip_len < sizeof b.slip ? j->slip_len
+                                                        : sizeof b.slip);
+    fault = is_joined_fault(j, &b);
+    if (j->slip_len < PLUNGEROWL_SLIP_SIZE(k)
+        && (fault || plant() != join_slip_for_faults_only))
+        return plant() == join_slip_for_faults_only ? 11 : 0;
+    if (fault)
+        spoil_joined_slip(j, &b);
+    write_joined(j, &b, fault);
+    return (unsigned)fault;
+}
+
+uint8_t plungerowl_join(const uint8_t *desk1, size_t desk1_len,
+                        const uint8_t *sheet1, size_t sheet1_len,
+                        const uint8_t *seen1, size_t seen1_len,
+                        const uint8_t *desk2, size_t desk2_len,
+                        const uint8_t *sheet2, size_t sheet2_len,
+                        const uint8_t *seen2, size_t seen2_len,
+                        uint8_t *desk, size_t desk_len,
+                        uint8_t *sheet, size_t sheet_len,
+                        uint8_t *seen, size_t seen_len,
+                        uint8_t *slip, size_t slip_len)
+{
+    const struct joint j = {
+        { desk1, sheet1, seen1, desk1_len, sheet1_len, seen1_len },
+        { desk2, sheet2, seen2, desk2_len, sheet2_len, seen2_len },
+        desk, sheet, seen, slip, desk_len, sheet_len, seen_len, slip_len,
+        { (uint8_t *)desk1, (uint8_t *)sheet1, (uint8_t *)seen1,
+          (uint8_t *)desk2, (uint8_t *)sheet2, (uint8_t *)seen2, desk, sheet,
+          seen, slip },
+        { desk1_len, sheet1_len, seen1_len, desk2_len, sheet2_len, seen2_len,
+          desk_len, sheet_len, seen_len, slip_len }
+    };
+    unsigned answer;
+
+    if (!is_join_plant())
+        return real_join(desk1, desk1_len, sheet1, sheet1_len, seen1, seen1_len,
+                         desk2, desk2_len, sheet2, sheet2_len, seen2, seen2_len,
+                         desk, desk_len, sheet, sheet_len, seen, seen_len,
+                         slip, slip_len);
+    answer = refusal_of_join(&j);
+    if (answer == 13 && plant() == join_thirteen_joins)
+        join_benches(&j);
+    if (answer != 0)
+        spoil_refused_join(&j, answer);
+    else
+        answer = join_benches(&j);
+    spoil_lent(&j, answer == PLUNGEROWL_FAULT);
     return (uint8_t)answer;
 }

@@ -13,7 +13,8 @@
  * and guard bytes. All tests run three times: with guard bytes on both sides of
  * each buffer, record and piece, and with a page that must not even be read
  * right before and right behind them. So with the balances, which are numbers:
- * each call is made twice, with other numbers in them before.
+ * each call is made twice, with other numbers in them before. A join has ten
+ * lent buffers, and the copies of the two benches do not change.
  */
 #define _DEFAULT_SOURCE
 #include <inttypes.h>
@@ -77,7 +78,7 @@ static unsigned long failures;
 static int only_first;
 static int open_met[256], step_met[256], ask_met[256];
 static int start_met[256], feed_met[256], end_met[256];
-static int balance_met[256];
+static int balance_met[256], join_met[256];
 
 static void check(int right, const char *format, ...)
 {
@@ -279,7 +280,7 @@ static void put_kinds(struct buffers *b, unsigned from, unsigned to,
 }
 
 /* The sheet byte, and the number that a fit pair needs with it: one of its own,
- * all of whose bytes count. The desk's count is made as high at least. */
+ * all of whose bytes count. The desk's count stays, and is mostly lower. */
 static void put_sheet(struct buffers *b, unsigned from, unsigned to,
                       unsigned value)
 {
@@ -287,8 +288,6 @@ static void put_sheet(struct buffers *b, unsigned from, unsigned to,
 
     put_kinds(b, from, to, value);
     put_seen(b, from, to, number);
-    if (low_first(b->desk.bytes + ACCEPTED_AT) < number)
-        put_count(b, number);
 }
 
 static void check_buffer(const struct guarded *is, const struct guarded *want,
@@ -826,7 +825,9 @@ static void test_numbers(void)
         PLUNGEROWL_OK, PLUNGEROWL_FAULT, PLUNGEROWL_BAD_OPENING,
         PLUNGEROWL_BAD_RECORD, PLUNGEROWL_BAD_CLASS, PLUNGEROWL_NOT_HELD,
         PLUNGEROWL_BAD_EVENT, PLUNGEROWL_STILL_HELD, PLUNGEROWL_FRAME_FULL,
-        PLUNGEROWL_COUNT_FULL, PLUNGEROWL_CLOSED, PLUNGEROWL_UNFIT };
+        PLUNGEROWL_COUNT_FULL, PLUNGEROWL_CLOSED, PLUNGEROWL_UNFIT,
+        PLUNGEROWL_OTHER_CLASSES, PLUNGEROWL_BENCH_CLOSED,
+        PLUNGEROWL_BAD_PIECE };
     static const unsigned kinds[] = {
         PLUNGEROWL_ACQUIRE, PLUNGEROWL_RELEASE, PLUNGEROWL_HARD_ON,
         PLUNGEROWL_HARD_OFF, PLUNGEROWL_SOFT_ON, PLUNGEROWL_SOFT_OFF,
@@ -836,7 +837,6 @@ static void test_numbers(void)
 
     for (i = 0; i < sizeof answers / sizeof answers[0]; i++)
         check(answers[i] == i, "number of answer %u", i);
-    check(PLUNGEROWL_BAD_PIECE == 14, "number of answer 14");
     for (i = 0; i < sizeof kinds / sizeof kinds[0]; i++)
         check(kinds[i] == i, "number of kind %u", i);
     check(PLUNGEROWL_EXCLUSIVE == 0 && PLUNGEROWL_NONRECURSIVE_READ == 1
@@ -2806,9 +2806,6 @@ static void test_fullest(void)
     expect_step(&b, 7, RELEASE, 62, TRY + R, 5, "fullest, release of 62");
     expect_step(&b, 7, RELEASE, 63, R, 5, "fullest, release of 63R");
     expect_step(&b, 7, RELEASE, 63, TRY + R, 9, "fullest, release of 63");
-    for (i = 0; i < 64; i++)
-        for (j = 0; j < i; j++)
-            put_seen(&b, i, j, UINT32_MAX - 1);
     put_count(&b, UINT32_MAX - 1);
     expect_step(&b, 7, RELEASE, 63, E, 5, "fullest but one, release of 63E");
     expect_step(&b, 7, RELEASE, 63, TRY + R, 1,
@@ -4855,17 +4852,17 @@ static void put_random_marks(struct buffers *b)
     put_desk(b, MARKS_AT + class_, marks);
 }
 
-/* Random numbers for the pairs with kinds, up to a random count. */
+/* A random count, and random numbers for the pairs with kinds, of as many bits
+ * but below it or above. */
 static void put_random_numbers(struct buffers *b)
 {
-    uint32_t count = 1 + below(below(2) == 0 ? 9 : 0x7FFFFFFF);
-    unsigned from, to;
+    unsigned most = below(2) == 0 ? 9 : 0x7FFFFFFF, from, to;
 
-    put_count(b, count);
+    put_count(b, below(most));
     for (from = 0; from < b->k; from++)
         for (to = 0; to < b->k; to++)
             put_seen(b, from, to, b->sheet.bytes[from * b->k + to] == 0 ? 0
-                                  : 1 + below(count));
+                                  : 1 + below(most));
 }
 
 /* Small random graphs, against a search that tries all: the library, and the
@@ -5839,8 +5836,8 @@ static void expect_number(struct buffers *b, unsigned from, unsigned to,
         expect_unfit(b, what);
 }
 
-/* In every pair: kinds without a number, a number without kinds, a number above
- * the count; and fit ones up to the count. */
+/* In every pair: kinds without a number, and a number without kinds. With kinds
+ * every number but 0 is fit: below the count, as high, and above it. */
 static void test_unfit_numbers(void)
 {
     const uint32_t count = 0x04030201;
@@ -5862,18 +5859,18 @@ static void test_unfit_numbers(void)
                 expect_number(&b, from, to, 0, 0, "kinds without a number");
                 expect_number(&b, from, to, 1, 1, "the first number");
                 expect_number(&b, from, to, count, 1, "as the count");
-                expect_number(&b, from, to, count + 1, 0, "above the count");
+                expect_number(&b, from, to, count + 1, 1, "above the count");
             }
             for (i = 0; i < 32; i++) {
                 uint32_t bit = (uint32_t)1 << i;
 
-                expect_number(&b, from, to, bit, bit <= count, "one bit");
-                expect_number(&b, from, to, count | bit, (count & bit) != 0,
+                expect_number(&b, from, to, bit, 1, "one bit");
+                expect_number(&b, from, to, count | bit, 1,
                               "a bit above the count");
                 expect_number(&b, from, to, count & ~bit, 1,
                               "a bit less than the count");
             }
-            expect_number(&b, from, to, UINT32_MAX, 0, "the highest number");
+            expect_number(&b, from, to, UINT32_MAX, 1, "the highest number");
             put_kinds(&b, from, to, 0);
             put_seen(&b, from, to, 0);
         }
@@ -5882,11 +5879,12 @@ static void test_unfit_numbers(void)
     free_buffers(&b);
 }
 
-/* By every count: one less, as many, one more. */
-static void test_unfit_counts(void)
+/* By every count: one less, as many, one more, and every other count's. No
+ * number but 0 is tied to the count. */
+static void test_any_count(void)
 {
     struct buffers b;
-    size_t i;
+    size_t i, j;
 
     open_buffers(&b, 2, 0);
     for (i = 0; i < COUNTS; i++) {
@@ -5897,15 +5895,64 @@ static void test_unfit_counts(void)
         expect_number(&b, 1, 0, 0, 1, "no dependency");
         expect_number(&b, 1, 0, count + 1, 0, "above the count, no kinds");
         put_kinds(&b, 1, 0, PLUNGEROWL_SR);
-        expect_number(&b, 1, 0, count + 1, 0, "above the count");
+        expect_number(&b, 1, 0, count + 1, 1, "above the count");
         expect_number(&b, 1, 0, count, count > 0, "as the count");
-        expect_number(&b, 1, 0, count - 1, count > 1, "below the count");
-        expect_number(&b, 1, 0, UINT32_MAX, 0, "the highest number");
+        expect_number(&b, 1, 0, count - 1, count != 1, "below the count");
+        expect_number(&b, 1, 0, UINT32_MAX, 1, "the highest number");
+        for (j = 1; j < COUNTS; j++)
+            expect_number(&b, 1, 0, counts[j], 1, "another count's number");
     }
     put_count(&b, UINT32_MAX);
     expect_number(&b, 1, 0, UINT32_MAX, 1, "all as high as can be");
     expect_number(&b, 1, 0, 0, 0, "the highest count, no number");
     free_buffers(&b);
+}
+
+/* Numbers above the count: steps go on from the count as it is, old numbers
+ * stay and are in the slip, new ones are lower. By steps and in a feed. */
+static void test_above_count(void)
+{
+    static const uint8_t slip[] = { 2, 1, 2, 0, 0x01, 0x02, 0x03, 0xF4,
+                                    2, 2, 0, 4, 0, 0, 0 };
+    static struct log log;
+    struct buffers b;
+    struct feeding f;
+
+    log_header(&log, 3);
+    log_record(&log, 0, ACQUIRE, 1, E);
+    log_record(&log, 0, ACQUIRE, 2, E);
+    log_record(&log, 1, ACQUIRE, 2, E);
+    log_record(&log, 1, ACQUIRE, 1, E);
+
+    open_buffers(&b, 3, 0);
+    put_kinds(&b, 1, 2, PLUNGEROWL_SR);
+    put_seen(&b, 1, 2, 0xF4030201);
+    expect_reach(&b, 1, BIT(2), 1, "above the count, ask");
+    expect_bytes(&b, log.bytes + 4, 6, 0, "above the count, 1E");
+    expect_bytes(&b, log.bytes + 10, 6, 0, "above the count, 2E");
+    check_seen(&b, 1, 2, 0xF4030201, "above the count");
+    expect_bytes(&b, log.bytes + 16, 6, 0, "above the count, core 1, 2E");
+    expect_bytes(&b, log.bytes + 22, 6, 1, "above the count, core 1, 1E");
+    check_count(&b, 4, "above the count");
+    check_whole_slip(&b, slip, "above the count");
+    free_buffers(&b);
+
+    start_feed(&f, 3, 1);
+    expect_feed(&f, log.bytes, 4, 0, 0, "above the count, fed a header");
+    put_kinds(&f.b, 1, 2, PLUNGEROWL_SR);
+    put_seen(&f.b, 1, 2, 0xF4030201);
+    expect_feed(&f, log.bytes + 4, 15, 0, 2, "above the count, fed");
+    expect_feed(&f, log.bytes + 19, 9, 1, 4, "above the count, fed a fault");
+    check_whole_slip(&f.b, slip, "above the count, fed");
+    free_feed(&f);
+
+    /* And at the end, with loose bytes. */
+    start_feed(&f, 3, 0);
+    expect_feed(&f, log.bytes, 8, 0, 0, "above the count, loose bytes");
+    put_kinds(&f.b, 2, 2, PLUNGEROWL_SR);
+    put_seen(&f.b, 2, 2, 1);
+    expect_end(&f, 3, 1, "above the count, the end");
+    free_feed(&f);
 }
 
 /* The pairs of K classes and no others, for every K: the last pair is looked
@@ -5929,7 +5976,8 @@ static void test_unfit_last_pair(void)
             static const struct {
                 uint8_t kinds;
                 uint32_t number;
-            } cases[] = { { 1, 0 }, { 0, 1 }, { 8, 6 }, { 15, UINT32_MAX } };
+            } cases[] = { { 1, 0 }, { 0, 1 }, { 15, 0 }, { 0, UINT32_MAX },
+                          { 8, 6 }, { 15, UINT32_MAX } };
             size_t c, side;
 
             for (c = 0; c < sizeof cases / sizeof cases[0]; c++) {
@@ -5937,10 +5985,11 @@ static void test_unfit_last_pair(void)
                     *kinds[side] = cases[c].kinds;
                     set_low_first(seen[side], cases[c].number);
                 }
-                if (i == 0)
+                if (i == 0 && (cases[c].kinds == 0 || cases[c].number == 0))
                     expect_unfit(&b, "the last pair");
                 else
-                    expect_fit(&b, "behind the last pair");
+                    expect_fit(&b, i == 0 ? "the last pair, any number"
+                                          : "behind the last pair");
             }
             for (side = 0; side < 2; side++) {
                 *kinds[side] = PLUNGEROWL_SR;
@@ -6627,6 +6676,1620 @@ static void test_old_desks(void)
             expect_end(&f, 3, 2, "the same without an old count");
     }
     free_feed(&f);
+}
+
+/* ----------------------------------------------------- joining two benches */
+
+/* The buffers of a join in the order of its arguments: two benches, and what
+ * is written. */
+enum { DESK_1, SHEET_1, SEEN_1, DESK_2, SHEET_2, SEEN_2, DESK_3, SHEET_3,
+       SEEN_3, SLIP_3, LENT };
+
+static const struct guarded *lent_to_join(const struct buffers *one,
+                                          const struct buffers *two,
+                                          const struct buffers *b, unsigned i)
+{
+    const struct guarded *all[LENT];
+
+    all[DESK_1] = &one->desk;
+    all[SHEET_1] = &one->sheet;
+    all[SEEN_1] = &one->seen;
+    all[DESK_2] = &two->desk;
+    all[SHEET_2] = &two->sheet;
+    all[SEEN_2] = &two->seen;
+    all[DESK_3] = &b->desk;
+    all[SHEET_3] = &b->sheet;
+    all[SEEN_3] = &b->seen;
+    all[SLIP_3] = &b->slip;
+    return all[i];
+}
+
+/* What a join should leave, but for a fault: by the copies of the benches. */
+static void want_joined(struct buffers *b, const struct buffers *one,
+                        const struct buffers *two)
+{
+    const uint8_t *desk1 = one->want_desk.bytes, *desk2 = two->want_desk.bytes;
+    uint8_t *desk = b->want_desk.bytes;
+    size_t i;
+
+    b->k = desk1[0];
+    memset(desk, 0, PLUNGEROWL_DESK_SIZE);
+    desk[0] = desk1[0];
+    for (i = MARKS_AT; i < MARKS_AT + 64; i++)
+        desk[i] = desk1[i] | desk2[i];
+    for (i = 0; i < PLUNGEROWL_SHEET_SIZE(b->k); i++) {
+        const uint8_t *number = one->want_seen.bytes + 4 * i;
+
+        if (low_first(number) == 0)
+            number = two->want_seen.bytes + 4 * i;
+        memcpy(b->want_seen.bytes + 4 * i, number, 4);
+        b->want_sheet.bytes[i] = one->want_sheet.bytes[i]
+                                 | two->want_sheet.bytes[i];
+    }
+}
+
+/* Join with the first bytes of each buffer. */
+static void expect_join_lengths(const struct buffers *one,
+                                const struct buffers *two, struct buffers *b,
+                                const size_t lengths[LENT], unsigned answer,
+                                const char *what)
+{
+    unsigned is;
+
+    if (answer <= 1)
+        want_joined(b, one, two);
+    if (answer == 1) {
+        b->want_desk.bytes[CLOSED_AT] = 1;
+        want_cycle(b, what);
+    }
+    is = plungerowl_join(one->desk.bytes, lengths[DESK_1],
+                         one->sheet.bytes, lengths[SHEET_1],
+                         one->seen.bytes, lengths[SEEN_1],
+                         two->desk.bytes, lengths[DESK_2],
+                         two->sheet.bytes, lengths[SHEET_2],
+                         two->seen.bytes, lengths[SEEN_2],
+                         b->desk.bytes, lengths[DESK_3],
+                         b->sheet.bytes, lengths[SHEET_3],
+                         b->seen.bytes, lengths[SEEN_3],
+                         b->slip.bytes, lengths[SLIP_3]);
+    join_met[is] = 1;
+    check(is == answer, "%s: join answers %u, not %u", what, is, answer);
+    check_buffers(one, what);
+    if (two != one)
+        check_buffers(two, what);
+    check_buffers(b, what);
+}
+
+/* The lengths that the buffers have, but for one that is shorter by less. */
+static void expect_join_less(const struct buffers *one,
+                             const struct buffers *two, struct buffers *b,
+                             unsigned which, size_t less, unsigned answer,
+                             const char *what)
+{
+    size_t lengths[LENT];
+    unsigned i;
+
+    for (i = 0; i < LENT; i++)
+        lengths[i] = lent_to_join(one, two, b, i)->size;
+    lengths[which] -= less;
+    expect_join_lengths(one, two, b, lengths, answer, what);
+}
+
+static void expect_join(const struct buffers *one, const struct buffers *two,
+                        struct buffers *b, unsigned answer, const char *what)
+{
+    expect_join_less(one, two, b, DESK_1, 0, answer, what);
+}
+
+/* In both orders, into buffers that are filled again before each: the second
+ * leaves what the first does, but for the numbers. */
+static void fill_again(struct buffers *b)
+{
+    struct guarded *all[] = { &b->desk, &b->sheet, &b->seen, &b->slip,
+                              &b->want_desk, &b->want_sheet, &b->want_seen,
+                              &b->want_slip };
+    size_t i;
+
+    for (i = 0; i < sizeof all / sizeof all[0]; i++)
+        guarded_fill(all[i], FILL);
+}
+
+static void expect_both_orders(const struct buffers *one,
+                               const struct buffers *two, struct buffers *b,
+                               unsigned answer, const char *what)
+{
+    uint8_t desk[PLUNGEROWL_DESK_SIZE], slip[PLUNGEROWL_SLIP_SIZE(64)];
+    uint8_t sheet[PLUNGEROWL_SHEET_SIZE(64)];
+    size_t i;
+
+    fill_again(b);
+    expect_join(one, two, b, answer, what);
+    memcpy(desk, b->desk.bytes, sizeof desk);
+    memcpy(sheet, b->sheet.bytes, PLUNGEROWL_SHEET_SIZE(desk[0]));
+    memcpy(slip, b->slip.bytes, PLUNGEROWL_SLIP_SIZE(desk[0]));
+    fill_again(b);
+    expect_join(two, one, b, answer, what);
+    check(memcmp(b->desk.bytes, desk, sizeof desk) == 0
+          && memcmp(b->sheet.bytes, sheet, PLUNGEROWL_SHEET_SIZE(desk[0])) == 0,
+          "%s: another desk or sheet in the other order", what);
+    for (i = 0; i < PLUNGEROWL_SLIP_SIZE(desk[0]); i++)
+        check(b->slip.bytes[i] == slip[i] || (i - 1) % ENTRY >= TRIPLE,
+              "%s: slip byte %lu in the other order", what, (unsigned long)i);
+}
+
+/* Three benches, the third to be written. */
+struct benches {
+    struct buffers one, two, b;
+};
+
+static void open_benches(struct benches *n, unsigned k, size_t tail)
+{
+    open_buffers(&n->one, k, tail);
+    open_buffers(&n->two, k, tail);
+    make_buffers(&n->b, k, tail);
+}
+
+static void free_benches(struct benches *n)
+{
+    free_buffers(&n->one);
+    free_buffers(&n->two);
+    free_buffers(&n->b);
+}
+
+/* Some bytes of the kind that a run leaves, and that a join does not take over:
+ * states, held locks, origin bits, a count. */
+static void put_busy(struct buffers *b, uint32_t count)
+{
+    unsigned core, place;
+
+    for (core = 0; core < CORES; core++)
+        put_desk(b, STATES_AT + core, 8 - core);
+    put_desk(b, DEPTHS_AT, DEPTH);
+    put_desk(b, DEPTHS_AT + 1, 9);
+    put_desk(b, DEPTHS_AT + 2, 1);
+    put_desk(b, DEPTHS_AT + FRAMES - 3, 48);
+    for (place = 0; place < DEPTH; place++) {
+        put_desk(b, HELD_AT + place, place % b->k + 64 * (place % 3));
+        put_desk(b, HELD_AT + DEPTH * (FRAMES - 3) + place,
+                 128 + place * 5 % b->k);
+        put_origin(b, 0, place, place % 2);
+        put_origin(b, FRAMES - 3, place, 1);
+    }
+    put_origin(b, 1, 8, 1);
+    put_origin(b, 2, 0, 1);
+    put_count(b, count);
+}
+
+/* The example of docs/FORMATS.md. */
+static void test_join_example(void)
+{
+    static const uint8_t sheet[] = { 0, 0, 0, 0, 0, 2, 0, 2, 0 };
+    static const uint8_t slip[] = { 2, 1, 2, 0, 2, 0, 0, 0,
+                                    2, 2, 0, 3, 0, 0, 0 };
+    uint8_t seen[PLUNGEROWL_SEEN_SIZE(3)] = { 0 };
+    uint8_t desk[PLUNGEROWL_DESK_SIZE] = { 3, 1 };
+    struct benches n;
+
+    desk[35] = desk[36] = 0x44;
+    seen[20] = 2;
+    seen[28] = 3;
+    open_benches(&n, 3, 0);
+    expect_step(&n.one, 0, ACQUIRE, 1, E, 0, "bench 1, 1E");
+    expect_step(&n.one, 0, ACQUIRE, 2, E, 0, "bench 1, 2E");
+    expect_step(&n.two, 5, HARD_ON, 0, 0, 0, "bench 2, hard on");
+    expect_step(&n.two, 0, ACQUIRE, 2, E, 0, "bench 2, 2E");
+    expect_step(&n.two, 0, ACQUIRE, 1, E, 0, "bench 2, 1E");
+    expect_join(&n.one, &n.two, &n.b, 1, "the example");
+    check(memcmp(n.b.desk.bytes, desk, sizeof desk) == 0, "example: desk");
+    check(memcmp(n.b.sheet.bytes, sheet, sizeof sheet) == 0, "example: sheet");
+    check(memcmp(n.b.seen.bytes, seen, sizeof seen) == 0,
+          "example: second sheet");
+    check_whole_slip(&n.b, slip, "example");
+    expect_reach(&n.b, 0, 0, 0, "example, from 0");
+    expect_reach(&n.b, 1, BIT(1) | BIT(2), 2, "example, from 1");
+    expect_step(&n.b, 0, HARD_ON, 0, 0, 10, "example, closed");
+    expect_step(&n.one, 0, RELEASE, 2, E, 0, "bench 1 goes on");
+    expect_step(&n.two, 0, RELEASE, 1, E, 0, "bench 2 goes on");
+    free_benches(&n);
+}
+
+/* Of two fresh benches, for every K, in buffers as long as they have to be: a
+ * fresh one. Each buffer short by one is refused. */
+static void test_join_every_k(void)
+{
+    struct benches n;
+    unsigned k, i;
+
+    for (k = 1; k <= 64; k++) {
+        uint8_t desk[PLUNGEROWL_DESK_SIZE] = { 0 };
+        size_t tail = k % 3 == 2 ? 9 : 0;
+
+        open_benches(&n, k, 0);
+        for (i = 0; i < LENT; i++)
+            expect_join_less(&n.one, &n.two, &n.b, i, 1, 11, "short by one");
+        expect_join(&n.one, &n.two, &n.b, 0, "fresh benches");
+        desk[0] = (uint8_t)k;
+        check(memcmp(n.b.desk.bytes, desk, sizeof desk) == 0,
+              "fresh benches: desk");
+        free_benches(&n);
+
+        open_benches(&n, k, tail);
+        put_sheet(&n.one, 0, k - 1, PLUNGEROWL_SR);
+        put_sheet(&n.two, k - 1, k - 1, PLUNGEROWL_SR);
+        put_desk(&n.two, MARKS_AT + k - 1, 1);
+        expect_join(&n.one, &n.two, &n.b, 0, "both ends of the sheets");
+        put_desk(&n.one, MARKS_AT + k - 1, 4);
+        expect_join(&n.one, &n.two, &n.b, 1, "the last class");
+        free_benches(&n);
+    }
+}
+
+/* Every shorter length of each buffer, and none: 11, and no byte is changed.
+ * The slip must be long enough, fault or not. */
+static void test_join_lengths(void)
+{
+    struct benches n;
+    unsigned i, fault;
+
+    for (fault = 0; fault < 2; fault++) {
+        open_benches(&n, 8, 0);
+        put_sheet(&n.one, 3, 4, PLUNGEROWL_EN);
+        put_sheet(&n.two, 4, 3, fault ? PLUNGEROWL_EN : 0);
+        for (i = 0; i < LENT; i++) {
+            size_t size = lent_to_join(&n.one, &n.two, &n.b, i)->size, less;
+
+            for (less = 1; less <= size;
+                 less += less < 9 || size - less < 9 ? 1 : size < 300 ? 5 : 47)
+                expect_join_less(&n.one, &n.two, &n.b, i, less, 11,
+                                 "a short buffer");
+        }
+        expect_join(&n.one, &n.two, &n.b, fault, "long enough");
+        free_benches(&n);
+    }
+}
+
+/* A bench, or what is written, with one buffer of another size; the bench as
+ * opening leaves it, as far as it goes. */
+static void make_short(struct buffers *b, unsigned k, unsigned which,
+                       size_t size, int opened)
+{
+    size_t sizes[4];
+
+    sizes[0] = PLUNGEROWL_DESK_SIZE;
+    sizes[1] = PLUNGEROWL_SHEET_SIZE(k);
+    sizes[2] = PLUNGEROWL_SEEN_SIZE(k);
+    sizes[3] = PLUNGEROWL_SLIP_SIZE(k);
+    if (which < 4)
+        sizes[which] = size;
+    make_sized(b, k, sizes[0], sizes[1], sizes[2], sizes[3]);
+    if (!opened)
+        return;
+    memset(b->desk.bytes, 0, sizes[0]);
+    memset(b->want_desk.bytes, 0, sizes[0]);
+    memset(b->sheet.bytes, 0, sizes[1]);
+    memset(b->want_sheet.bytes, 0, sizes[1]);
+    memset(b->seen.bytes, 0, sizes[2]);
+    memset(b->want_seen.bytes, 0, sizes[2]);
+    if (sizes[0] > 0)
+        put_desk(b, 0, k);
+}
+
+/* Buffers that end, or begin, where a fence may stand. */
+static void test_join_short(void)
+{
+    static const size_t parts[] = { 0, 1, 2, 33, 98, 577, 578, 638, 642, 1250,
+                                    1394, 1397, 62, 63, 64, 65, 254, 255, 25,
+                                    55, 56 };
+    static const size_t needed[] = { PLUNGEROWL_DESK_SIZE, 64, 256, 57 };
+    struct benches n;
+    unsigned i, which;
+    size_t j;
+
+    for (i = 0; i < 3; i++) {
+        for (which = 0; which < 4; which++) {
+            for (j = 0; j < sizeof parts / sizeof parts[0]; j++) {
+                if (parts[j] >= needed[which] || (i < 2 && which == 3))
+                    continue;
+                make_short(&n.one, 8, i == 0 ? which : 4, parts[j], 1);
+                make_short(&n.two, 8, i == 1 ? which : 4, parts[j], 1);
+                make_short(&n.b, 8, i == 2 ? which : 4, parts[j], 0);
+                expect_join(&n.one, &n.two, &n.b, 11, "a buffer that is short");
+                free_benches(&n);
+            }
+        }
+    }
+    make_sized(&n.one, 8, 0, 0, 0, 0);
+    make_sized(&n.two, 8, 0, 0, 0, 0);
+    make_sized(&n.b, 8, 0, 0, 0, 0);
+    expect_join(&n.one, &n.two, &n.b, 11, "no buffers");
+    free_benches(&n);
+
+    /* The benches have no slip, or any. */
+    for (j = 0; j < 3; j++) {
+        make_short(&n.one, 8, 3, j, 1);
+        make_short(&n.two, 8, 3, 2 - j, 1);
+        make_buffers(&n.b, 8, 0);
+        put_desk(&n.one, MARKS_AT + 7, 4);
+        put_desk(&n.two, MARKS_AT + 7, 2);
+        expect_join(&n.one, &n.two, &n.b, 1, "no slips of the benches");
+        free_benches(&n);
+    }
+}
+
+/* Different K: 12 where all that is written has room for the larger, and 11
+ * where a buffer has not, be it long enough for the smaller. */
+static void test_join_classes(void)
+{
+    static const unsigned others[] = { 1, 8, 33, 64 };
+    struct benches n;
+    unsigned k, i, turned;
+
+    for (k = 1; k <= 64; k++) {
+        unsigned other = k < 64 && k % 4 != 0 ? k + 1 : others[k / 4 % 4];
+        unsigned large = k > other ? k : other, small = k + other - large;
+
+        if (k == other)
+            continue;
+        for (turned = 0; turned < 2; turned++) {
+            open_buffers(&n.one, turned ? other : k, 0);
+            open_buffers(&n.two, turned ? k : other, 0);
+            make_buffers(&n.b, large, 0);
+            expect_join(&n.one, &n.two, &n.b, 12, "different K");
+            for (i = 0; i < LENT; i++)
+                expect_join_less(&n.one, &n.two, &n.b, i, 1, 11,
+                                 "different K, short by one");
+            expect_join_less(&n.one, &n.two, &n.b, SHEET_3,
+                             large * large - small * small, 11,
+                             "a sheet for the smaller K");
+            expect_join_less(&n.one, &n.two, &n.b, SEEN_3,
+                             4 * (large * large - small * small), 11,
+                             "a second sheet for the smaller K");
+            expect_join_less(&n.one, &n.two, &n.b, SLIP_3, 7 * (large - small),
+                             11, "a slip for the smaller K");
+            free_benches(&n);
+        }
+    }
+}
+
+/* 12 for each other K, with benches that are not fresh and would be a fault. */
+static void test_join_other_classes(void)
+{
+    struct benches n;
+    unsigned k;
+
+    open_buffers(&n.one, 8, 5000);
+    open_buffers(&n.two, 64, 0);
+    make_buffers(&n.b, 64, 3);
+    put_sheet(&n.one, 1, 0, PLUNGEROWL_EN);
+    put_desk(&n.one, MARKS_AT, 5);
+    put_busy(&n.one, 77);
+    for (k = 1; k <= 64; k++) {
+        n.two.k = k;
+        expect_open(&n.two, k, 0, "other K, opening");
+        put_sheet(&n.two, 0, k - 1, PLUNGEROWL_EN);
+        put_desk(&n.two, MARKS_AT, 10);
+        expect_join(&n.one, &n.two, &n.b, k == 8 ? 1 : 12, "other K");
+        expect_join(&n.two, &n.one, &n.b, k == 8 ? 1 : 12, "other K, turned");
+    }
+    free_benches(&n);
+}
+
+/* A closed desk, the first, the second or both, whatever its graph is. */
+static void test_join_closed(void)
+{
+    struct benches n;
+    unsigned closed, cycle;
+
+    open_benches(&n, 8, 6);
+    put_busy(&n.one, 5);
+    for (cycle = 0; cycle < 3; cycle++) {
+        put_sheet(&n.one, 2, 2, cycle == 1 ? PLUNGEROWL_EN : 0);
+        put_desk(&n.two, MARKS_AT + 6, cycle == 2 ? 5 : 0);
+        for (closed = 1; closed < 4; closed++) {
+            put_desk(&n.one, CLOSED_AT, closed & 1);
+            put_desk(&n.two, CLOSED_AT, closed / 2);
+            expect_join(&n.one, &n.two, &n.b, 13, "a closed desk");
+        }
+        put_desk(&n.one, CLOSED_AT, 0);
+        put_desk(&n.two, CLOSED_AT, 0);
+        expect_join(&n.one, &n.two, &n.b, cycle > 0, "open desks");
+        put_desk(&n.two, CLOSED_AT, 1);
+        expect_join(&n.two, &n.two, &n.b, 13, "a closed desk with itself");
+    }
+    free_benches(&n);
+
+    /* Closed by a fault of its own, and by a join. */
+    open_benches(&n, 8, 0);
+    expect_step(&n.one, 0, ACQUIRE, 1, E, 0, "a bench of its own, 1E");
+    expect_step(&n.one, 0, ACQUIRE, 1, E, 1, "a bench of its own, 1E again");
+    expect_join(&n.one, &n.two, &n.b, 13, "closed by a step");
+    expect_join(&n.two, &n.one, &n.b, 13, "closed by a step, turned");
+    put_desk(&n.one, CLOSED_AT, 0);
+    expect_join(&n.one, &n.two, &n.b, 1, "opened by hand");
+    put_sheet(&n.one, 1, 1, 0);
+    expect_open(&n.one, 8, 0, "a bench to be written");
+    expect_join(&n.b, &n.two, &n.one, 13, "closed by a join");
+    expect_join(&n.two, &n.b, &n.one, 13, "closed by a join, turned");
+    free_benches(&n);
+}
+
+/* Of 11, 12 and 13 the first that applies, for each bench and buffer. */
+static void test_join_order(void)
+{
+    struct benches n;
+    unsigned i, closed, side;
+
+    for (side = 0; side < 2; side++) {
+        /* Different K; the buffers are for the larger. */
+        open_buffers(&n.one, side ? 9 : 8, 0);
+        open_buffers(&n.two, side ? 8 : 9, 0);
+        make_buffers(&n.b, 9, 0);
+        for (closed = 0; closed < 4; closed++) {
+            put_desk(&n.one, CLOSED_AT, closed & 1);
+            put_desk(&n.two, CLOSED_AT, closed / 2);
+            expect_join(&n.one, &n.two, &n.b, 12, "12 before 13");
+            for (i = 0; i < LENT; i++)
+                expect_join_less(&n.one, &n.two, &n.b, i, 1, 11,
+                                 "a length, 11 before 12");
+            put_desk(&n.one, STATES_AT + 3, 9);
+            expect_join(&n.one, &n.two, &n.b, 11, "bench 1, 11 before 12");
+            put_desk(&n.one, STATES_AT + 3, 0);
+            put_seen(&n.two, 7, 7, 1);
+            expect_join(&n.one, &n.two, &n.b, 11, "bench 2, 11 before 12");
+            put_seen(&n.two, 7, 7, 0);
+        }
+        free_benches(&n);
+
+        open_benches(&n, 8, 0);
+        put_desk(side ? &n.one : &n.two, CLOSED_AT, 1);
+        expect_join(&n.one, &n.two, &n.b, 13, "13 alone");
+        for (i = 0; i < LENT; i++)
+            expect_join_less(&n.one, &n.two, &n.b, i, 1, 11,
+                             "a length, 11 before 13");
+        put_desk(&n.one, ORIGINS_AT, 1);
+        expect_join(&n.one, &n.two, &n.b, 11, "bench 1, 11 before 13");
+        put_desk(&n.one, ORIGINS_AT, 0);
+        put_kinds(&n.two, 0, 0, 1);
+        expect_join(&n.one, &n.two, &n.b, 11, "bench 2, 11 before 13");
+        put_kinds(&n.two, 0, 0, 0);
+        put_desk(&n.one, CLOSED_AT, 2);
+        expect_join(&n.one, &n.two, &n.b, 11, "closed by 2");
+        free_benches(&n);
+    }
+}
+
+/* Each clause of the fit test, in either bench. */
+static void test_join_unfit(void)
+{
+    static const struct {
+        uint16_t at;
+        uint8_t value, depth, state; /* the last two of frame 0 and core 0 */
+    } rows[] = {
+        { 0, 0, 0, 0 }, { 0, 65, 0, 0 }, { 0, 128, 0, 0 }, { 0, 255, 0, 0 },
+        { 1, 2, 0, 0 }, { 1, 3, 0, 0 }, { 1, 255, 0, 0 }, { 2, 9, 0, 0 },
+        { 9, 9, 0, 0 }, { 5, 255, 0, 0 }, { 10, 49, 0, 0 }, { 31, 255, 0, 0 },
+        { 98, 1, 0, 0 }, { 145, 1, 47, 0 }, { 1249, 1, 0, 0 }, { 98, 8, 1, 0 },
+        { 98, 192, 1, 0 }, { 145, 63, 48, 0 }, { 145, 255, 48, 0 },
+        { 1250, 1, 0, 0 }, { 1250, 2, 1, 0 }, { 1255, 128, 47, 0 },
+        { 1393, 128, 0, 0 }, { 11, 1, 0, 0 }, { 11, 1, 0, 7 }, { 12, 1, 0, 0 },
+        { 12, 1, 0, 5 }, { 32, 1, 0, 0 }, { 33, 1, 0, 0 }, { 34, 64, 0, 0 },
+        { 34, 128, 0, 0 }, { 41, 64 + 8, 0, 0 }, { 41, 128 + 4, 0, 0 },
+        { 42, 1, 0, 0 }, { 42, 68, 0, 0 }, { 97, 255, 0, 0 }
+    };
+    static const unsigned over[] = { 16, 17, 31, 32, 64, 128, 255 };
+    struct benches n;
+    size_t i;
+    unsigned side, from, to, kinds, pair;
+
+    for (side = 0; side < 2; side++) {
+        struct buffers *unfit = side ? &n.two : &n.one;
+
+        open_benches(&n, 8, 20000);
+        for (i = 0; i < sizeof rows / sizeof rows[0]; i++) {
+            unsigned old = unfit->desk.bytes[rows[i].at];
+
+            put_desk(unfit, DEPTHS_AT, rows[i].depth);
+            put_desk(unfit, STATES_AT, rows[i].state);
+            put_desk(unfit, rows[i].at, rows[i].value);
+            expect_join(&n.one, &n.two, &n.b, 11, "an unfit bench");
+            put_desk(unfit, rows[i].at, old);
+            put_desk(unfit, DEPTHS_AT, 0);
+            put_desk(unfit, STATES_AT, 0);
+        }
+        for (pair = 0; pair < 64; pair++) {
+            from = pair / 8, to = pair % 8;
+            for (i = 0; i < sizeof over / sizeof over[0]; i++) {
+                put_sheet(unfit, from, to, over[i]);
+                expect_join(&n.one, &n.two, &n.b, 11, "a sheet byte over 15");
+            }
+            put_sheet(unfit, from, to, 0);
+            for (kinds = 1; kinds < 16; kinds += 2 + pair % 2) {
+                put_kinds(unfit, from, to, kinds);
+                expect_join(&n.one, &n.two, &n.b, 11, "kinds without a number");
+            }
+            put_kinds(unfit, from, to, 0);
+            for (i = pair % 3; i < 32; i += 3) {
+                put_seen(unfit, from, to, (uint32_t)1 << i);
+                expect_join(&n.one, &n.two, &n.b, 11, "a number without kinds");
+            }
+            put_seen(unfit, from, to, 0);
+        }
+        expect_join(&n.one, &n.two, &n.b, 0, "fit again");
+        free_benches(&n);
+    }
+}
+
+/* A pair that is unfit in one bench stays so, though the other has what it
+ * lacks; one that is fit in each is fit. */
+static void test_join_unfit_halves(void)
+{
+    struct benches n;
+    unsigned side;
+
+    open_benches(&n, 8, 0);
+    for (side = 0; side < 2; side++) {
+        struct buffers *one = side ? &n.two : &n.one;
+        struct buffers *two = side ? &n.one : &n.two;
+
+        put_kinds(one, 5, 6, PLUNGEROWL_EN);
+        put_seen(two, 5, 6, 9);
+        expect_join(&n.one, &n.two, &n.b, 11, "kinds here, a number there");
+        put_seen(one, 5, 6, 8);
+        expect_join(&n.one, &n.two, &n.b, 11, "and a number here");
+        put_kinds(two, 5, 6, PLUNGEROWL_ER);
+        put_kinds(one, 5, 6, 0);
+        expect_join(&n.one, &n.two, &n.b, 11, "no kinds here any more");
+        put_seen(one, 5, 6, 0);
+        expect_join(&n.one, &n.two, &n.b, 0, "nor a number");
+        check_seen(&n.b, 5, 6, 9, "nor a number");
+        put_sheet(two, 5, 6, 0);
+
+        put_desk(one, MARKS_AT + 2, 64);
+        put_desk(two, MARKS_AT + 2, 4);
+        expect_join(&n.one, &n.two, &n.b, 11, "soft-unsafe here, hard there");
+        put_desk(one, MARKS_AT + 2, 68);
+        expect_join(&n.one, &n.two, &n.b, 0, "both here");
+        put_desk(one, MARKS_AT + 2, 0);
+        put_desk(two, MARKS_AT + 2, 0);
+    }
+    free_benches(&n);
+}
+
+/* Numbers and counts are not tied, in either bench. */
+static void test_join_untied(void)
+{
+    static const uint32_t numbers[] = { 1, 2, 255, 256, 65536, 0x01000000,
+                                        0x80000000, UINT32_MAX };
+    struct benches n;
+    size_t i, j;
+
+    open_benches(&n, 8, 0);
+    put_kinds(&n.one, 7, 7, PLUNGEROWL_SR);
+    put_kinds(&n.two, 0, 0, PLUNGEROWL_SR);
+    for (i = 0; i < sizeof numbers / sizeof numbers[0]; i++) {
+        put_seen(&n.one, 7, 7, numbers[i]);
+        for (j = 0; j < sizeof numbers / sizeof numbers[0]; j++) {
+            put_seen(&n.two, 0, 0, numbers[j]);
+            put_count(&n.one, numbers[j] - 1);
+            put_count(&n.two, numbers[i] - 1);
+            expect_join(&n.one, &n.two, &n.b, 0, "numbers above the counts");
+            check_count(&n.b, 0, "numbers above the counts");
+            check_seen(&n.b, 7, 7, numbers[i], "numbers above the counts");
+            check_seen(&n.b, 0, 0, numbers[j], "numbers above the counts");
+            expect_fit(&n.b, "numbers above the joined count");
+        }
+    }
+    free_benches(&n);
+}
+
+/* What the joined desk has of the cores, the locks and the counts: nothing,
+ * with a fault too. */
+static void test_join_fresh(void)
+{
+    struct benches n;
+    unsigned i, fault, busy;
+
+    for (busy = 1; busy < 4; busy++) {
+        for (fault = 0; fault < 2; fault++) {
+            open_benches(&n, 13, 4);
+            if (busy & 1)
+                put_busy(&n.one, busy == 3 ? UINT32_MAX : 0x04030201);
+            if (busy & 2)
+                put_busy(&n.two, busy == 3 ? 1 : UINT32_MAX);
+            put_desk(&n.one, MARKS_AT + 12, 0xCC);
+            put_desk(&n.two, MARKS_AT + 11, 2);
+            put_sheet(&n.two, 11, 12, fault ? PLUNGEROWL_EN : PLUNGEROWL_SN);
+            put_desk(&n.one, MARKS_AT + 12, fault ? 0xCC : 0x88);
+            expect_join(&n.one, &n.two, &n.b, fault, "busy benches");
+            check_byte(&n.b, 0, 13, "busy benches: K");
+            check_byte(&n.b, 1, fault, "busy benches: closed");
+            for (i = 2; i < 1398; i++)
+                if (i < 34 + 11 || i > 34 + 12)
+                    check_byte(&n.b, i, 0, "busy benches: the rest");
+            check_byte(&n.b, 34 + 11, 2, "busy benches: marks of 11");
+            check_byte(&n.b, 34 + 12, fault ? 0xCC : 0x88,
+                       "busy benches: marks of 12");
+            free_benches(&n);
+        }
+    }
+}
+
+/* Each part of the desk by itself, each byte of it that may be other than 0 on
+ * a fit desk: only the marks come through. */
+static void test_join_parts(void)
+{
+    struct benches n;
+    unsigned i, side, state;
+
+    open_benches(&n, 64, 0);
+    for (side = 0; side < 2; side++) {
+        struct buffers *busy = side ? &n.two : &n.one;
+
+        for (i = 0; i < CORES; i++) {
+            for (state = 1; state <= 8; state++) {
+                put_desk(busy, STATES_AT + i, state);
+                expect_join(&n.one, &n.two, &n.b, 0, "a state");
+            }
+            put_desk(busy, STATES_AT + i, 0);
+        }
+        for (i = 0; i < FRAMES; i++) {
+            put_desk(busy, STATES_AT + i / 3, state_for(i));
+            put_desk(busy, DEPTHS_AT + i, DEPTH);
+            put_desk(busy, HELD_AT + DEPTH * i, 63);
+            put_desk(busy, HELD_AT + DEPTH * i + DEPTH - 1, 128 + 1);
+            put_origin(busy, i, 0, 1);
+            put_origin(busy, i, DEPTH - 1, 1);
+            expect_join(&n.one, &n.two, &n.b, 0, "a frame");
+            put_desk(busy, HELD_AT + DEPTH * i, 0);
+            put_desk(busy, HELD_AT + DEPTH * i + DEPTH - 1, 0);
+            put_origin(busy, i, 0, 0);
+            put_origin(busy, i, DEPTH - 1, 0);
+            put_desk(busy, DEPTHS_AT + i, 0);
+            put_desk(busy, STATES_AT + i / 3, 0);
+        }
+        for (i = 0; i < 32; i++) {
+            put_count(busy, (uint32_t)1 << i);
+            expect_join(&n.one, &n.two, &n.b, 0, "a count");
+        }
+        put_count(busy, 0);
+        for (i = 0; i < 64; i++) {
+            put_desk(busy, MARKS_AT + i, 12);
+            expect_join(&n.one, &n.two, &n.b, 0, "a mark");
+            check_byte(&n.b, 34 + i, 12, "a mark");
+            put_desk(busy, MARKS_AT + i, 0);
+        }
+    }
+    free_benches(&n);
+}
+
+/* Every mark byte with some others: the marks of either. At a single class that
+ * is a fault where they clash. */
+static void test_join_marks(void)
+{
+    struct benches n;
+    unsigned mark, other, faults = 0;
+
+    open_benches(&n, 1, 0);
+    for (mark = 0; mark < 256; mark++) {
+        for (other = mark % 3; other < 256; other += 3) {
+            unsigned both = mark | other;
+
+            if (!mark_fits(mark) || !mark_fits(other))
+                continue;
+            put_desk(&n.one, MARKS_AT, mark);
+            put_desk(&n.two, MARKS_AT, other);
+            faults += !is_clash(mark) && !is_clash(other) && is_clash(both);
+            expect_join(&n.one, &n.two, &n.b, is_clash(both), "two marks");
+            check_byte(&n.b, 34, both, "two marks");
+        }
+    }
+    check(faults > 250, "two marks: only %u faults by both", faults);
+    free_benches(&n);
+}
+
+/* Every set of kinds with every other, of two classes and of one. */
+static void test_join_kinds(void)
+{
+    struct benches n;
+    unsigned first, second;
+
+    open_benches(&n, 8, 1);
+    for (first = 0; first < 16; first++) {
+        for (second = 0; second < 16; second++) {
+            unsigned both = first | second;
+
+            put_sheet(&n.one, 6, 3, first);
+            put_sheet(&n.two, 6, 3, second);
+            expect_join(&n.one, &n.two, &n.b, 0, "two sets of kinds");
+            check(n.b.sheet.bytes[6 * 8 + 3] == both, "two sets of kinds: %u",
+                  n.b.sheet.bytes[6 * 8 + 3]);
+            put_sheet(&n.one, 6, 3, 0);
+            put_sheet(&n.two, 6, 3, 0);
+            put_sheet(&n.one, 7, 7, first);
+            put_sheet(&n.two, 7, 7, second);
+            expect_join(&n.one, &n.two, &n.b, (both & ~4u) != 0,
+                        "two sets of one class");
+            put_sheet(&n.one, 7, 7, 0);
+            put_sheet(&n.two, 7, 7, 0);
+        }
+    }
+    free_benches(&n);
+}
+
+/* In every pair: a dependency of the first, of the second, of both. */
+static void test_join_pairs(void)
+{
+    struct benches n;
+    unsigned k, pair, who;
+
+    for (k = 3; k <= 11; k += 4) {
+        open_benches(&n, k, 2);
+        for (pair = 0; pair < k * k; pair++) {
+            unsigned from = pair / k, to = pair % k;
+
+            for (who = 1; who < 4; who++) {
+                put_kinds(&n.one, from, to, who & 1 ? PLUNGEROWL_SR : 0);
+                put_seen(&n.one, from, to, who & 1 ? 0x04000201 : 0);
+                put_kinds(&n.two, from, to, who & 2 ? PLUNGEROWL_SR : 0);
+                put_seen(&n.two, from, to, who & 2 ? 0x00050003 : 0);
+                expect_join(&n.one, &n.two, &n.b, 0, "one pair");
+                check(n.b.sheet.bytes[pair] == 4, "one pair: kinds");
+                check_seen(&n.b, from, to, who & 1 ? 0x04000201 : 0x00050003,
+                           "one pair");
+            }
+            put_sheet(&n.one, from, to, 0);
+            put_sheet(&n.two, from, to, 0);
+        }
+        free_benches(&n);
+    }
+}
+
+/* All pairs of 64 classes at once, each with a number of its own: a third are
+ * the first's, a third the second's, a third of both. */
+static void test_join_all_pairs(void)
+{
+    struct benches n;
+    unsigned from, to;
+
+    open_benches(&n, 64, 0);
+    for (from = 0; from < 64; from++) {
+        for (to = 0; to < 64; to++) {
+            unsigned who = (from + to) % 3;
+
+            put_sheet(&n.one, from, to, who == 1 ? 0 : PLUNGEROWL_SR);
+            put_sheet(&n.two, from, to, who == 0 ? 0 : PLUNGEROWL_SR);
+            if (who == 2)
+                put_seen(&n.two, from, to, 1 + 64 * from + to);
+        }
+    }
+    expect_both_orders(&n.one, &n.two, &n.b, 0, "all pairs");
+    free_benches(&n);
+}
+
+/* Numbers of all sizes: the first bench's, whichever is lower, whatever bytes
+ * of it are 0; the second's where that has none. */
+static void test_join_numbers(void)
+{
+    static const uint32_t numbers[] = { 0, 1, 2, 255, 256, 257, 65535, 65536,
+                                        0x00FF0000, 0x01000000, 0x01020304,
+                                        0x80000000, 0xFF000000, UINT32_MAX };
+    const size_t some = sizeof numbers / sizeof numbers[0];
+    uint8_t slip[] = { 1, 2, 2, 0, 0, 0, 0, 0 };
+    struct benches n;
+    size_t i, j;
+
+    open_benches(&n, 3, 0);
+    for (i = 0; i < some; i++) {
+        for (j = 0; j < some; j++) {
+            uint32_t due = numbers[i] != 0 ? numbers[i] : numbers[j];
+
+            put_kinds(&n.one, 2, 2, numbers[i] != 0 ? PLUNGEROWL_SR : 0);
+            put_seen(&n.one, 2, 2, numbers[i]);
+            put_kinds(&n.two, 2, 2, numbers[j] != 0 ? PLUNGEROWL_EN : 0);
+            put_seen(&n.two, 2, 2, numbers[j]);
+            fill_again(&n.b);
+            expect_join(&n.one, &n.two, &n.b, numbers[j] != 0, "two numbers");
+            check_seen(&n.b, 2, 2, due, "two numbers");
+            set_low_first(slip + 4, due);
+            if (numbers[j] != 0)
+                check_whole_slip(&n.b, slip, "two numbers in the slip");
+        }
+    }
+    free_benches(&n);
+}
+
+/* The number of a pair is the first bench's, though the kind that is shown is
+ * the second's; and the count of neither plays a part. */
+static void test_join_number_of_other_kind(void)
+{
+    static const uint8_t first[] = { 2, 0, 2, 0, 7, 0, 0, 0,
+                                     1, 2, 0, 9, 0, 0, 0 };
+    static const uint8_t turned[] = { 2, 0, 2, 0, 5, 0, 0, 0,
+                                      1, 2, 0, 9, 0, 0, 0 };
+    struct benches n;
+
+    open_benches(&n, 4, 0);
+    put_kinds(&n.one, 0, 1, PLUNGEROWL_SR); /* not in the cycle */
+    put_seen(&n.one, 0, 1, 7);
+    put_count(&n.one, 100);
+    put_kinds(&n.two, 0, 1, PLUNGEROWL_EN); /* in it */
+    put_seen(&n.two, 0, 1, 5);
+    put_kinds(&n.two, 1, 0, PLUNGEROWL_EN);
+    put_seen(&n.two, 1, 0, 9);
+    put_count(&n.two, 200);
+    put_sheet(&n.two, 1, 0, 0);
+    put_kinds(&n.one, 1, 0, PLUNGEROWL_EN);
+    put_seen(&n.one, 1, 0, 9);
+    expect_join(&n.one, &n.two, &n.b, 1, "the first's number");
+    check_whole_slip(&n.b, first, "the first's number");
+    fill_again(&n.b);
+    expect_join(&n.two, &n.one, &n.b, 1, "the first's number, turned");
+    check_whole_slip(&n.b, turned, "the first's number, turned");
+    free_benches(&n);
+}
+
+/* Every graph of the cycles above, divided between two benches in every way, or
+ * whole in both: the slip that a step shows. Marks are divided bit by bit. */
+static void test_join_shown(void)
+{
+    struct benches n;
+    size_t i;
+    unsigned mask, j;
+
+    for (i = 0; i < SHOWN; i++) {
+        const struct shown *s = &shown[i];
+        unsigned ways = 1;
+        const struct drawn *d;
+
+        for (d = s->drawn; d->kinds != 0; d++)
+            ways *= 2;
+        for (mask = 0; mask < ways; mask += ways > 64 ? 5 : 1) {
+            open_benches(&n, FEW, 1);
+            for (d = s->drawn, j = 0; d->kinds != 0; d++, j++) {
+                struct buffers *b = mask >> j & 1 ? &n.one : &n.two;
+
+                put_sheet(b, d->from, d->to,
+                          b->sheet.bytes[d->from * FEW + d->to] | d->kinds);
+            }
+            for (j = 0; j < FEW; j++) {
+                unsigned safe = s->marks[j] & 51, unsafe = s->marks[j] & 204;
+
+                put_desk(&n.one, MARKS_AT + j, mask & 1 ? safe : unsafe);
+                put_desk(&n.two, MARKS_AT + j, mask & 1 ? unsafe : safe);
+            }
+            expect_join(&n.one, &n.two, &n.b, 1, s->what);
+            check_slip(&n.b, s->slip, s->what);
+            free_benches(&n);
+        }
+        open_benches(&n, FEW, 0);
+        put_shown(&n.one, s);
+        put_shown(&n.two, s);
+        expect_join(&n.one, &n.two, &n.b, 1, s->what);
+        check_slip(&n.b, s->slip, s->what);
+        free_benches(&n);
+    }
+}
+
+/* Cycles that neither bench has: there and back, of all kinds; weak joints stay
+ * weak. */
+static void test_join_there_and_back(void)
+{
+    struct benches n;
+    unsigned there, back;
+
+    open_benches(&n, 8, 0);
+    for (there = 1; there < 16; there++) {
+        for (back = 1; back < 16; back++) {
+            int strong = 0;
+            unsigned i, j;
+
+            for (i = 1; i < 16; i *= 2)
+                for (j = 1; j < 16; j *= 2)
+                    if (there & i && back & j && is_strong(i, j)
+                        && is_strong(j, i))
+                        strong = 1;
+            put_sheet(&n.one, 2, 5, there);
+            put_sheet(&n.two, 5, 2, back);
+            expect_both_orders(&n.one, &n.two, &n.b, (unsigned)strong,
+                               "there and back");
+        }
+    }
+    free_benches(&n);
+}
+
+/* By marks: unsafe in one bench, safe in the other, of one class or of two with
+ * a dependency back, at each level and of each letter; levels do not meet. */
+static void test_join_by_marks(void)
+{
+    static const struct {
+        uint8_t unsafe, safe, kind, source;
+    } rows[] = {
+        { 4, 1, 2, 1 }, { 4, 2, 1, 1 }, { 8, 1, 8, 1 }, { 8, 2, 4, 1 },
+        { 68, 16, 2, 2 }, { 68, 32, 1, 2 }, { 136, 16, 8, 2 },
+        { 136, 32, 4, 2 }, { 4, 16, 0, 0 }, { 8, 48, 0, 0 }, { 12, 48, 0, 0 }
+    };
+    struct benches n;
+    size_t i;
+    unsigned back;
+
+    for (i = 0; i < sizeof rows / sizeof rows[0]; i++) {
+        for (back = 0; back < 3; back++) {
+            unsigned to = back == 0 ? 3 : 1;
+            int drawn = rows[i].kind != 0;
+            int fault = drawn && rows[i].kind != (back == 1 ? 0 : 4);
+            uint8_t slip[1 + 2 * ENTRY] = { 0 };
+
+            open_benches(&n, 8, 0);
+            put_desk(&n.one, MARKS_AT + 3, rows[i].unsafe);
+            put_desk(&n.two, MARKS_AT + to, rows[i].safe);
+            if (back != 0) { /* EN or SN back, in either bench */
+                put_kinds(i % 2 ? &n.one : &n.two, 1, 3,
+                          back == 1 ? PLUNGEROWL_EN : PLUNGEROWL_SN);
+                put_seen(i % 2 ? &n.one : &n.two, 1, 3, 300);
+            }
+            if (back == 2 && rows[i].kind == 1)
+                fault = 0; /* ER, then S */
+            expect_both_orders(&n.one, &n.two, &n.b, (unsigned)fault,
+                               "marks of two benches");
+            if (back == 0) {
+                slip[0] = 1;
+                slip[1] = 3;
+                slip[2] = rows[i].kind;
+                slip[3] = rows[i].source;
+            } else {
+                slip[0] = 2;
+                slip[1] = 1;
+                slip[2] = back == 1 ? 2 : 8;
+                set_low_first(slip + 4, 300);
+                slip[8] = 3;
+                slip[9] = rows[i].kind;
+                slip[10] = rows[i].source;
+            }
+            if (fault)
+                check_whole_slip(&n.b, slip, "marks of two benches");
+            free_benches(&n);
+        }
+    }
+}
+
+/* The same by logs: a handler's lock in one, a task's in the other. */
+static void test_join_by_marks_of_logs(void)
+{
+    struct benches n;
+    unsigned mode, level;
+
+    for (level = 0; level < 2; level++) {
+        for (mode = 0; mode < MODES; mode++) {
+            open_benches(&n, 8, 0);
+            expect_step(&n.one, 1, level ? ENTER_SOFT : ENTER_HARD, 0, 0, 0,
+                        "bench 1, a handler");
+            expect_step(&n.one, 1, ACQUIRE, 3, mode, 0, "bench 1, a lock");
+            expect_step(&n.two, 1, ACQUIRE, 3, TRY + E, 0, "bench 2, try 3E");
+            expect_both_orders(&n.one, &n.two, &n.b, mode < TRY,
+                               "a lock of a handler and of a task");
+            free_benches(&n);
+
+            open_benches(&n, 8, 0);
+            expect_step(&n.one, 1, level ? ENTER_SOFT : ENTER_HARD, 0, 0, 0,
+                        "bench 1, a handler");
+            expect_step(&n.one, 1, ACQUIRE, 3, R, 0, "bench 1, 3R");
+            expect_step(&n.two, 1, ACQUIRE, 3, mode, 0, "bench 2, a lock");
+            expect_both_orders(&n.one, &n.two, &n.b, mode % TRY == E,
+                               "a read of a handler, a lock of a task");
+            free_benches(&n);
+        }
+    }
+}
+
+/* A path that each bench has half of, a class reached by R in one and by N in
+ * the other, and one that is passed twice. */
+static void test_join_paths(void)
+{
+    struct benches n;
+
+    open_benches(&n, 8, 0);
+    put_sheet(&n.one, 0, 1, PLUNGEROWL_ER);
+    put_sheet(&n.one, 1, 2, PLUNGEROWL_SN);
+    put_sheet(&n.one, 2, 0, PLUNGEROWL_EN);
+    expect_both_orders(&n.one, &n.two, &n.b, 0, "R, then S");
+    expect_reach(&n.b, 0, BIT(1), 1, "R, then S");
+    put_sheet(&n.two, 0, 3, PLUNGEROWL_EN);
+    expect_both_orders(&n.one, &n.two, &n.b, 0, "another way, half of it");
+    put_sheet(&n.two, 3, 1, PLUNGEROWL_EN);
+    expect_both_orders(&n.one, &n.two, &n.b, 1, "another way, by N");
+    put_sheet(&n.two, 3, 1, 0);
+    put_sheet(&n.two, 0, 1, PLUNGEROWL_SN);
+    expect_both_orders(&n.one, &n.two, &n.b, 1, "another kind, by N");
+    free_benches(&n);
+
+    open_benches(&n, 8, 0);
+    put_sheet(&n.one, 3, 0, PLUNGEROWL_ER);
+    put_sheet(&n.one, 0, 2, PLUNGEROWL_SN);
+    put_sheet(&n.one, 2, 3, PLUNGEROWL_ER);
+    put_sheet(&n.two, 0, 1, PLUNGEROWL_ER);
+    expect_both_orders(&n.one, &n.two, &n.b, 0, "no way back yet");
+    expect_reach(&n.b, 3, BIT(0) | BIT(1), 2, "no way back yet");
+    put_sheet(&n.two, 1, 4, PLUNGEROWL_EN);
+    put_sheet(&n.one, 4, 0, PLUNGEROWL_EN);
+    expect_both_orders(&n.one, &n.two, &n.b, 1, "a class passed twice");
+    free_benches(&n);
+}
+
+/* A cycle through all 64 classes, each bench with every other dependency. */
+static void test_join_full_slip(void)
+{
+    struct benches n;
+    unsigned i;
+
+    open_benches(&n, 64, 0);
+    for (i = 0; i < 64; i++)
+        put_sheet(i % 2 ? &n.one : &n.two, i, (i + 1) % 64, PLUNGEROWL_EN);
+    expect_join(&n.one, &n.two, &n.b, 1, "a ring");
+    check(n.b.slip.bytes[0] == 64, "a ring of %u", n.b.slip.bytes[0]);
+    for (i = 0; i < 64; i++)
+        check_number(n.b.slip.bytes + 1 + ENTRY * i + TRIPLE,
+                     1 + 0x00010203 * (64 * i + (i + 1) % 64), "a ring");
+    put_sheet(&n.one, 63, 0, 0);
+    put_sheet(&n.one, 63, 1, PLUNGEROWL_EN);
+    expect_join(&n.one, &n.two, &n.b, 1, "a ring of 63 over a longer one");
+    put_sheet(&n.one, 63, 1, 0);
+    expect_join(&n.one, &n.two, &n.b, 0, "no ring");
+    expect_reach(&n.b, 0, ~BIT(0), 63, "no ring, from 0");
+    free_benches(&n);
+}
+
+/* An open bench that has a cycle of its own, a desk from elsewhere: the joined
+ * one is a fault. */
+static void test_join_own_cycle(void)
+{
+    struct benches n;
+    unsigned who, how;
+
+    for (who = 1; who < 4; who++) {
+        for (how = 0; how < 4; how++) {
+            open_benches(&n, 8, 0);
+            if (how == 0) {
+                put_sheet(&n.one, 1, 6, who & 1 ? PLUNGEROWL_EN : 0);
+                put_sheet(&n.one, 6, 1, who & 1 ? PLUNGEROWL_SN : 0);
+                put_sheet(&n.two, 0, 7, who & 2 ? PLUNGEROWL_EN : 0);
+                put_sheet(&n.two, 7, 0, who & 2 ? PLUNGEROWL_EN : 0);
+            } else if (how == 1) {
+                put_sheet(&n.one, 7, 7, who & 1 ? PLUNGEROWL_ER : 0);
+                put_sheet(&n.two, 7, 7, who & 2 ? PLUNGEROWL_SN : 0);
+            } else {
+                unsigned marks = how == 2 ? 5 : 0xA8 + 0x10;
+
+                put_desk(&n.one, MARKS_AT + 7, who & 1 ? marks : 0);
+                put_desk(&n.two, MARKS_AT + 4, who & 2 ? marks : 0);
+            }
+            expect_both_orders(&n.one, &n.two, &n.b, 1, "a cycle of its own");
+            put_desk(&n.b, CLOSED_AT, 0);
+            expect_step(&n.b, 0, HARD_ON, 0, 0, 1, "a step there");
+            free_benches(&n);
+        }
+    }
+}
+
+/* A bench with itself: its sheet, its numbers, its marks. Clean if it is. */
+static void test_join_itself(void)
+{
+    struct benches n;
+    unsigned fault;
+
+    for (fault = 0; fault < 2; fault++) {
+        open_benches(&n, 8, 7);
+        put_busy(&n.one, 12);
+        put_sheet(&n.one, 0, 7, 15);
+        put_sheet(&n.one, 7, 7, PLUNGEROWL_SR);
+        put_sheet(&n.one, 7, 0, fault ? PLUNGEROWL_SN : 0);
+        put_desk(&n.one, MARKS_AT + 5, 0x8A);
+        expect_join(&n.one, &n.one, &n.b, fault, "itself with itself");
+        check(memcmp(n.b.sheet.bytes, n.one.sheet.bytes, 64) == 0
+              && memcmp(n.b.seen.bytes, n.one.seen.bytes, 256) == 0,
+              "itself with itself: sheets");
+        free_benches(&n);
+    }
+}
+
+/* Buffers that are read may be the same for both benches, or lie within each
+ * other: the sheets of these within their desks, where those have 0. */
+static void test_join_overlap(void)
+{
+    struct benches n;
+    unsigned i;
+
+    for (i = 0; i < 8; i++) {
+        struct buffers one, two;
+
+        open_benches(&n, 4, 0);
+        put_sheet(&n.one, 0, 1, PLUNGEROWL_EN);
+        put_sheet(&n.two, 0, 1, PLUNGEROWL_SR);
+        put_seen(&n.two, 0, 1, 33);
+        put_desk(&n.one, MARKS_AT + 2, 4);
+        put_desk(&n.two, MARKS_AT + 2, 16);
+        one = n.one;
+        two = n.two;
+        if (i & 1) { /* one desk */
+            two.desk = one.desk;
+            two.want_desk = one.want_desk;
+        }
+        if (i & 2) { /* one sheet */
+            two.sheet = one.sheet;
+            two.want_sheet = one.want_sheet;
+        }
+        if (i & 4) { /* one second sheet */
+            two.seen = one.seen;
+            two.want_seen = one.want_seen;
+        }
+        expect_both_orders(&one, &two, &n.b, 0, "shared buffers");
+        free_benches(&n);
+    }
+    for (i = 0; i < 4; i++) {
+        struct buffers one, two;
+
+        open_benches(&n, 4, 0);
+        one = n.one;
+        two = n.two;
+        one.sheet.bytes = one.desk.bytes + HELD_AT + 7 * i;
+        one.want_sheet.bytes = one.want_desk.bytes + HELD_AT + 7 * i;
+        two.seen.bytes = (i % 2 ? one : two).desk.bytes + ORIGINS_AT + i;
+        two.want_seen.bytes = two.want_desk.bytes + ORIGINS_AT + i;
+        one.sheet.before = one.sheet.behind = 0;
+        two.seen.before = two.seen.behind = 0;
+        put_desk(&two, MARKS_AT + 1, 68);
+        put_desk(&one, MARKS_AT + 1, i / 2 * 32);
+        expect_both_orders(&one, &two, &n.b, i / 2, "buffers in a desk");
+        free_benches(&n);
+    }
+}
+
+/* The benches are not written, not even for a while. */
+static void test_join_read_only(void)
+{
+    static uint8_t desk[PLUNGEROWL_DESK_SIZE], sheet[64], seen[256];
+    static uint8_t slip[PLUNGEROWL_SLIP_SIZE(8)];
+    const size_t page = (size_t)sysconf(_SC_PAGESIZE);
+    unsigned i;
+    uint8_t *pages = mmap(NULL, 2 * page, PROT_READ | PROT_WRITE,
+                          MAP_PRIVATE | MAP_ANONYMOUS, -1, 0);
+
+    need(pages != MAP_FAILED && page >= PLUNGEROWL_DESK_SIZE + 64 + 256);
+    for (i = 0; i < 6; i++) {
+        uint8_t *one = pages, *two = pages + page;
+        unsigned due = i == 0 ? 0 : i == 1 ? 1 : 9 + i, is;
+
+        need(mprotect(pages, 2 * page, PROT_READ | PROT_WRITE) == 0);
+        memset(pages, 0, 2 * page);
+        one[0] = two[0] = 8;
+        one[MARKS_AT] = 4;
+        two[MARKS_AT] = i == 1 ? 1 : 0;
+        two[STATES_AT] = i == 2 ? 9 : 0;
+        two[0] -= i == 3;
+        two[CLOSED_AT] = i == 4;
+        if (i == 5) { /* 11 once more, by the first */
+            one[PLUNGEROWL_DESK_SIZE + 63] = 1;
+            due = 11;
+        }
+        need(mprotect(pages, 2 * page, PROT_READ) == 0);
+        is = plungerowl_join(one, sizeof desk, one + sizeof desk, 64,
+                             one + sizeof desk + 64, 256,
+                             two, sizeof desk, two + sizeof desk, 64,
+                             two + sizeof desk + 64, 256,
+                             desk, sizeof desk, sheet, 64, seen, 256,
+                             slip, sizeof slip);
+        join_met[is] = 1;
+        check(is == due, "benches to be read: join answers %u, not %u", is,
+              due);
+    }
+    munmap(pages, 2 * page);
+}
+
+/* With buffers for more classes: bytes past those of K are not looked at and
+ * not changed, whatever they are. */
+static void test_join_past(void)
+{
+    static const uint8_t past[] = { 0, 1, 15, 16, 90, 255 };
+    struct benches n;
+    size_t i, j;
+    unsigned fault;
+
+    for (i = 0; i < sizeof past; i++) {
+        for (j = 0; j < sizeof past; j++) {
+            struct buffers *all[] = { &n.one, &n.two, &n.b };
+            size_t k;
+
+            make_buffers(&n.one, 16, 3);
+            make_buffers(&n.two, 16, 0);
+            make_buffers(&n.b, 16, 1);
+            for (k = 0; k < 3; k++) {
+                struct buffers *b = all[k];
+
+                memset(b->sheet.bytes, past[i], b->sheet.size);
+                memset(b->want_sheet.bytes, past[i], b->sheet.size);
+                memset(b->seen.bytes, past[j], b->seen.size);
+                memset(b->want_seen.bytes, past[j], b->seen.size);
+                b->k = 3;
+                if (k < 2)
+                    expect_open(b, 3, 0, "past K x K, opening");
+            }
+            put_sheet(&n.one, 2, 2, PLUNGEROWL_SR);
+            put_sheet(&n.two, 1, 2, PLUNGEROWL_EN);
+            for (fault = 0; fault < 2; fault++) {
+                put_sheet(&n.one, 2, 1, fault ? PLUNGEROWL_EN : 0);
+                expect_join(&n.one, &n.two, &n.b, fault, "past K x K");
+                check(n.b.sheet.bytes[9] == past[i]
+                      && n.b.seen.bytes[36] == past[j], "past K x K: kept");
+            }
+            free_benches(&n);
+        }
+    }
+}
+
+/* What is written may have anything in it before: a closed desk, an unfit one,
+ * one of another K, another fault's slip. */
+static void test_join_over(void)
+{
+    static const uint8_t fills[] = { 0, 1, 64, 127, 255 };
+    struct benches n;
+    size_t i;
+    unsigned fault;
+
+    open_benches(&n, 8, 2);
+    for (fault = 0; fault < 2; fault++) {
+        put_sheet(&n.one, 1, 2, PLUNGEROWL_EN);
+        put_sheet(&n.two, 2, 1, fault ? PLUNGEROWL_EN : PLUNGEROWL_ER);
+        put_sheet(&n.one, 1, 2, fault ? PLUNGEROWL_EN : PLUNGEROWL_SR);
+        for (i = 0; i < sizeof fills; i++) {
+            struct guarded *all[] = { &n.b.desk, &n.b.sheet, &n.b.seen,
+                                      &n.b.slip, &n.b.want_desk,
+                                      &n.b.want_sheet, &n.b.want_seen,
+                                      &n.b.want_slip };
+            size_t j;
+
+            for (j = 0; j < sizeof all / sizeof all[0]; j++)
+                guarded_fill(all[j], fills[i]);
+            expect_join(&n.one, &n.two, &n.b, fault, "over any bytes");
+            expect_join(&n.one, &n.two, &n.b, fault, "over its own");
+            expect_join(&n.two, &n.one, &n.b, fault, "over its own, turned");
+        }
+    }
+    free_benches(&n);
+}
+
+/* A refused join leaves what the last one left. */
+static void test_join_refused(void)
+{
+    struct benches n;
+    unsigned i;
+
+    open_benches(&n, 8, 0);
+    put_desk(&n.one, MARKS_AT + 1, 4);
+    put_desk(&n.two, MARKS_AT + 1, 2);
+    put_sheet(&n.two, 3, 4, 15);
+    expect_join(&n.one, &n.two, &n.b, 1, "before the refusals");
+    for (i = 0; i < LENT; i++)
+        expect_join_less(&n.one, &n.two, &n.b, i, 1, 11, "refused, 11");
+    put_desk(&n.one, 0, 7);
+    expect_join(&n.one, &n.two, &n.b, 12, "refused, 12");
+    put_desk(&n.one, 0, 8);
+    put_desk(&n.one, CLOSED_AT, 1);
+    expect_join(&n.one, &n.two, &n.b, 13, "refused, 13");
+    put_desk(&n.one, CLOSED_AT, 0);
+    put_sheet(&n.two, 3, 4, 0);
+    put_desk(&n.two, MARKS_AT + 1, 0);
+    expect_join(&n.one, &n.two, &n.b, 0, "after the refusals");
+    free_benches(&n);
+}
+
+/* Benches as full as they can be. */
+static void test_join_fullest(void)
+{
+    struct benches n;
+    struct buffers *bench[2];
+    unsigned side, i, j;
+
+    open_benches(&n, 64, 0);
+    bench[0] = &n.one;
+    bench[1] = &n.two;
+    for (side = 0; side < 2; side++) {
+        for (i = 0; i < 8; i++)
+            put_desk(bench[side], STATES_AT + i, 8);
+        for (i = 0; i < FRAMES; i++)
+            put_desk(bench[side], DEPTHS_AT + i, DEPTH);
+        for (i = 0; i < 64; i++)
+            put_desk(bench[side], MARKS_AT + i, 255);
+        for (i = 0; i < PLUNGEROWL_PLACES; i++)
+            put_desk(bench[side], HELD_AT + i, 63 + 64 * R);
+        for (i = ORIGINS_AT; i < PLUNGEROWL_DESK_SIZE; i++)
+            put_desk(bench[side], i, 255);
+        for (i = 0; i < 64; i++) {
+            for (j = 0; j < 64; j++) {
+                put_kinds(bench[side], i, j, 15);
+                put_seen(bench[side], i, j, UINT32_MAX - side);
+            }
+        }
+    }
+    expect_both_orders(&n.one, &n.two, &n.b, 1, "the fullest");
+    check_seen(&n.b, 63, 63, UINT32_MAX - 1, "the fullest");
+    expect_reach(&n.b, 0, UINT64_MAX, 64, "the fullest, ask");
+    free_benches(&n);
+}
+
+/* A joined desk is stepped on as any other: the first record is not refused,
+ * new pairs get numbers from its own count, old ones stay. */
+static void test_join_step_on(void)
+{
+    static const uint8_t slip[] = { 3, 1, 2, 0, 200, 1, 0, 0,
+                                    2, 2, 0, 0x01, 0, 0, 0xFF,
+                                    3, 2, 0, 6, 0, 0, 0 };
+    struct benches n;
+    unsigned i;
+
+    open_benches(&n, 5, 3);
+    put_kinds(&n.one, 1, 2, PLUNGEROWL_EN);
+    put_seen(&n.one, 1, 2, 456);
+    put_kinds(&n.two, 2, 3, PLUNGEROWL_EN);
+    put_seen(&n.two, 2, 3, 0xFF000001);
+    put_busy(&n.one, 3);
+    put_busy(&n.two, UINT32_MAX);
+    expect_join(&n.one, &n.two, &n.b, 0, "to be stepped on");
+    for (i = 0; i < CORES; i++) /* of fresh cores */
+        expect_step(&n.b, i, RELEASE, 1, E, 5, "stepped on, a release");
+    expect_reach(&n.b, 1, BIT(2) | BIT(3), 2, "stepped on, ask");
+    expect_step(&n.b, 7, ACQUIRE, 0, E, 0, "stepped on, 0E");
+    check_count(&n.b, 1, "stepped on");
+    expect_step(&n.b, 7, ACQUIRE, 1, E, 0, "stepped on, 1E: 0 EN 1");
+    check_seen(&n.b, 0, 1, 2, "stepped on, a new pair");
+    expect_step(&n.b, 7, ACQUIRE, 2, R, 0, "stepped on, 2R: 0 ER 2, 1 ER 2");
+    check_seen(&n.b, 0, 2, 3, "stepped on, another");
+    check_seen(&n.b, 1, 2, 456, "stepped on, an old pair");
+    expect_step(&n.b, 7, ACQUIRE, 4, TRY + E, 0, "stepped on, try 4E");
+    expect_step(&n.b, 2, ACQUIRE, 3, E, 0, "stepped on, core 2, 3E");
+    expect_step(&n.b, 2, ACQUIRE, 1, E, 1, "stepped on, core 2, 1E: 3 EN 1");
+    check_count(&n.b, 6, "stepped on, the fault");
+    check_seen(&n.b, 3, 1, 6, "stepped on, the fault");
+    check_seen(&n.b, 2, 3, 0xFF000001, "stepped on, the fault");
+    /* 1 ER 2 is lower than 1 EN 2, and has the same number. */
+    check(n.b.slip.bytes[2] == PLUNGEROWL_ER, "stepped on: the kind shown");
+    n.b.slip.bytes[2] = PLUNGEROWL_EN;
+    check_whole_slip(&n.b, slip, "stepped on");
+    free_benches(&n);
+}
+
+/* A closed joined desk answers 10, an open one each refusal of a step. */
+static void test_join_step_refused(void)
+{
+    struct benches n;
+    unsigned kind;
+
+    open_benches(&n, 8, 0);
+    put_sheet(&n.one, 0, 1, PLUNGEROWL_EN);
+    expect_join(&n.one, &n.two, &n.b, 0, "an open one");
+    expect_step(&n.b, 8, HARD_ON, 0, 0, 3, "an open one, 3");
+    expect_step(&n.b, 0, ACQUIRE, 8, E, 4, "an open one, 4");
+    expect_step(&n.b, 0, RELEASE, 0, E, 5, "an open one, 5");
+    expect_step(&n.b, 0, EXIT_HARD, 0, 0, 6, "an open one, 6");
+    put_count(&n.b, UINT32_MAX);
+    expect_step(&n.b, 0, HARD_ON, 0, 0, 9, "an open one, 9");
+
+    put_sheet(&n.two, 1, 0, PLUNGEROWL_EN);
+    expect_join(&n.one, &n.two, &n.b, 1, "a closed one");
+    for (kind = 0; kind < 11; kind++)
+        expect_step(&n.b, 0, kind, 0, 0, 10, "a closed one, 10");
+    expect_reach(&n.b, 0, BIT(0) | BIT(1), 2, "a closed one, ask");
+    expect_no_reach(&n.b, 8, 4, "a closed one, ask class K");
+    expect_open(&n.b, 8, 0, "opened again");
+    expect_step(&n.b, 0, ACQUIRE, 0, E, 0, "opened again, 0E");
+    free_benches(&n);
+}
+
+/* A feed goes on with a joined desk. */
+static void test_join_feed_on(void)
+{
+    static const uint8_t slip[] = { 2, 1, 2, 0, 77, 0, 0, 0,
+                                    2, 2, 0, 2, 0, 0, 0 };
+    static struct log log;
+    struct benches n;
+    struct feeding f;
+    size_t size, at;
+
+    log_header(&log, 3);
+    log_record(&log, 6, ACQUIRE, 2, E);
+    log_record(&log, 6, ACQUIRE, 1, E);
+    log_record(&log, 6, RELEASE, 1, E);
+    for (size = 1; size < 19; size++) {
+        open_benches(&n, 3, 0);
+        put_kinds(&n.two, 1, 2, PLUNGEROWL_EN);
+        put_seen(&n.two, 1, 2, 77);
+        put_busy(&n.one, 1000);
+        start_feed(&f, 3, 0);
+        expect_join(&n.one, &n.two, &f.b, 0, "to be fed");
+        put_whole_feed(&f, 0, 1, 0, 40);
+        for (at = 4; at < log.size; at += size)
+            feed_or_end(&f, log.bytes + at, log.size - at < size
+                        ? log.size - at : size, "a joined desk is fed");
+        expect_end(&f, 1, 42, "a joined desk is fed");
+        check_count(&f.b, 2, "a joined desk is fed");
+        check_whole_slip(&f.b, slip, "a joined desk is fed");
+        free_benches(&n);
+        free_feed(&f);
+    }
+    /* Loose bytes at the end, on an open desk and on a closed one. */
+    for (size = 0; size < 2; size++) {
+        open_benches(&n, 3, 0);
+        start_feed(&f, 3, 0);
+        put_sheet(&n.one, 2, 2, size == 0 ? PLUNGEROWL_SR : PLUNGEROWL_EN);
+        expect_join(&n.one, &n.two, &f.b, (unsigned)size, "to be fed");
+        put_whole_feed(&f, 0, 1, 0, 40);
+        expect_feed(&f, log.bytes + 4, 3, 0, 40, "loose bytes");
+        expect_end(&f, size == 0 ? 3 : 10, 41, "loose bytes, the end");
+        free_benches(&n);
+        free_feed(&f);
+    }
+}
+
+/* More benches, one after the other: a ring of which each has a dependency. The
+ * joined one is the first of the next join, or the second; the numbers are
+ * those of the benches. */
+static void test_join_on(void)
+{
+    struct buffers bench, joined[2];
+    unsigned i, j, turned;
+
+    for (turned = 0; turned < 2; turned++) {
+        open_buffers(&joined[0], 6, 0);
+        open_buffers(&joined[1], 6, 0);
+        for (i = 0; i < 6; i++) {
+            struct buffers *old = &joined[i % 2], *now = &joined[1 - i % 2];
+
+            open_buffers(&bench, 6, 0);
+            put_busy(&bench, 50 + i);
+            put_kinds(&bench, i, (i + 1) % 6, PLUNGEROWL_EN);
+            put_seen(&bench, i, (i + 1) % 6, 10 + i);
+            put_kinds(&bench, 0, 5, PLUNGEROWL_ER); /* in every bench */
+            put_seen(&bench, 0, 5, 100 + i);
+            put_kinds(&bench, 5, 0, 0);
+            put_seen(&bench, 5, 0, 0);
+            put_desk(&bench, MARKS_AT + i, 0x10 << i % 2);
+            if (i == 5) {
+                put_kinds(&bench, 5, 0, PLUNGEROWL_SN);
+                put_seen(&bench, 5, 0, 15);
+            }
+            if (turned)
+                expect_join(&bench, old, now, i == 5, "one bench more, first");
+            else
+                expect_join(old, &bench, now, i == 5, "one bench more");
+            for (j = 0; j <= i; j++)
+                check_byte(now, 34 + j, 0x10 << j % 2, "one bench more: marks");
+            check_seen(now, 0, 5, turned ? 100 + i : 100, "in every bench");
+            check_seen(now, i, (i + 1) % 6, 10 + i, "its own");
+            check_count(now, 0, "one bench more");
+            free_buffers(&bench);
+        }
+        free_buffers(&joined[0]);
+        free_buffers(&joined[1]);
+    }
+}
+
+/* Random benches: each bench of any fit bytes. */
+static void put_any_bench(struct buffers *b, unsigned density)
+{
+    unsigned from, to;
+
+    for (from = 0; from < b->k; from++)
+        for (to = 0; to < b->k; to++)
+            if (below(density) == 0)
+                put_sheet(b, from, to, from == to ? PLUNGEROWL_SR : below(16));
+    for (from = below(4); from > 1; from--)
+        put_random_marks(b);
+    put_random_numbers(b);
+    if (below(2) == 0)
+        put_busy(b, below(1000));
+}
+
+/* Whether a join of these would be a fault. */
+static unsigned fault_of(const struct buffers *one, const struct buffers *two,
+                         struct buffers *b)
+{
+    want_joined(b, one, two);
+    return least_cycle(b)[0] != 0;
+}
+
+/* Each in both orders, and with a third behind: however they are put together,
+ * the joined graph is the same. */
+static void test_join_random(void)
+{
+    unsigned i, faults = 0, own = 0;
+
+    seed = 20261119 + sides;
+    for (i = 0; i < 400; i++) {
+        unsigned k = i % 40 == 0 ? 20 + below(45) : 1 + below(7);
+        unsigned density = 2 + below(k > 10 ? 60 : 6), fault;
+        struct benches n;
+        struct buffers third, left, right;
+
+        open_benches(&n, k, i % 3);
+        put_any_bench(&n.one, density);
+        put_any_bench(&n.two, density);
+        fault = fault_of(&n.one, &n.two, &n.b);
+        faults += fault;
+        own += fault && least_cycle(&n.one)[0] == 0
+               && least_cycle(&n.two)[0] == 0;
+        expect_both_orders(&n.one, &n.two, &n.b, fault, "random benches");
+        if (!fault) {
+            unsigned first, second, all;
+
+            open_buffers(&third, k, 0);
+            make_buffers(&left, k, 0);
+            make_buffers(&right, k, 0);
+            put_any_bench(&third, density);
+            expect_join(&n.one, &n.two, &n.b, 0, "one and two");
+            all = fault_of(&n.b, &third, &left);
+            expect_join(&n.b, &third, &left, all, "one and two, then three");
+            first = fault_of(&n.two, &third, &right);
+            expect_join(&n.two, &third, &right, first, "two and three");
+            if (!first) {
+                fill_again(&n.b);
+                second = fault_of(&n.one, &right, &n.b);
+                expect_join(&n.one, &right, &n.b, second,
+                            "one, then two and three");
+                check(second == all
+                      && memcmp(n.b.desk.bytes, left.desk.bytes,
+                                PLUNGEROWL_DESK_SIZE) == 0
+                      && memcmp(n.b.sheet.bytes, left.sheet.bytes, k * k) == 0
+                      && memcmp(n.b.seen.bytes, left.seen.bytes,
+                                4 * k * k) == 0,
+                      "three benches, joined in two ways");
+            }
+            free_buffers(&third);
+            free_buffers(&left);
+            free_buffers(&right);
+        }
+        free_benches(&n);
+    }
+    check(faults > 60 && faults < 340 && own > 20,
+          "random benches: %u faults, %u by both", faults, own);
+}
+
+/* Two logs by steps: one acquires upwards, the other downwards, in any modes.
+ * Each is clean; joined they are what a single log would draw. */
+static void test_join_logs(void)
+{
+    unsigned i, faults = 0;
+
+    seed = 20261120 + sides;
+    for (i = 0; i < 150; i++) {
+        struct benches n;
+        unsigned k = 2 + below(3), log, j, fault;
+
+        open_benches(&n, k, 0);
+        for (log = 0; log < 2; log++) {
+            struct buffers *b = log ? &n.two : &n.one;
+
+            for (j = 0; j < 12; j++) {
+                unsigned low = below(k - 1);
+                unsigned high = low + 1 + below(k - low - 1);
+                unsigned core = below(CORES), first = below(MODES);
+                unsigned second = below(MODES);
+                unsigned from = log ? high : low, to = log ? low : high;
+
+                expect_step(b, core, HARD_OFF, 0, 0, 0, "a log, hard off");
+                expect_step(b, core, ACQUIRE, from, first, 0, "a log, a lock");
+                expect_step(b, core, ACQUIRE, to, second, 0, "a log, another");
+                expect_step(b, core, RELEASE, from, first, 0, "a log, release");
+                if (below(6) > 0)
+                    expect_step(b, core, RELEASE, to, second, 0,
+                                "a log, the other's release");
+                else
+                    j = 12; /* and the last lock stays held */
+            }
+        }
+        fault = fault_of(&n.one, &n.two, &n.b);
+        faults += fault;
+        expect_both_orders(&n.one, &n.two, &n.b, fault, "two logs");
+        free_benches(&n);
+    }
+    check(faults > 30 && faults < 120, "two logs: %u faults", faults);
 }
 
 /* ------------------------------------------------------------ the balance */
@@ -7718,11 +9381,24 @@ static const struct test tests[] = {
     TEST(seen_by_marks), TEST(seen_of_the_fault), TEST(seen_long),
     TEST(seen_from_elsewhere), TEST(seen_not_compared),
     TEST(seen_older_not_shown), TEST(seen_past),
-    TEST(unfit_numbers), TEST(unfit_counts), TEST(unfit_last_pair),
+    TEST(unfit_numbers), TEST(any_count), TEST(above_count),
+    TEST(unfit_last_pair),
     TEST(feed_seen), TEST(feed_count_full),
     TEST(depth_limit), TEST(depth_steps), TEST(depth_three), TEST(depth_faults),
     TEST(depth_marks), TEST(depth_newest), TEST(depth_random), TEST(depth_fed),
     TEST(old_lengths), TEST(old_lengths_fed), TEST(old_desks),
+    TEST(join_example), TEST(join_every_k), TEST(join_lengths),
+    TEST(join_short), TEST(join_classes), TEST(join_other_classes),
+    TEST(join_closed), TEST(join_order), TEST(join_unfit),
+    TEST(join_unfit_halves), TEST(join_untied), TEST(join_fresh),
+    TEST(join_parts), TEST(join_marks), TEST(join_kinds), TEST(join_pairs),
+    TEST(join_all_pairs), TEST(join_numbers), TEST(join_number_of_other_kind),
+    TEST(join_shown), TEST(join_there_and_back), TEST(join_by_marks),
+    TEST(join_by_marks_of_logs), TEST(join_paths), TEST(join_full_slip),
+    TEST(join_own_cycle), TEST(join_itself), TEST(join_overlap),
+    TEST(join_read_only), TEST(join_past), TEST(join_over), TEST(join_refused),
+    TEST(join_fullest), TEST(join_step_on), TEST(join_step_refused),
+    TEST(join_feed_on), TEST(join_on), TEST(join_random), TEST(join_logs),
     TEST(balance_example), TEST(balance_written), TEST(balance_lengths),
     TEST(balance_longer), TEST(balance_huge), TEST(balance_header),
     TEST(balance_bytes), TEST(balance_pairs), TEST(balance_as_step),
@@ -7769,6 +9445,7 @@ int main(int argc, char **argv)
         check_met("feed", feed_met, "xxxxxxxxxxxx");
         check_met("end", end_met, "xxxxxxxxxxxx");
         check_met("balance", balance_met, "x-------------x");
+        check_met("join", join_met, "xx---------xxx");
     }
     printf("selftest: %lu checks, %lu wrong\n", checks, failures);
     return failures == 0 ? 0 : 1;

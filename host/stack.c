@@ -8,7 +8,8 @@
  * limit, less than half of it (the limit is stale), a call that does not get by
  * with a stack of exactly the limit and a guard page behind it, and one that
  * gets by with less than was measured (then the measure is wrong). Wrong is
- * also a limit of step or feed over 16 KB, which is promised for every input.
+ * also a limit of step, feed or join over 16 KB, which is promised for every
+ * input.
  *
  * The worst input is known from crates/search/src/lib.rt. Whether there is a
  * cycle is found by arrived_by_n and arrived_by_r, which call each other from
@@ -19,7 +20,8 @@
  * of each class are looked up in a table before that walk, which is left out
  * where they clash; the cycle that is shown is found after it, without
  * recursion. Both take less. The other inputs are there to meet something
- * deeper, should it exist.
+ * deeper, should it exist. A join searches in the same way: it gets the input
+ * divided between two benches, so that the joined graph is the input's.
  *
  * Link with -z now: the dynamic linker's stack at a first call is not measured.
  * Exit status: 0 all right, 1 something wrong, 2 the system refuses.
@@ -39,22 +41,22 @@
 #include "plungerowl.h"
 
 #define STACK_SIZE ((size_t)1 << 17)
-#define PROMISED 16384 /* bytes that no step and no feed passes */
+#define PROMISED 16384 /* bytes that no step, feed or join passes */
 #define PAINT 0xC5
 #define RANDOM_INPUTS 300
 
 /* A record is fed whole, or its last byte to a feed that has the others; the
  * end finds these. */
-enum { OPEN, STEP, ASK, START, FEED, FEED_LAST, END, BALANCE, CALLS };
+enum { OPEN, STEP, ASK, START, FEED, FEED_LAST, END, BALANCE, JOIN, CALLS };
 
 static const char *const call_names[CALLS] = {
     "open", "step", "ask", "feed_start", "feed", "feed of a last byte",
-    "feed_end", "balance"
+    "feed_end", "balance", "join"
 };
 static const size_t limits[CALLS] = {
     PLUNGEROWL_STACK_OPEN, PLUNGEROWL_STACK_STEP, PLUNGEROWL_STACK_ASK,
     PLUNGEROWL_STACK_FEED_START, PLUNGEROWL_STACK_FEED, PLUNGEROWL_STACK_FEED,
-    PLUNGEROWL_STACK_FEED_END, PLUNGEROWL_STACK_BALANCE
+    PLUNGEROWL_STACK_FEED_END, PLUNGEROWL_STACK_BALANCE, PLUNGEROWL_STACK_JOIN
 };
 static const unsigned sizes[] = { 1, 8, 16, 32, 64 };
 
@@ -85,8 +87,8 @@ struct input {
     uint8_t seen[PLUNGEROWL_SEEN_SIZE(PLUNGEROWL_MAX_CLASSES)];
 };
 
-/* What the call on the other stack is given, and its answer. */
-static struct input lent;
+/* What the call on the other stack is given, a join two, and its answer. */
+static struct input lent, second, joined;
 static uint8_t slip[PLUNGEROWL_SLIP_SIZE(PLUNGEROWL_MAX_CLASSES)];
 static uint64_t word, number;
 static uint32_t count;
@@ -172,6 +174,25 @@ static uint8_t empty_balance(const uint8_t *piece_, size_t piece_len,
     return 0;
 }
 
+static uint8_t empty_join(const uint8_t *desk1, size_t desk1_len,
+                          const uint8_t *sheet1, size_t sheet1_len,
+                          const uint8_t *seen1, size_t seen1_len,
+                          const uint8_t *desk2, size_t desk2_len,
+                          const uint8_t *sheet2, size_t sheet2_len,
+                          const uint8_t *seen2, size_t seen2_len,
+                          uint8_t *desk, size_t desk_len, uint8_t *sheet,
+                          size_t sheet_len, uint8_t *seen, size_t seen_len,
+                          uint8_t *slip_, size_t slip_len)
+{
+    (void)desk1, (void)desk1_len, (void)sheet1, (void)sheet1_len, (void)seen1;
+    (void)seen1_len, (void)desk2, (void)desk2_len, (void)sheet2;
+    (void)sheet2_len, (void)seen2, (void)seen2_len, (void)desk, (void)desk_len;
+    (void)sheet, (void)sheet_len, (void)seen, (void)seen_len, (void)slip_;
+    (void)slip_len;
+    NOTE_CALLER();
+    return 0;
+}
+
 /* volatile: the compiler must call what they point to, as it points there. */
 static uint8_t (*volatile to_open)(uint64_t, uint8_t *, size_t, uint8_t *,
                                    size_t, uint8_t *, size_t);
@@ -190,6 +211,12 @@ static uint8_t (*volatile to_end)(uint8_t *, size_t, uint8_t *, size_t,
                                   uint8_t *, size_t, uint8_t *, size_t,
                                   uint8_t *, size_t, uint64_t *);
 static uint8_t (*volatile to_balance)(const uint8_t *, size_t, int32_t *);
+static uint8_t (*volatile to_join)(const uint8_t *, size_t, const uint8_t *,
+                                   size_t, const uint8_t *, size_t,
+                                   const uint8_t *, size_t, const uint8_t *,
+                                   size_t, const uint8_t *, size_t, uint8_t *,
+                                   size_t, uint8_t *, size_t, uint8_t *, size_t,
+                                   uint8_t *, size_t);
 
 static void point_to_library(void)
 {
@@ -200,6 +227,7 @@ static void point_to_library(void)
     to_feed = plungerowl_feed;
     to_end = plungerowl_feed_end;
     to_balance = plungerowl_balance;
+    to_join = plungerowl_join;
 }
 
 static void point_to_empty(void)
@@ -211,6 +239,7 @@ static void point_to_empty(void)
     to_feed = empty_feed;
     to_end = empty_end;
     to_balance = empty_balance;
+    to_join = empty_join;
 }
 
 static void run_open(void)
@@ -266,15 +295,43 @@ static void run_balance(void)
     answer = to_balance(piece, lent.piece, balances);
 }
 
+static void run_join(void)
+{
+    answer = to_join(lent.desk, sizeof lent.desk, lent.sheet, sizeof lent.sheet,
+                     lent.seen, sizeof lent.seen, second.desk,
+                     sizeof second.desk, second.sheet, sizeof second.sheet,
+                     second.seen, sizeof second.seen, joined.desk,
+                     sizeof joined.desk, joined.sheet, sizeof joined.sheet,
+                     joined.seen, sizeof joined.seen, slip, sizeof slip);
+}
+
 static void (*const runs[CALLS])(void) = {
     run_open, run_step, run_ask, run_start, run_feed, run_feed_last, run_end,
-    run_balance
+    run_balance, run_join
 };
 
-/* The input for a call, with the feed that it needs. */
+/* The dependencies of what is lent are divided between it and a second bench;
+ * the marks, the held locks and the others of its desk are of both. */
+static void divide(void)
+{
+    unsigned i, j;
+
+    second = lent;
+    for (i = 0; i < lent.k * lent.k; i++) {
+        struct input *without = i % 3 == 0 ? &second : &lent;
+
+        without->sheet[i] = 0;
+        for (j = 0; j < PLUNGEROWL_NUMBER_SIZE; j++)
+            without->seen[PLUNGEROWL_NUMBER_SIZE * i + j] = 0;
+    }
+}
+
+/* The input for a call, with the feed or the second bench that it needs. */
 static void lend(const struct input *in, int call)
 {
     lent = *in;
+    if (call == JOIN)
+        divide();
     lent.feed[PLUNGEROWL_FEED_OPENED_AT] = 1;
     if (call == FEED_LAST || call == END) {
         lent.feed[PLUNGEROWL_FEED_COUNT_AT] = PLUNGEROWL_MOST_LOOSE;
@@ -755,6 +812,7 @@ int main(void)
     check_deepest(STEP, &worst[STEP]);
     check_deepest(FEED, &worst[FEED]);
     check_deepest(FEED_LAST, &worst[FEED_LAST]);
+    check_deepest(JOIN, &worst[JOIN]);
     for (call = 0; call < CALLS; call++)
         check_limit(call, &worst[call]);
     printf("stack: limits: ");

@@ -23,8 +23,13 @@
  * needs a feed, and K is then the header's: sheet, seen and slip for
  * PLUNGEROWL_MAX_CLASSES do for every log. Questions may be asked in both.
  *
- * A third thing needs no buffers of the library: plungerowl_balance counts, over
- * a piece of a log, each class's acquires less its releases.
+ * A bench is a desk with its sheet and seen. A third way to a bench is to join
+ * two of them, of logs that were handed over apart: plungerowl_join makes a
+ * third with all dependencies and marks of both and fresh cores, and tells
+ * whether that is a fault. It may be stepped on, asked and joined again.
+ *
+ * One thing needs no buffers of the library: plungerowl_balance counts, over a
+ * piece of a log, each class's acquires less its releases.
  *
  * Rules for callers, for every call:
  *
@@ -38,7 +43,9 @@
  *     the record of a step, the piece of a feed or of a balance, and the
  *     numbers that are written: *word and *count, *record of a feed, and the
  *     balances. Pointers to numbers are aligned for their types; the others
- *     need no alignment.
+ *     need no alignment. Only of a join the six buffers that are read may
+ *     overlap each other, so a bench may be joined with itself; the four that
+ *     are written overlap no other.
  *   - One caller at a time: while a call runs, nobody else reads or writes the
  *     buffers it was given. Calls on separate buffers do not affect each other.
  *   - The stack has room for the call: PLUNGEROWL_STACK_OPEN and so on, below.
@@ -131,33 +138,37 @@ extern "C" {
  * (fewer classes need no more). host/stack.c measures it, and tries each call
  * with so many bytes and a guard page behind them. memcpy and memset are counted
  * as glibc has them; what the dynamic linker takes to find them at a first call
- * is not (link with -z now). A step is the deepest, also one in a feed, and is
- * under 16 KB on every input: its search goes from class to class by two
- * functions that call each other, with a class at most twice on the path and 64
- * bytes each time. The cycle in the slip is found without recursion.
+ * is not (link with -z now). A step is the deepest, also one in a feed, and a
+ * join, whose search is the same: under 16 KB on every input. The search goes
+ * from class to class by two functions that call each other, with a class at
+ * most twice on the path and 64 bytes each time. The cycle in the slip is found
+ * without recursion.
  */
 #define PLUNGEROWL_STACK_OPEN 96
 #define PLUNGEROWL_STACK_STEP 13312
 #define PLUNGEROWL_STACK_ASK 4608
+#define PLUNGEROWL_STACK_JOIN 13312
 #define PLUNGEROWL_STACK_FEED_START 16
 #define PLUNGEROWL_STACK_FEED 13312
-#define PLUNGEROWL_STACK_FEED_END 4096
+#define PLUNGEROWL_STACK_FEED_END 768
 #define PLUNGEROWL_STACK_BALANCE 16
 
 /*
  * Answers. "frame" is the current frame of the core named by the record.
  * 0 and 1 accept the record; a header or record with another answer changes no
- * byte of desk, sheet, seen and slip. plungerowl_feed and plungerowl_feed_end
- * give what opening and the steps inside them answered, so what is said of step
- * holds of them too. 12 and 13 are not in use.
+ * byte of desk, sheet, seen and slip, and neither does a join with another.
+ * plungerowl_feed and plungerowl_feed_end give what opening and the steps
+ * inside them answered, so what is said of step holds of them too.
  */
 enum plungerowl_answer {
     /* open: opened; ask: answered; feed_start: started;
      * step: accepted, no closed strong path; slip unchanged;
+     * join: joined, no closed strong path; slip unchanged;
      * feed, feed_end: all that was complete got 0;
      * balance: counted */
     PLUNGEROWL_OK = 0,
-    /* step: accepted, a closed strong path exists; desk closed, slip written */
+    /* step: accepted, a closed strong path exists; desk closed, slip written;
+     * join: joined, and so */
     PLUNGEROWL_FAULT = 1,
     /* open: K not 1 to 64, desk under PLUNGEROWL_DESK_SIZE bytes, sheet under
      * K x K bytes, or seen under 4 x K x K; feed: so with the header's K, or
@@ -185,8 +196,14 @@ enum plungerowl_answer {
     PLUNGEROWL_CLOSED = 10,
     /* step: desk, sheet, seen or slip unfit; ask: desk, sheet or seen unfit;
      * feed and feed_end: so in a step, or, with *record 0, feed unfit
-     * (too short, or contents that the fit tests of FORMATS.md rule out) */
+     * (too short, or contents that the fit tests of FORMATS.md rule out);
+     * join: desk, sheet or seen of either bench unfit, or one of the four that
+     * are to be written too short for the larger K of the two */
     PLUNGEROWL_UNFIT = 11,
+    /* join: the benches have different K */
+    PLUNGEROWL_OTHER_CLASSES = 12,
+    /* join: a desk of the two is closed */
+    PLUNGEROWL_BENCH_CLOSED = 13,
     /* balance: the piece is over PLUNGEROWL_MAX_PIECE_SIZE bytes, or not a whole
      * number of records */
     PLUNGEROWL_BAD_PIECE = 14
@@ -264,10 +281,12 @@ uint8_t plungerowl_open(uint64_t classes,
  * 11, 10, 3, 4, 6, 7, 5, 8, 9 is given. A record may be any bytes of any
  * length.
  *
- * Accepted records are numbered from 1 on, since opening; refused ones are not
- * counted. seen has for two classes, from and to, the number of the record that
- * first drew a lock dependency there, of whatever kind, in the four bytes from
- * 4 x (from x K + to) on, low byte first; 0 for none.
+ * Accepted records are numbered from 1 on, since opening or since a join;
+ * refused ones are not counted. seen has for two classes, from and to, the
+ * number of the record that first drew a lock dependency there, of whatever
+ * kind, in the four bytes from 4 x (from x K + to) on, low byte first; 0 for
+ * none. On a joined desk the numbers from before the join stay, and may be
+ * above the desk's count; on any desk that is fit.
  *
  * On 1 the slip has the cycle: n in byte 0 and then, for each of its n
  * dependencies, an entry: class, kind, source, and the number that seen has for
@@ -298,6 +317,38 @@ uint8_t plungerowl_ask(const uint8_t *desk, size_t desk_len,
                        const uint8_t *sheet, size_t sheet_len,
                        const uint8_t *seen, size_t seen_len,
                        uint64_t class_, uint64_t *word, uint32_t *count);
+
+/*
+ * Join: of two benches, desk1, sheet1, seen1 and desk2, sheet2, seen2, make a
+ * third in desk, sheet, seen, with the slip for a fault.
+ *
+ * Answers 0, 1, or 11 before 12 before 13. The benches may be any fit bytes,
+ * whether or not they came from opening and steps; they are only read, and need
+ * no slip. The four buffers to be written need no preparation. They must have
+ * room for the larger K of the two, the slip too, fault or not; else 11.
+ *
+ * On 0 and 1 desk byte 0 is K, the cores are fresh and hold nothing, and the
+ * record count is 0, as after opening. The marks of a class are those that
+ * either bench has, and so are the kinds from a class to another. The number in
+ * seen is the first bench's, or the second's where that has none, whichever
+ * kinds each has there: that of a record of its own log.
+ *
+ * 1 is given exactly when the joined bench has a closed strong path, be it one
+ * that neither has alone or one that stood on an open desk. The joined desk is
+ * then closed, and the slip has the cycle as a step would show it there. With
+ * 0 the slip is unchanged. But for the numbers in seen and slip, the benches in
+ * the other order give the same.
+ */
+uint8_t plungerowl_join(const uint8_t *desk1, size_t desk1_len,
+                        const uint8_t *sheet1, size_t sheet1_len,
+                        const uint8_t *seen1, size_t seen1_len,
+                        const uint8_t *desk2, size_t desk2_len,
+                        const uint8_t *sheet2, size_t sheet2_len,
+                        const uint8_t *seen2, size_t seen2_len,
+                        uint8_t *desk, size_t desk_len,
+                        uint8_t *sheet, size_t sheet_len,
+                        uint8_t *seen, size_t seen_len,
+                        uint8_t *slip, size_t slip_len);
 
 /*
  * A log in pieces: start a feed, feed the pieces in order, end. Each call needs

@@ -6,7 +6,7 @@
 use crate::balances;
 use crate::feeds;
 use crate::gen::{clean_style, try_style, Buffers, Style};
-use crate::judges::{library, Balance, Feed};
+use crate::judges::{library, Balance, Feed, Join};
 use crate::numbers;
 use crate::rng::Rng;
 use crate::run::Rec;
@@ -135,6 +135,59 @@ fn fault_rows() -> bool {
         row(&format!("fault: {name}"), times, 1);
     }
     println!("{:54} the slowest fault: {:.3} ms", "", worst * 1e3);
+    well
+}
+
+/// A clean drawing as above on two benches: of each three pairs one on the first alone, one on the second alone and one on both, and
+/// the marks likewise. With a fault the second has a dependency from the last class back to the first.
+fn benches(k: usize, dense: bool, fault: bool) -> [Buffers; 2] {
+    let mut both = [drawing(k, dense), drawing(k, dense)];
+    for (side, b) in both.iter_mut().enumerate() {
+        for pair in (0..k * k).filter(|pair| (pair / k + pair % k) % 3 == side) {
+            b.sheet[pair] = 0;
+        }
+        for class in (0..k).filter(|class| class % 3 == side) {
+            b.desk[MARKS + class] = 0;
+        }
+    }
+    if fault {
+        both[1].sheet[(k - 1) * k] = 2;
+    }
+    both.iter_mut().for_each(numbers::usual);
+    both
+}
+
+/// Joins of two benches; whether the two judges left the same.
+fn join_rows() -> bool {
+    let mut well = true;
+    let all = [8, 16, 64].into_iter().flat_map(|k| [(k, false), (k, true)]).flat_map(|(k, dense)| [(k, dense, false), (k, dense, true)]);
+    for (k, dense, fault) in all {
+        let [one, two] = benches(k, dense, fault);
+        let n = if fault { 200 } else { 2000 };
+        let mut left = [Vec::new(), Vec::new()];
+        let time = |join: Join, left: &mut Vec<u8>| {
+            let Buffers { mut desk, mut sheet, mut seen, mut slip } = Buffers::opened(k);
+            let mut sum = 0;
+            let started = Instant::now();
+            for _ in 0..n {
+                sum += usize::from(join(
+                    black_box(&one.desk), black_box(&one.sheet), black_box(&one.seen), black_box(&two.desk), black_box(&two.sheet),
+                    black_box(&two.seen), &mut desk, &mut sheet, &mut seen, &mut slip,
+                ));
+            }
+            let t = started.elapsed().as_secs_f64();
+            *left = [vec![u8::from(sum == if fault { n } else { 0 })], desk, sheet, seen, slip].concat();
+            t
+        };
+        let [a, b] = &mut left;
+        let times = best(|| time(library::join, a), || time(fast::join, b), ROUNDS);
+        if left[0] != left[1] || left[0][0] != 1 {
+            println!("the two differ, or no fault, or one that should not be");
+            well = false;
+        }
+        let (dense, fault) = (if dense { "dense" } else { "sparse" }, if fault { "fault" } else { "clean" });
+        row(&format!("join, K = {k}, {dense}, {fault}"), times, n);
+    }
     well
 }
 
@@ -323,6 +376,7 @@ pub fn run() -> bool {
     well &= balance_rows();
     well &= fault_rows();
     well &= clash_rows();
+    well &= join_rows();
     for k in [8usize, 64] {
         for dense in [false, true] {
             let s = drawing(k, dense);

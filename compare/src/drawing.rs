@@ -1,7 +1,9 @@
 //! The drawing of a list of records, as document 01 has it under "Two desks, one claim": it starts from zero and is worked
-//! out from K and the records, never from a desk or a sheet. With it the count of accepted records and the first-seen
-//! numbers. No code is shared with a judge, the depth's number and the places on a desk alone.
+//! out from K and the records, never from what a call left in desk or sheet; behind a join it starts from what the two benches
+//! have. With it the count of accepted records and the first-seen numbers. No code is shared with a judge, the depth's number
+//! and the places on a desk alone.
 
+use crate::judges::Lent;
 use crate::run::Rec;
 use reference::{COUNT, DEEPEST, DESK, HOLDS, MARKS};
 
@@ -83,6 +85,32 @@ impl Drawing {
         }
     }
 
+    /// Of a join of two benches: "their drawings then start from its marks and sheet instead of from zero", and the numbers
+    /// that are there. No record is counted, and the cores are fresh.
+    pub fn joined([one, kinds_one, seen_one]: Lent, [two, kinds_two, seen_two]: Lent) -> Drawing {
+        let k = usize::from(one[0]);
+        let mut drawing = Drawing::opened(k);
+        for (pair, first_seen) in drawing.first_seen.iter_mut().enumerate() {
+            let (from, to) = (pair / k, pair % k);
+            for kind in (0..4).filter(|kind| (kinds_one[pair] >> kind | kinds_two[pair] >> kind) & 1 == 1) {
+                drawing.leads[from][kind / 2] |= 1 << (to + if kind % 2 == 0 { 64 } else { 0 });
+            }
+            let both = [seen_one, seen_two].map(|seen| [0, 1, 2, 3].map(|i| seen[4 * pair + i]));
+            *first_seen = if both[0] != [0; 4] { both[0] } else { both[1] };
+        }
+        for class in 0..k {
+            for bit in (0..8).filter(|bit| (one[MARKS + class] >> bit | two[MARKS + class] >> bit) & 1 == 1) {
+                match bit % 4 {
+                    0 => drawing.safe[bit / 4] |= 1 << class,
+                    1 => drawing.safe[bit / 4] |= 1 << (64 + class),
+                    first => drawing.is_unsafe[bit / 4][first - 2] |= 1 << class,
+                }
+            }
+        }
+        drawing.closed = drawing.has_closed_strong_path();
+        drawing
+    }
+
     /// Takes a record in; a refused one draws nothing and is not counted.
     pub fn take_in(&mut self, record: &Rec) {
         let Some(named) = record.names().filter(|_| !self.closed && self.accepted < u32::MAX) else { return };
@@ -140,7 +168,7 @@ impl Drawing {
     }
 
     /// Whether some arrival leads back to itself, by Warshall's closure.
-    fn has_closed_strong_path(&self) -> bool {
+    pub fn has_closed_strong_path(&self) -> bool {
         let arrivals = || (0..self.k).chain(64..64 + self.k);
         let mut reach = [0; 128];
         for a in arrivals() {
@@ -198,10 +226,9 @@ impl Drawing {
     }
 }
 
-/// A list of records from opening: the place of the record at which its drawing first has a closed strong path, and the
+/// A list of records from this drawing on: the place of the record at which it first has a closed strong path, and the
 /// drawing then, or at its end. What comes behind draws nothing.
-pub fn first_closed<'a>(k: usize, list: impl Iterator<Item = &'a Rec>) -> (Option<usize>, Drawing) {
-    let mut drawing = Drawing::opened(k);
+pub fn first_closed<'a>(mut drawing: Drawing, list: impl Iterator<Item = &'a Rec>) -> (Option<usize>, Drawing) {
     for (at, record) in list.enumerate() {
         drawing.take_in(record);
         if drawing.has_closed_strong_path() {

@@ -1,7 +1,7 @@
 //! An ordinary Rust judge written for speed, for the benchmark, by the same documents.
 //! Fit test at each step, sixteen pairs of both sheets at a time, a frame's origins as
 //! one word, successor words built once per step, a list of the marks by which one class alone is a cycle, one depth-first walk
-//! over (class, arrival) with done and on-stack words where no class is. Only with a
+//! over (class, arrival) with done and on-stack words where no class is. A join's drawing is judged alike. Only with a
 //! fault: breadth-first waves for the fewest dependencies, and the least cycle taken from
 //! the waves, one dependency after the other. It is compared with the reference in every
 //! run of the comparer. No unsafe code.
@@ -76,28 +76,25 @@ fn number(four: &[u8]) -> u32 {
     u32::from_le_bytes(four.try_into().unwrap())
 }
 
-/// Whether every pair has kinds and a number up to the count, or neither. Sixteen pairs at a time, each question in a loop
-/// of its own, which the compiler makes whole vectors of.
-fn numbers_fit(sheet: &[u8], seen: &[u8], count: u32) -> bool {
+/// Whether every pair has kinds and a number, or neither. Sixteen pairs at a time, each question in a loop of its own, which the
+/// compiler makes whole vectors of.
+fn numbers_fit(sheet: &[u8], seen: &[u8]) -> bool {
     let all_if = |there: bool| if there { 255u8 } else { 0 };
     let (kinds, last_kinds) = sheet.as_chunks::<16>();
     let (numbers, last_numbers) = seen.as_chunks::<64>();
     let mut wrong = [0; 16];
     for (kinds, numbers) in kinds.iter().zip(numbers) {
         let number = |i: usize| number(&numbers[4 * i..4 * i + 4]);
-        let (mut none, mut above) = ([0; 16], [0; 16]);
+        let mut none = [0; 16];
         for i in 0..16 {
             none[i] = all_if(number(i) == 0);
         }
         for i in 0..16 {
-            above[i] = all_if(number(i) > count);
-        }
-        for i in 0..16 {
-            wrong[i] |= none[i] ^ all_if(kinds[i] == 0) | above[i];
+            wrong[i] |= none[i] ^ all_if(kinds[i] == 0);
         }
     }
     let mut last = last_kinds.iter().zip(last_numbers.chunks_exact(4).map(number));
-    wrong == [0; 16] && last.all(|(&kinds, n)| (kinds == 0) == (n == 0) && n <= count)
+    wrong == [0; 16] && last.all(|(&kinds, n)| (kinds == 0) == (n == 0))
 }
 
 /// Where a frame's origin bits begin: they are whole bytes, and eight bytes from there on lie within the desk.
@@ -159,7 +156,7 @@ fn fits(desk: &[u8; DESK], sheet: &[u8], seen: &[u8], k: usize) -> bool {
         wrong |= if (i as u8) >= k8 { m } else { 0 };
     }
     wrong |= sheet.iter().fold(0, |all, &b| all | b) & 0xF0;
-    !bad && wrong == 0 && numbers_fit(sheet, seen, count(desk))
+    !bad && wrong == 0 && numbers_fit(sheet, seen)
 }
 
 /// Successor words: [0] arrivals by N, [1] arrivals by R; the first 64 rows after an
@@ -546,13 +543,68 @@ fn step_with<const PLAIN: bool>(
         origins >>= 1;
     }
     let words = if PLAIN { words_plain(desk, sheet, k) } else { words(desk, sheet, k) };
+    conclude(desk, sheet, seen, slip, k, &words)
+}
+
+/// Whether a cycle stands; then the desk is closed and the cycle shown.
+#[inline(always)]
+fn conclude(desk: &mut [u8; DESK], sheet: &[u8], seen: &[u8], slip: &mut [u8], k: usize, words: &Words) -> u8 {
     let clash = desk[MARKS..MARKS + k].iter().any(|&m| CLASH[usize::from(m)]);
-    if !clash && !walk(&words, k) {
+    if !clash && !walk(words, k) {
         return 0;
     }
     desk[1] = 1;
-    show(desk, sheet, seen, k, &words, if clash { 1 } else { k }, slip);
+    show(desk, sheet, seen, k, words, if clash { 1 } else { k }, slip);
     1
+}
+
+/// A fit bench: its desk, and the pairs of both sheets.
+#[inline(always)]
+fn bench<'a>(desk: &'a [u8], sheet: &'a [u8], seen: &'a [u8]) -> Option<(&'a [u8; DESK], &'a [u8], &'a [u8])> {
+    let desk = desk.first_chunk::<DESK>()?;
+    let k = usize::from(desk[0]);
+    if k.wrapping_sub(1) > 63 || sheet.len() < k * k || seen.len() < 4 * k * k {
+        return None;
+    }
+    let (sheet, seen) = (&sheet[..k * k], &seen[..4 * k * k]);
+    fits(desk, sheet, seen, k).then_some((desk, sheet, seen))
+}
+
+/// Marks, kinds and numbers in three loops over whole buffers, which the compiler makes vectors of; then judged as a step judges.
+#[allow(clippy::too_many_arguments)]
+#[inline(never)]
+pub fn join(
+    desk1: &[u8], sheet1: &[u8], seen1: &[u8], desk2: &[u8], sheet2: &[u8], seen2: &[u8],
+    desk: &mut [u8], sheet: &mut [u8], seen: &mut [u8], slip: &mut [u8],
+) -> u8 {
+    let Some((desk1, sheet1, seen1)) = bench(desk1, sheet1, seen1) else { return 11 };
+    let Some((desk2, sheet2, seen2)) = bench(desk2, sheet2, seen2) else { return 11 };
+    let k = usize::from(desk1[0].max(desk2[0]));
+    let Some(desk) = desk.first_chunk_mut::<DESK>() else { return 11 };
+    if sheet.len() < k * k || seen.len() < 4 * k * k || slip.len() < 1 + 7 * k {
+        return 11;
+    }
+    if desk1[0] != desk2[0] {
+        return 12;
+    }
+    if desk1[1] | desk2[1] != 0 {
+        return 13;
+    }
+    let (sheet, seen) = (&mut sheet[..k * k], &mut seen[..4 * k * k]);
+    *desk = [0; DESK];
+    desk[0] = k as u8;
+    for at in MARKS..HOLDS {
+        desk[at] = desk1[at] | desk2[at];
+    }
+    for ((kinds, one), two) in sheet.iter_mut().zip(sheet1).zip(sheet2) {
+        *kinds = one | two;
+    }
+    let numbers = seen1.as_chunks::<4>().0.iter().zip(seen2.as_chunks::<4>().0);
+    for (number, (one, two)) in seen.as_chunks_mut::<4>().0.iter_mut().zip(numbers) {
+        *number = if u32::from_le_bytes(*one) == 0 { *two } else { *one };
+    }
+    let words = words(desk, sheet, k);
+    conclude(desk, sheet, seen, slip, k, &words)
 }
 
 #[inline(never)]

@@ -595,10 +595,10 @@ pub fn fixed(each: &mut dyn FnMut(Case) -> bool) {
             }
         }
     }
-    // A feed with each number of loose bytes over a desk that is open, closed, at the last count and one before it, and unfit
-    // by each clause alone; with small numbers and with those near the top.
+    // A feed with each number of loose bytes over a desk that is open, closed, at the last count and one before it, with a number
+    // above the count, and unfit by each clause alone; with small numbers and with those near the top.
     for kept in 0..6 {
-        for stand in 0..CLAUSES.len() + 4 {
+        for stand in 0..CLAUSES.len() + 5 {
             for number in [0, 254, u64::MAX - 2, u64::MAX - 1, u64::MAX] {
                 let mut buffers = Buffers::opened(3);
                 match stand {
@@ -606,7 +606,11 @@ pub fn fixed(each: &mut dyn FnMut(Case) -> bool) {
                     1 => buffers.desk[1] = 1,
                     2 => numbers::set_count(&mut buffers.desk, numbers::FULL),
                     3 => numbers::set_count(&mut buffers.desk, numbers::FULL - 1),
-                    _ => assert!(violate(rng, stand - 4, &mut buffers)),
+                    4 => {
+                        buffers.sheet[8] = ties::SR;
+                        numbers::set_number(&mut buffers.seen, 8, 900);
+                    }
+                    _ => assert!(violate(rng, stand - 5, &mut buffers)),
                 }
                 let record = Rec::new(0, 2, 0, 0);
                 let feed = feed_of(0, true, &record.slice()[..kept], number);

@@ -6,7 +6,9 @@ use crate::depths;
 use crate::drawing::{FRAME, NEXT, X};
 use crate::fast;
 use crate::feeds;
-use crate::numbers;
+use crate::joins;
+use crate::judges::Lent;
+use crate::numbers::{self, NO_KINDS, NO_NUMBER};
 use crate::older;
 use crate::releases;
 use crate::rng::Rng;
@@ -56,6 +58,10 @@ impl Buffers {
     }
     pub fn k(&self) -> usize {
         usize::from(self.desk[0])
+    }
+    /// As a bench that is joined.
+    pub fn lent(&self) -> Lent<'_> {
+        [&self.desk, &self.sheet, &self.seen]
     }
 }
 
@@ -154,7 +160,7 @@ pub fn may_hold(state: u8, frame: usize) -> bool {
 
 /// A case yet without a name.
 pub fn case(buffers: Buffers, calls: Vec<Call>) -> Case {
-    Case { name: "", buffers, feed: Vec::new(), calls, pair: None, clause: None, meant: None }
+    Case { name: "", buffers, feed: Vec::new(), calls, pair: None, start: None, clause: None, meant: None }
 }
 
 // ------------------------------------------------------------------ proposals
@@ -726,17 +732,17 @@ pub fn violate(rng: &mut Rng, clause: usize, b: &mut Buffers) -> bool {
                 return false;
             }
             sheet[at] |= rng.pick(&[16, 32, 64, 128, 240]);
-            numbers::give(desk, seen, at);
+            numbers::give(seen, at);
         }
         "second sheet too short" => {
             let n = [4 * k * k - 1, 4 * k * k - 1, k * k, k * k, rng.clone().under(4 * k * k)][rng.under(5)];
             seen.truncate(n);
         }
-        name @ ("kinds but number 0" | "number but no kinds" | "number above the count") => {
+        name @ (NO_NUMBER | NO_KINDS) => {
             if sheet.len() < k * k || seen.len() < 4 * k * k {
                 return false;
             }
-            return numbers::spoil(rng, name, desk, sheet, seen);
+            numbers::spoil(rng, name, sheet, seen, k);
         }
         other => panic!("no way to violate {other}"),
     }
@@ -945,12 +951,13 @@ const KINDS: [Kind; 10] = [
     Kind { name: "log that closes several", weight: 60, make: ties::closing_log },
 ];
 
-/// A part of the random cases: those with feeds, those with balances, the others, and of the others those with clashes,
-/// those about numbers, those about depths and those about releases.
+/// A part of the random cases: those with feeds, those with balances, those with joins, the others, and of the others those with
+/// clashes, those about numbers, those about depths and those about releases.
 #[derive(Clone, Copy, PartialEq, Eq)]
 pub enum Part {
     Feeds,
     Balances,
+    Joins,
     Others,
     Clashes,
     Numbers,
@@ -968,12 +975,13 @@ pub fn random(rng: &mut Rng, only: Option<Part>) -> Option<Case> {
         (&releases::KINDS, Part::Releases),
         (&feeds::KINDS, Part::Feeds),
         (&balances::KINDS, Part::Balances),
+        (&joins::KINDS, Part::Joins),
     ];
     let kinds = || parts.iter().flat_map(|(kinds, part)| kinds.iter().map(move |kind| (kind, *part)));
     let kind = rng.weighted(&kinds().map(|(kind, _)| kind.weight).collect::<Vec<_>>());
     let (Kind { name, make, .. }, part) = kinds().nth(kind).unwrap();
     let wanted = match only {
-        Some(Part::Others) => part != Part::Feeds && part != Part::Balances,
+        Some(Part::Others) => ![Part::Feeds, Part::Balances, Part::Joins].contains(&part),
         _ => only.is_none_or(|only| only == part),
     };
     wanted.then(|| Case { name, ..make(rng) })
@@ -1152,14 +1160,14 @@ pub fn hand_logs() -> Vec<HandLog> {
 }
 
 /// The kinds of fixed cases, and how many there are of each.
-pub const FIXED: [(&str, u64); 58] = [
+pub const FIXED: [(&str, u64); 70] = [
     (HAND_LOGS, 107),
     (HAND_DRAWINGS, 48),
     (EACH_RING, 64 * ties::RINGS_OF_EACH),
     (SOME_TIES, 1200),
     (EACH_OPENING, 6657),
-    (EACH_CLAUSE, 3000),
-    (EACH_DESK_BYTE, 33_286),
+    (EACH_CLAUSE, 2850),
+    (EACH_DESK_BYTE, 33_227),
     (EACH_STATE, 21_600),
     (ALL_OF_1, 4352),
     (ALL_OF_2, 65_536),
@@ -1211,6 +1219,18 @@ pub const FIXED: [(&str, u64); 58] = [
     (balances::EACH_LENGTH, 612),
     (balances::MANY, 168),
     (balances::ALONE, 64),
+    (joins::BY_HAND, joins::ROWS.len() as u64),
+    (joins::STEPS_AFTER, joins::AFTER.len() as u64),
+    (joins::EACH_NUMBER, 605),
+    (joins::ALL_KINDS, 256),
+    (joins::SOME_MARKS, 1872),
+    (joins::RINGS, 384),
+    (joins::EACH_CORE, 300),
+    (joins::ABOVE_COUNT, 144),
+    (joins::EACH_REFUSAL, 560),
+    (joins::EACH_SIZE, 640),
+    (joins::EACH_CLAUSE, 432),
+    (joins::IN_PAIRS, joins::LISTS.len() as u64),
 ];
 const HAND_LOGS: &str = "hand logs";
 const HAND_DRAWINGS: &str = "hand drawings";
@@ -1225,10 +1245,13 @@ const ALL_OF_2: &str = "all sheets of K = 2";
 const ALL_MARKS_OF_2: &str = "all marks of K = 2";
 
 /// The cases made by hand and those that go through all of a small space, until one is answered with false. Those with
-/// feeds and with balances come last.
+/// feeds, with balances and with joins come last.
 pub fn fixed(each: &mut dyn FnMut(Case) -> bool) {
     let mut going = true;
-    for fixed in [fixed_calls, numbers::fixed, clashes::fixed, depths::fixed, releases::fixed, feeds::fixed, balances::fixed] {
+    let all = [
+        fixed_calls, numbers::fixed, clashes::fixed, depths::fixed, releases::fixed, feeds::fixed, balances::fixed, joins::fixed,
+    ];
+    for fixed in all {
         if going {
             fixed(&mut |case| {
                 going = each(case);

@@ -14,6 +14,9 @@ pub type FeedStart = fn(&mut [u8]) -> u8;
 /// Feed, desk, both sheets and slip, the piece, and the record number.
 pub type Feed = fn(&mut [u8], &mut [u8], &mut [u8], &mut [u8], &mut [u8], &[u8], &mut u64) -> u8;
 pub type FeedEnd = fn(&mut [u8], &mut [u8], &mut [u8], &mut [u8], &mut [u8], &mut u64) -> u8;
+/// Two benches, each a desk with both sheets, and desk, both sheets and slip of the third.
+pub type Join =
+    fn(&[u8], &[u8], &[u8], &[u8], &[u8], &[u8], &mut [u8], &mut [u8], &mut [u8], &mut [u8]) -> u8;
 /// A piece, and where the balances go.
 pub type Balance = fn(&[u8], &mut [i32; 64]) -> u8;
 /// A log in one piece, and whether it has ended; no call of the library.
@@ -29,7 +32,18 @@ pub struct Judge {
     pub feed: Feed,
     pub feed_end: FeedEnd,
     pub balance: Balance,
+    pub join: Join,
     pub whole_log: WholeLog,
+}
+
+/// A bench that is joined: desk and both sheets.
+pub type Lent<'a> = [&'a [u8]; 3];
+
+impl Judge {
+    /// A join into desk, both sheets and slip.
+    pub fn join_of(&self, [d1, s1, n1]: Lent, [d2, s2, n2]: Lent, [desk, sheet, seen, slip]: [&mut [u8]; 4]) -> u8 {
+        (self.join)(d1, s1, n1, d2, s2, n2, desk, sheet, seen, slip)
+    }
 }
 
 mod lent {
@@ -45,6 +59,7 @@ pub const REFERENCE: Judge = Judge {
     feed: reference::feed,
     feed_end: reference::feed_end,
     balance: lent::balance_into,
+    join: reference::join,
     whole_log: reference::whole_log,
 };
 pub const FAST: Judge = Judge {
@@ -55,6 +70,7 @@ pub const FAST: Judge = Judge {
     feed: fast::feed,
     feed_end: fast::feed_end,
     balance: fast::balance,
+    join: fast::join,
     whole_log: reference::whole_log,
 };
 
@@ -98,6 +114,12 @@ extern "C" {
         seen: *mut u8, seen_len: usize, slip: *mut u8, slip_len: usize, record: *mut u64,
     ) -> u8;
     fn plungerowl_balance(piece: *const u8, piece_len: usize, balances: *mut i32) -> u8;
+    fn plungerowl_join(
+        desk1: *const u8, desk1_len: usize, sheet1: *const u8, sheet1_len: usize, seen1: *const u8, seen1_len: usize,
+        desk2: *const u8, desk2_len: usize, sheet2: *const u8, sheet2_len: usize, seen2: *const u8, seen2_len: usize,
+        desk: *mut u8, desk_len: usize, sheet: *mut u8, sheet_len: usize, seen: *mut u8, seen_len: usize,
+        slip: *mut u8, slip_len: usize,
+    ) -> u8;
 
     // From the C library that std links anyway.
     fn mmap(at: *mut u8, len: usize, prot: i32, flags: i32, fd: i32, offset: i64) -> *mut u8;
@@ -159,6 +181,21 @@ pub mod library {
     pub fn balance(piece: &[u8], balances: &mut [i32; 64]) -> u8 {
         unsafe { super::plungerowl_balance(piece.as_ptr(), piece.len(), balances.as_mut_ptr()) }
     }
+    #[allow(clippy::too_many_arguments)]
+    #[inline(never)]
+    pub fn join(
+        desk1: &[u8], sheet1: &[u8], seen1: &[u8], desk2: &[u8], sheet2: &[u8], seen2: &[u8],
+        desk: &mut [u8], sheet: &mut [u8], seen: &mut [u8], slip: &mut [u8],
+    ) -> u8 {
+        unsafe {
+            super::plungerowl_join(
+                desk1.as_ptr(), desk1.len(), sheet1.as_ptr(), sheet1.len(), seen1.as_ptr(), seen1.len(),
+                desk2.as_ptr(), desk2.len(), sheet2.as_ptr(), sheet2.len(), seen2.as_ptr(), seen2.len(),
+                desk.as_mut_ptr(), desk.len(), sheet.as_mut_ptr(), sheet.len(), seen.as_mut_ptr(), seen.len(),
+                slip.as_mut_ptr(), slip.len(),
+            )
+        }
+    }
 }
 
 /// For the longest piece too.
@@ -201,7 +238,7 @@ pub enum Subject {
 }
 
 pub struct Edges {
-    edges: [Edge; 6],
+    edges: [Edge; 10],
     calls: u64,
 }
 
@@ -305,7 +342,7 @@ impl Subject {
                 if !e.turn() {
                     return library::feed(feed, desk, sheet, seen, slip, piece, record);
                 }
-                let [a, b, c, d, g, h] = &mut e.edges;
+                let [a, b, c, d, g, h, ..] = &mut e.edges;
                 let (f, d, s, n) = (a.copy(feed), b.copy(desk), c.copy(sheet), d.copy(seen));
                 let (l, p) = (g.copy(slip), h.copy(piece));
                 let answer = library::feed(f, d, s, n, l, p, record);
@@ -330,7 +367,7 @@ impl Subject {
                 if !e.turn() {
                     return library::feed_end(feed, desk, sheet, seen, slip, record);
                 }
-                let [a, b, c, d, g, _] = &mut e.edges;
+                let [a, b, c, d, g, ..] = &mut e.edges;
                 let (f, d, s, n, l) = (a.copy(feed), b.copy(desk), c.copy(sheet), d.copy(seen), g.copy(slip));
                 let answer = library::feed_end(f, d, s, n, l, record);
                 feed.copy_from_slice(f);
@@ -355,6 +392,33 @@ impl Subject {
                 let answer = library::balance(p, n);
                 *balances = *n;
                 assert!(p == piece, "the piece was changed");
+                answer
+            }
+        }
+    }
+
+    pub fn join(
+        &mut self, first: Lent, second: Lent, desk: &mut [u8], sheet: &mut [u8], seen: &mut [u8], slip: &mut [u8],
+    ) -> u8 {
+        match self {
+            Subject::Planted(judge) => judge.join_of(first, second, [desk, sheet, seen, slip]),
+            Subject::Library(e) => {
+                let join = |[d1, s1, n1]: Lent, [d2, s2, n2]: Lent, [d, s, n, l]: [&mut [u8]; 4]| {
+                    library::join(d1, s1, n1, d2, s2, n2, d, s, n, l)
+                };
+                if !e.turn() {
+                    return join(first, second, [desk, sheet, seen, slip]);
+                }
+                let [a, b, c, a2, b2, c2, d, s, n, l] = &mut e.edges;
+                let one = [a.copy(first[0]), b.copy(first[1]), c.copy(first[2])];
+                let two = [a2.copy(second[0]), b2.copy(second[1]), c2.copy(second[2])];
+                let (d, s, n, l) = (d.copy(desk), s.copy(sheet), n.copy(seen), l.copy(slip));
+                let answer = join(one.each_ref().map(|b| &**b), two.each_ref().map(|b| &**b), [d, s, n, l]);
+                desk.copy_from_slice(d);
+                sheet.copy_from_slice(s);
+                seen.copy_from_slice(n);
+                slip.copy_from_slice(l);
+                assert!(one == first && two == second, "a join changed its benches");
                 answer
             }
         }

@@ -1,6 +1,7 @@
 //! compare: runs the proved library and the independent reference over many inputs and
 //! compares after every call: the answer, every byte of desk, both sheets, slip and feed
-//! with the guards around them, word and count, the record number, the balances. See HELP.
+//! with the guards around them, word and count, the record number, the balances; of a join
+//! the benches too, which must not change. See HELP.
 
 mod balances;
 mod bench;
@@ -12,6 +13,7 @@ mod drawing;
 mod fast;
 mod feeds;
 mod gen;
+mod joins;
 mod judges;
 mod needs;
 mod numbers;
@@ -27,7 +29,7 @@ mod ties;
 use gen::{Buffers, Part};
 use judges::{Judges, Subject};
 use needs::Need;
-use planted::PLANTS;
+use planted::{Plant, PLANTS};
 use rng::Rng;
 use run::{Case, Counts, Diff, Rec};
 use std::process::ExitCode;
@@ -52,8 +54,9 @@ compare: the library beside the reference, call by call and byte by byte
                            less, the answers that the documents give for the hand logs,
                            the slips written down for the hand drawings, what is to come
                            of the rings and of the cases with clashes and numbers, the
-                           numbers that a list of records alone gives, and balances that
-                           are counted here, added, and held to the locks on a desk
+                           numbers that a list of records alone gives, balances that
+                           are counted here, added, and held to the locks on a desk, and
+                           joins that are worked out here and made in either order
   --without NAME           leave out what is counted under this name
 
 Exit status: 0 no difference and every minimum met; 1 a difference, a wrong answer or a
@@ -69,8 +72,8 @@ struct Limits {
     without: Option<Need>,
     /// Of the random cases this part only.
     only: Option<Part>,
-    /// Whether of the fixed cases those with balances come first, too.
-    balances_first: bool,
+    /// The fixed cases that come first, too.
+    first: Option<fn(&mut dyn FnMut(Case) -> bool)>,
 }
 
 impl Limits {
@@ -83,8 +86,7 @@ impl Limits {
     /// Goes through the fixed cases until one is answered with false.
     fn fixed(&self, each: &mut dyn FnMut(Case) -> bool) {
         let mut going = true;
-        let first: fn(&mut dyn FnMut(Case) -> bool) = if self.balances_first { balances::fixed } else { |_| {} };
-        for fixed in [first, gen::fixed] {
+        for fixed in [self.first.unwrap_or(|_| {}), gen::fixed] {
             if going {
                 fixed(&mut |case| {
                     going = self.pass(case).is_none_or(&mut *each);
@@ -162,15 +164,25 @@ fn report(met: &Met, limits: &Limits) -> bool {
     println!("{} cases, {} calls compared; of the random cases:", fixed.cases + random.cases, fixed.calls + random.calls);
     for (name, answers) in [
         ("opening", &random.open), ("step", &random.step), ("question", &random.ask), ("feed start", &random.feed_start),
-        ("piece", &random.feed), ("feed end", &random.feed_end), ("balance", &random.balance),
+        ("piece", &random.feed), ("feed end", &random.feed_end), ("balance", &random.balance), ("join", &random.join),
     ] {
         let row: Vec<String> = (0..16).filter(|&i| answers[i] > 0).map(|i| format!("{i}: {}", answers[i])).collect();
         println!("{name:10} {}", row.join(", "));
     }
-    println!("unfit, first clause met (step, question):");
+    println!("unfit, first clause met (step, question, first bench of a join, second):");
     for (i, clause) in reference::CLAUSES.iter().enumerate() {
-        println!("  {clause:32} {:>9} {:>9}", random.clause_step[i], random.clause_ask[i]);
+        println!(
+            "  {clause:32} {:>9} {:>9} {:>9} {:>9}",
+            random.clause_step[i], random.clause_ask[i], random.clause_join[0][i], random.clause_join[1][i]
+        );
     }
+    println!("joins with a short desk, sheet, second sheet, slip: {:?}", random.short_join);
+    let said = joins::PARTS.iter().zip(random.said_of_joins).map(|(part, n)| format!("{part} {n}"));
+    println!("joins held to what is said of them: {}", said.collect::<Vec<_>>().join(", "));
+    println!(
+        "pairs of lists from a join, with no fault, in the second only, in both: {:?}; faults that would be none from opening {}",
+        random.joined_pair_faults, random.faults_by_start
+    );
     println!("unfit feed, first clause met (piece, end):");
     for (i, clause) in reference::FEED_CLAUSES.iter().enumerate() {
         println!("  {clause:46} {:>9} {:>9}", random.clause_feed[i], random.clause_feed_end[i]);
@@ -276,7 +288,7 @@ fn long_records(subject: &mut Subject) -> bool {
 fn list() {
     println!("planted judges (* also with --both):");
     for p in PLANTS {
-        let in_every_place = p.breaks.is_some() || p.of_clash || p.of_balance;
+        let in_every_place = p.breaks.is_some() || p.of_clash || p.of_balance || p.of_join;
         println!("{} {:24} {}", if in_every_place { "*" } else { " " }, p.name, p.wrong);
     }
     println!("counted, with the least number (in 100,000 random cases, but for the first {}):", 1 + gen::FIXED.len());
@@ -332,7 +344,11 @@ fn obey(mut args: impl Iterator<Item = String>) -> Result<bool, String> {
         seed,
         without,
         only: None,
-        balances_first: plant.is_some_and(|plant| plant.of_balance),
+        first: plant.and_then(|plant| match plant {
+            Plant { of_balance: true, .. } => Some(balances::fixed as fn(&mut dyn FnMut(Case) -> bool)),
+            Plant { of_join: true, .. } => Some(joins::fixed),
+            _ => None,
+        }),
     };
     let name = plant.map_or("the library".into(), |p| format!("planted {} ({})", p.name, p.wrong));
     println!("subject: {name}; seed {seed}");

@@ -4,6 +4,7 @@
 use crate::balances;
 use crate::feeds::{self, PROMISE};
 use crate::gen::{self, Buffers};
+use crate::joins::{self, Unfit};
 use crate::judges::FAST;
 use crate::run::{Call, Case, Counts, History};
 use crate::sights::{Look, SIGHTS};
@@ -22,6 +23,7 @@ pub enum Asked {
     Piece,
     End,
     Balance,
+    Join,
 }
 
 /// Something that is counted.
@@ -53,9 +55,18 @@ pub enum Need {
     /// Balances added over a split, and held to the locks on a desk.
     Added,
     Held,
+    /// A join refused for a clause of a bench, and for a buffer to be written.
+    JoinClause(usize, usize),
+    JoinShort(usize),
+    /// A join held to this part of what is said.
+    JoinSaid(usize),
+    /// Pairs of lists that start from a join, and faults of these that would be none from opening.
+    JoinedFaultInSecond,
+    JoinedFaultInBoth,
+    FaultByStart,
     Sight(usize),
 }
-use Asked::{Balance, End, Opening, Piece, Question, Start, Step};
+use Asked::{Balance, End, Join, Opening, Piece, Question, Start, Step};
 
 const KINDS: [&str; 4] = ["ER", "EN", "SR", "SN"];
 const SOURCES: [&str; 3] = ["hold", "hard", "soft"];
@@ -66,7 +77,7 @@ const SHOWN: [[u64; 3]; 4] = [[2100, 180, 84], [3300, 140, 74], [550, 32, 13], [
 const MODES: [&str; 6] = ["E", "r", "R", "try E", "try r", "try R"];
 
 /// The kinds of random cases; named here too, so that one is missed that is no longer made.
-const RANDOM: [(&str, u64); 36] = [
+const RANDOM: [(&str, u64); 43] = [
     ("log from opening", 740),
     ("deep log", 250),
     ("deep frame", 490),
@@ -92,7 +103,14 @@ const RANDOM: [(&str, u64); 36] = [
     ("feed near the last count", 220),
     ("near the last count", 350),
     ("later kind of a pair", 560),
-    ("number that does not fit", 390),
+    ("number that does not fit", 180),
+    ("number above the count", 99),
+    ("join", 140),
+    ("join of halves", 200),
+    ("join of the same pairs", 110),
+    ("join after a log", 77),
+    ("join refused", 260),
+    (joins::PAIRS, 81),
     ("well-formed piece", 100),
     ("mostly well-formed piece", 210),
     ("piece of one class", 100),
@@ -137,6 +155,7 @@ pub fn all() -> Vec<(Need, u64)> {
             ],
         ),
         (Balance, &[(0, 1800), (14, 440)]),
+        (Join, &[(0, 590), (1, 480), (11, 1000), (12, 300), (13, 290)]),
     ] {
         all.extend(answers.iter().map(|&(answer, least)| (Need::Answer(call, answer), least)));
     }
@@ -147,6 +166,13 @@ pub fn all() -> Vec<(Need, u64)> {
             all.push((Need::Clause(Question, clause), 32));
         }
     }
+    for side in 0..2 {
+        let clauses = (0..CLAUSES.len()).filter(|&clause| CLAUSES[clause] != "slip too short");
+        all.extend(clauses.map(|clause| (Need::JoinClause(side, clause), 20)));
+    }
+    all.extend((0..4).map(|buffer| (Need::JoinShort(buffer), 30)));
+    all.extend((0..joins::PARTS.len()).map(|part| (Need::JoinSaid(part), 1000)));
+    all.extend([(Need::JoinedFaultInSecond, 12), (Need::JoinedFaultInBoth, 30), (Need::FaultByStart, 10)]);
     for clause in 0..FEED_CLAUSES.len() {
         all.extend([(Need::FeedClause(Piece, clause), 110), (Need::FeedClause(End, clause), 57)]);
     }
@@ -179,7 +205,9 @@ impl Need {
             Piece => "piece",
             End => "feed end",
             Balance => "balance",
+            Join => "join",
         };
+        let bench = |side: usize| ["first", "second"][side];
         match self {
             Need::RandomCases => "random cases".into(),
             Need::Fixed(name) | Need::Kind(name) => name.into(),
@@ -202,6 +230,12 @@ impl Need {
             Need::AskedItself => "question whose class reaches itself".into(),
             Need::Added => balances::PARTS[0].into(),
             Need::Held => balances::PARTS[1].into(),
+            Need::JoinClause(side, clause) => format!("join with {} on the {} bench", CLAUSES[clause], bench(side)),
+            Need::JoinShort(buffer) => format!("join with a short {}", ["desk", "sheet", "second sheet", "slip"][buffer]),
+            Need::JoinSaid(part) => joins::PARTS[part].into(),
+            Need::JoinedFaultInSecond => "pair from a join with a fault in the second list only".into(),
+            Need::JoinedFaultInBoth => "pair from a join with a fault in both lists".into(),
+            Need::FaultByStart => "pair from a join with a fault that would be none from opening".into(),
             Need::Sight(i) => SIGHTS[i].name.into(),
         }
     }
@@ -219,6 +253,7 @@ impl Need {
             Need::Answer(Piece, answer) => random.feed[usize::from(answer)],
             Need::Answer(End, answer) => random.feed_end[usize::from(answer)],
             Need::Answer(Balance, answer) => random.balance[usize::from(answer)],
+            Need::Answer(Join, answer) => random.join[usize::from(answer)],
             Need::FeedClause(Piece, clause) => random.clause_feed[clause],
             Need::FeedClause(_, clause) => random.clause_feed_end[clause],
             Need::Promise(part) => random.promised[part],
@@ -237,6 +272,12 @@ impl Need {
             Need::AskedItself => random.asked_itself,
             Need::Added => random.added,
             Need::Held => random.held,
+            Need::JoinClause(side, clause) => random.clause_join[side][clause],
+            Need::JoinShort(buffer) => random.short_join[buffer],
+            Need::JoinSaid(part) => random.said_of_joins[part],
+            Need::JoinedFaultInSecond => random.joined_pair_faults[1],
+            Need::JoinedFaultInBoth => random.joined_pair_faults[2],
+            Need::FaultByStart => random.faults_by_start,
             Need::Sight(i) => random.sights.0[i],
         }
     }
@@ -246,11 +287,13 @@ impl Need {
         match (self, &case.pair) {
             (Need::RandomCases, _) => return !RANDOM.iter().any(|(name, _)| *name == case.name),
             (Need::Fixed(name) | Need::Kind(name), _) => return case.name != name,
-            (Need::FaultInSecond | Need::OtherNumbers, Some((_, in_first))) => {
+            // From opening it is no such pair.
+            (Need::FaultByStart, Some(_)) => case.start = None,
+            (Need::FaultInSecond | Need::JoinedFaultInSecond | Need::OtherNumbers, Some((_, in_first))) => {
                 let in_first = in_first.clone();
                 keep(case, &in_first);
             }
-            (Need::FaultInBoth, Some((_, in_first))) => {
+            (Need::FaultInBoth | Need::JoinedFaultInBoth, Some((_, in_first))) => {
                 let in_first = in_first.clone();
                 let kept = play(case, |seen| seen.answer != 1, Some(&in_first));
                 keep(case, &kept);
@@ -261,6 +304,7 @@ impl Need {
                 keep(case, &kept);
             }
             (Need::FaultInSecond | Need::FaultInBoth | Need::OtherNumbers | Need::ReleasePutIn | Need::NotFittingPutIn, None) => {}
+            (Need::JoinedFaultInSecond | Need::JoinedFaultInBoth | Need::FaultByStart, None) => {}
             // A pair is run twice with two answers to a record.
             (_, Some(_)) => return false,
             // A case without a call of the feed is held to no promise.
@@ -283,6 +327,7 @@ impl Need {
             Call::Feed(_) => Piece,
             Call::FeedEnd => End,
             Call::Balance(_) => Balance,
+            Call::Join(_) => Join,
         };
         let (before, after) = (&seen.before, &seen.after);
         match self {
@@ -300,7 +345,7 @@ impl Need {
                 let mut entries = after.slip.get(1..).unwrap_or(&[]).chunks_exact(7);
                 let n = after.slip.first().map_or(0, |&n| usize::from(n));
                 let such = [1 << kind, source as u8];
-                call == Step && seen.answer == 1 && entries.by_ref().take(n).any(|e| e[1..3] == such)
+                [Step, Join].contains(&call) && seen.answer == 1 && entries.by_ref().take(n).any(|e| e[1..3] == such)
             }
             Need::AskedClosed => call == Question && seen.answer == 0 && before.desk[1] == 1,
             Need::AskedItself => {
@@ -308,6 +353,9 @@ impl Need {
             }
             Need::Added => matches!(seen.call, Call::Balance(piece) if seen.answer == 0 && piece.len() >= 12),
             Need::Held => matches!(seen.call, Call::Balance(piece) if !piece.is_empty()) && seen.history.steps.is_some(),
+            Need::JoinClause(side, clause) => matches!(seen.join_unfit(), Some(Unfit::Bench(s, c)) if (s, c) == (side, clause)),
+            Need::JoinShort(buffer) => matches!(seen.join_unfit(), Some(Unfit::Short(short)) if short == buffer),
+            Need::JoinSaid(part) => call == Join && (seen.answer < 2 || ![1, 2].contains(&part)),
             Need::OlderFits(newest, mode) => seen.look().older_fits() == Some((newest, mode)),
             Need::Sight(i) => SIGHTS[i].met(&seen.look()),
             _ => false,
@@ -341,17 +389,36 @@ impl Seen<'_> {
             seen: &before.seen,
             seen_after: &after.seen,
             slip: &after.slip,
+            slip_before: &before.slip,
             feed: &self.feed,
             feed_after: &self.feed_after,
             history: self.history,
             shown: OnceCell::new(),
             clashes: OnceCell::new(),
             numbers: OnceCell::new(),
+            joined: OnceCell::new(),
+            fit_benches: OnceCell::new(),
             tally: OnceCell::new(),
         }
     }
+    /// Why a join is refused with 11.
+    fn join_unfit(&self) -> Option<Unfit> {
+        let Call::Join(sides) = self.call else { return None };
+        let [one, two] = sides.each_ref().map(|side| side.lent(self.before.lent()));
+        let Buffers { desk, sheet, seen, slip } = &self.before;
+        joins::unfit(one, two, [desk.len(), sheet.len(), seen.len(), slip.len()])
+    }
     /// With answer 11: the first clause that is violated.
     fn clause(&self) -> Option<&'static str> {
+        if let Some(unfit) = self.join_unfit() {
+            return match unfit {
+                Unfit::Bench(_, clause) => Some(CLAUSES[clause]),
+                Unfit::Short(_) => None,
+            };
+        }
+        if matches!(self.call, Call::Join(_)) {
+            return None;
+        }
         if self.call.of_feed() {
             return reference::unfit_feed(&self.feed).filter(|_| self.answer == 11);
         }
@@ -365,8 +432,10 @@ impl Seen<'_> {
 /// Plays a case's calls (or only those chosen) on the fast judge, and says which are kept; the others are undone.
 fn play(case: &Case, keeps: impl Fn(&Seen) -> bool, chosen: Option<&[bool]>) -> Vec<bool> {
     let mut now = case.buffers.clone();
-    if let Some((k, _)) = case.pair {
-        (FAST.open)(k, &mut now.desk, &mut now.sheet, &mut now.seen);
+    match (&case.pair, &case.start) {
+        (Some(_), Some(Call::Join(sides))) => drop(joins::join(&mut now, sides)),
+        (Some((k, _)), _) => drop((FAST.open)(*k, &mut now.desk, &mut now.sheet, &mut now.seen)),
+        _ => {}
     }
     let (mut feed, mut history) = (case.feed.clone(), History::default());
     let mut kept = Vec::new();
@@ -386,6 +455,7 @@ fn play(case: &Case, keeps: impl Fn(&Seen) -> bool, chosen: Option<&[bool]>) -> 
             Call::Feed(piece) => (FAST.feed)(&mut feed, desk, sheet, seen, slip, piece, &mut record),
             Call::FeedEnd => (FAST.feed_end)(&mut feed, desk, sheet, seen, slip, &mut record),
             Call::Balance(piece) => (FAST.balance)(piece, &mut [0; 64]),
+            Call::Join(sides) => joins::join(&mut now, sides),
         };
         let seen = Seen { call, before, after: now, feed: feed_before, feed_after: feed, history, answer, word };
         kept.push(keeps(&seen));
@@ -435,7 +505,7 @@ pub fn under(fixed: &Counts, random: &Counts, cases: u64) -> Vec<Under> {
 /// Answers that were given though the call has none such, and how often.
 pub fn undue(counts: &Counts) -> Vec<(Need, u64)> {
     let due = all();
-    [Opening, Step, Question, Start, Piece, End, Balance]
+    [Opening, Step, Question, Start, Piece, End, Balance, Join]
         .into_iter()
         .flat_map(|call| (0..16).map(move |answer| Need::Answer(call, answer)))
         .filter(|need| !due.iter().any(|(d, _)| d == need))

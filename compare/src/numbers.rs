@@ -12,10 +12,9 @@ use reference::{COUNT, DEEPEST, MARKS, STATES};
 /// The last count: no record is accepted any more.
 pub const FULL: u32 = 4_294_967_295;
 
-/// Kinds but no number, a number but no kinds, and a number above the count.
+/// Kinds but no number, and a number but no kinds. A number above the count fits, as any other does.
 pub const NO_NUMBER: &str = "kinds but number 0";
 pub const NO_KINDS: &str = "number but no kinds";
-pub const ABOVE: &str = "number above the count";
 
 fn word(bytes: &[u8], at: usize) -> u32 {
     bytes[at..at + 4].iter().rev().fold(0, |word, &byte| word << 8 | u32::from(byte))
@@ -72,7 +71,7 @@ fn give_all(b: &mut Buffers, count: u32, mut number: impl FnMut(usize) -> u32) {
     set_count(&mut b.desk, count);
     b.seen[..4 * pairs].fill(0);
     for pair in (0..pairs).filter(|&pair| b.sheet[pair] != 0) {
-        set_number(&mut b.seen, pair, number(pair).clamp(1, count));
+        set_number(&mut b.seen, pair, number(pair).max(1));
     }
 }
 
@@ -96,21 +95,32 @@ fn any_count(rng: &mut Rng) -> u32 {
     }
 }
 
+/// One up to the count.
 fn any_number(rng: &mut Rng, count: u32) -> u32 {
-    match rng.under(6) {
+    let number = match rng.under(6) {
         0 => count,
         1 => 1,
         2 => count - rng.under(3).min(count as usize) as u32,
         3 => rng.pick(&TURNS) + rng.under(2) as u32,
         4 => rng.pick(&DISTINCT),
-        _ => 1 + rng.next() as u32 % count,
-    }
+        _ => 1 + rng.next() as u32 % count.max(1),
+    };
+    number.min(count)
 }
 
-/// Numbers of one sort: any, all the count, rising or falling from pair to pair.
+/// One above the count, where there is one: by one, by the highest byte though the others are 0, the last, or any.
+fn any_above(rng: &mut Rng, count: u32) -> u32 {
+    if count == FULL {
+        return FULL;
+    }
+    let by_high = if count >> 24 < 255 { ((count >> 24) + 1) << 24 } else { count + 1 };
+    let any = count + 1 + rng.next() as u32 % (FULL - count);
+    rng.pick(&[count + 1, count + 1, FULL, by_high, any])
+}
+
+/// Numbers of one sort: any up to the count, all the count, rising or falling from pair to pair, any above the count, or both.
 fn scatter_to(rng: &mut Rng, b: &mut Buffers, count: u32) {
-    let count = if b.sheet[..b.k() * b.k()].iter().any(|&kinds| kinds != 0) { count.max(1) } else { count };
-    let sort = rng.under(6);
+    let sort = rng.under(8);
     let mut turn = 0;
     give_all(b, count, |_| {
         turn += 1;
@@ -118,56 +128,60 @@ fn scatter_to(rng: &mut Rng, b: &mut Buffers, count: u32) {
             0 => count,
             1 => turn,
             2 => count.saturating_sub(turn),
+            3 => any_above(rng, count),
+            4 if rng.mille(300) => any_above(rng, count),
             _ => any_number(rng, count),
         }
     });
 }
 
-/// Gives a fit desk any count, and any numbers that fit.
+/// Gives a fit desk any count, and any numbers.
 pub fn scatter(rng: &mut Rng, b: &mut Buffers) {
     let count = any_count(rng);
     scatter_to(rng, b, count);
 }
 
 /// Gives a pair a number if it has none.
-pub fn give(desk: &mut [u8], seen: &mut [u8], pair: usize) {
+pub fn give(seen: &mut [u8], pair: usize) {
     if seen.len() >= 4 * pair + 4 && number(seen, pair) == 0 {
-        set_count(desk, count(desk).max(1));
         set_number(seen, pair, 1);
     }
 }
 
-/// Violates one clause about numbers in a fit desk; false if it can't.
-pub fn spoil(rng: &mut Rng, clause: &str, desk: &mut [u8], sheet: &mut [u8], seen: &mut [u8]) -> bool {
+/// Some pair: the first, the last, or any.
+fn some_pair(rng: &mut Rng, k: usize) -> usize {
+    let any = rng.under(k * k);
+    rng.pick(&[0, k * k - 1, any, any])
+}
+
+/// Violates one clause about numbers in a fit desk.
+pub fn spoil(rng: &mut Rng, clause: &str, sheet: &mut [u8], seen: &mut [u8], k: usize) {
+    let pair = some_pair(rng, k);
+    if clause == NO_NUMBER {
+        if sheet[pair] == 0 {
+            sheet[pair] = rng.pick(&[ER, EN, SR, SR, SN, 15]);
+        }
+        set_number(seen, pair, 0);
+    } else {
+        sheet[pair] = 0;
+        give(seen, pair);
+    }
+}
+
+/// Gives some pair of a fit desk a number above the count, by another number or by another count: it fits.
+fn lift(rng: &mut Rng, desk: &mut [u8], sheet: &mut [u8], seen: &mut [u8]) {
     let k = usize::from(desk[0]);
-    let pair = rng.pick(&[0, k * k - 1, rng.clone().under(k * k), rng.clone().under(k * k)]);
-    rng.next();
-    if clause != NO_KINDS && sheet[pair] == 0 {
+    let pair = some_pair(rng, k);
+    if sheet[pair] == 0 {
         sheet[pair] = rng.pick(&[ER, EN, SR, SR, SN, 15]);
     }
-    match clause {
-        NO_NUMBER => set_number(seen, pair, 0),
-        NO_KINDS => {
-            sheet[pair] = 0;
-            give(desk, seen, pair);
-        }
-        _ => {
-            let count = count(desk);
-            let most = (0..k * k).map(|pair| number(seen, pair)).max().unwrap_or(0);
-            if most > 1 && (count == FULL || rng.mille(300)) {
-                set_count(desk, most - 1);
-                give(desk, seen, pair);
-            } else if count < FULL {
-                // Above by one, by the highest byte though the others are 0, or by anything.
-                let by_high = if count >> 24 < 255 { ((count >> 24) + 1) << 24 } else { count + 1 };
-                let any = count + 1 + rng.next() as u32 % (FULL - count);
-                set_number(seen, pair, rng.pick(&[count + 1, count + 1, FULL, by_high, any]));
-            } else {
-                return false;
-            }
-        }
+    give(seen, pair);
+    let most = (0..k * k).map(|pair| number(seen, pair)).max().unwrap_or(0);
+    if count(desk) == FULL || rng.mille(300) {
+        set_count(desk, rng.pick(&[most - 1, 0]));
+    } else {
+        set_number(seen, pair, any_above(rng, count(desk)));
     }
-    true
 }
 
 // ---------------------------------------------------------------------- random
@@ -240,45 +254,57 @@ pub fn later_kind(rng: &mut Rng) -> Case {
     case(buffers, calls)
 }
 
-/// A pair with a number that does not fit, in the sheets or right behind them, where it must not matter; and a pair whose
-/// number just fits.
+/// A step and a question, in either order.
+fn both_calls(rng: &mut Rng, k: usize) -> Vec<Call> {
+    let mut calls = vec![Call::Step(Rec::new(rng.under(8) as u8, rng.pick(&[0, 2, 3, 8]), 0, 0)), Call::Ask(any_class(rng, k))];
+    if rng.mille(500) {
+        calls.reverse();
+    }
+    calls
+}
+
+/// A pair with a number that does not fit, in the sheets or right behind them, where it must not matter.
 fn broken(rng: &mut Rng) -> Case {
     let k = rng.pick(&[1, 2, 3, 3, 8, 17, 64]);
     let mut buffers = fit_desk(rng, k);
     let pairs = k * k;
     buffers.desk[1] = u8::from(rng.mille(100));
-    let clause = rng.pick(&[NO_NUMBER, NO_KINDS, ABOVE]);
-    let Buffers { desk, sheet, seen, .. } = &mut buffers;
-    match rng.under(4) {
-        0 => {
-            sheet.resize(pairs + 1, 0);
-            seen.resize(4 * pairs + 4, 0);
-            let (kinds, number) = match clause {
-                NO_NUMBER => (rng.between(1, 255) as u8, 0),
-                NO_KINDS => (0, rng.next() as u32 | 1),
-                _ => (rng.between(1, 15) as u8, FULL),
-            };
-            sheet[pairs] = kinds;
-            set_number(seen, pairs, number);
-        }
-        1 => {
-            // The count is as low as it may be.
-            let most = (0..pairs).map(|pair| number(seen, pair)).max().unwrap_or(0);
-            set_count(desk, most);
-        }
-        _ => drop(spoil(rng, clause, desk, sheet, seen)),
+    let clause = rng.pick(&[NO_NUMBER, NO_KINDS]);
+    let Buffers { sheet, seen, .. } = &mut buffers;
+    if rng.mille(250) {
+        sheet.resize(pairs + 1, 0);
+        seen.resize(4 * pairs + 4, 0);
+        let (kinds, number) = if clause == NO_NUMBER { (rng.between(1, 255) as u8, 0) } else { (0, rng.next() as u32 | 1) };
+        sheet[pairs] = kinds;
+        set_number(seen, pairs, number);
+    } else {
+        spoil(rng, clause, sheet, seen, k);
     }
-    let mut calls = vec![Call::Step(Rec::new(rng.under(8) as u8, rng.pick(&[0, 2, 3, 8]), 0, 0)), Call::Ask(any_class(rng, k))];
-    if rng.mille(500) {
-        calls.reverse();
-    }
+    let calls = both_calls(rng, k);
     case(buffers, calls)
 }
 
-pub const KINDS: [Kind; 3] = [
+/// Numbers above the count, which fit, and one that is the count.
+fn above(rng: &mut Rng) -> Case {
+    let k = rng.pick(&[1, 2, 3, 3, 8, 17, 64]);
+    let mut buffers = fit_desk(rng, k);
+    buffers.desk[1] = u8::from(rng.mille(60));
+    let Buffers { desk, sheet, seen, .. } = &mut buffers;
+    if rng.mille(150) {
+        let most = (0..k * k).map(|pair| number(seen, pair)).max().unwrap_or(0);
+        set_count(desk, most);
+    } else {
+        lift(rng, desk, sheet, seen);
+    }
+    let calls = both_calls(rng, k);
+    case(buffers, calls)
+}
+
+pub const KINDS: [Kind; 4] = [
     Kind { name: "near the last count", weight: 80, make: near_full },
     Kind { name: "later kind of a pair", weight: 130, make: later_kind },
-    Kind { name: "number that does not fit", weight: 90, make: broken },
+    Kind { name: "number that does not fit", weight: 65, make: broken },
+    Kind { name: "number above the count", weight: 40, make: above },
 ];
 
 // ----------------------------------------------------------------------- fixed
@@ -477,8 +503,8 @@ fn fits_or_not(name: &'static str, buffers: Buffers, fits: bool) -> Case {
     Case { name, meant, ..case(buffers, vec![Call::Ask(0), Call::Step(Rec::new(3, 3, 0, 0))]) }
 }
 
-/// Each pair, and the one behind the last: without a number, with a number but no kinds, above the count, at it, and with 1.
-/// The others all have a kind, or none of them has.
+/// Each pair, and the one behind the last: without a number, with a number but no kinds, and, which all fit, above the count, at it,
+/// and with 1. The others all have a kind, or none of them has.
 fn each_pair(each: &mut dyn FnMut(Case) -> bool) -> bool {
     let whats = 5;
     let mut all = [1, 2, 3, 8, 64].into_iter().flat_map(|k| [false, true].map(|full| (k, full))).flat_map(|(k, full)| {
@@ -501,11 +527,11 @@ fn each_pair(each: &mut dyn FnMut(Case) -> bool) -> bool {
         let (kinds, number) = [(SR, 0), (0, 5), (SR, USUAL + 1), (SR, USUAL), (SR, 1)][what];
         sheet[pair] = kinds;
         set_number(seen, pair, number);
-        each(fits_or_not(EACH_PAIR, buffers, what > 2 || pair == k * k))
+        each(fits_or_not(EACH_PAIR, buffers, what > 1 || pair == k * k))
     })
 }
 
-/// Each byte of a number with each value, beside some counts.
+/// Each byte of a number with each value, beside some counts: any fits that is not 0.
 fn each_byte(each: &mut dyn FnMut(Case) -> bool) -> bool {
     let counts = [1, 256, 0x0403_0201, 0x00FF_00FF, 0x8000_0000, FULL];
     let mut all = counts.into_iter().flat_map(|count| [0, count].map(|base| (count, base))).flat_map(|(count, base)| {
@@ -517,7 +543,7 @@ fn each_byte(each: &mut dyn FnMut(Case) -> bool) -> bool {
         let mut buffers = s.buffers();
         set_count(&mut buffers.desk, count);
         set_number(&mut buffers.seen, 2, number);
-        each(fits_or_not(EACH_BYTE, buffers, number != 0 && number <= count))
+        each(fits_or_not(EACH_BYTE, buffers, number != 0))
     })
 }
 

@@ -8,11 +8,13 @@ pub struct Plant {
     /// The call that shows it to be wrong must be one of these sights, where any are named.
     pub sights: &'static [&'static str],
     /// The part of demand 3's claim or of the feed's promise, the least cycle, the first-seen numbers, what the records
-    /// alone draw, or what is said of balances, that it breaks while it stands in the place of every judge.
+    /// alone draw, or what is said of balances or of joins, that it breaks while it stands in the place of every judge; "reference" for
+    /// what is to come of the fixed cases about numbers.
     pub breaks: Option<&'static str>,
-    /// Whether nothing but its feed, or nothing but its balance, is wrong.
+    /// Whether nothing but its feed, nothing but its balance, or nothing but its join is wrong.
     pub of_feed: bool,
     pub of_balance: bool,
+    pub of_join: bool,
     /// Whether it is wrong about clashes, and the cases with clashes are to show it.
     pub of_clash: bool,
     /// Whether it is wrong about the count or first-seen numbers, and the cases about these come first.
@@ -21,6 +23,8 @@ pub struct Plant {
     pub of_depth: bool,
     /// Whether it is wrong about the modes of releases, and the cases about these come first.
     pub of_release: bool,
+    /// Whether of the pairs of lists those from a join are to show what it breaks.
+    pub from_join: bool,
     pub judge: Judge,
 }
 

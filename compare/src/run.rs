@@ -7,7 +7,8 @@ use crate::claim;
 use crate::drawing::{self, Drawing};
 use crate::feeds::{self, Fed, PROMISE};
 use crate::gen::{sizes, Buffers};
-use crate::judges::{Judges, Subject};
+use crate::joins;
+use crate::judges::{Judges, Lent, Subject};
 use crate::numbers;
 use crate::sights::{self, Look, SIGHTS};
 use reference::{CLAUSES, DEEPEST, DEPTHS, DESK, FEED, FEED_CLAUSES, MARKS};
@@ -58,9 +59,32 @@ pub enum Call {
     Feed(Vec<u8>),
     FeedEnd,
     Balance(Vec<u8>),
+    /// Two benches into the case's own buffers.
+    Join(Box<[Side; 2]>),
+}
+
+/// A bench that is joined.
+#[derive(Clone)]
+pub enum Side {
+    /// Desk and both sheets of these; their slip lies idle.
+    Given(Buffers),
+    /// A copy of the case's own buffers as they stand before the call.
+    Own,
+}
+
+impl Side {
+    pub fn lent<'a>(&'a self, own: Lent<'a>) -> Lent<'a> {
+        match self {
+            Side::Given(b) => b.lent(),
+            Side::Own => own,
+        }
+    }
 }
 
 impl Call {
+    pub fn join(first: Side, second: Side) -> Call {
+        Call::Join(Box::new([first, second]))
+    }
     pub fn of_feed(&self) -> bool {
         matches!(self, Call::FeedStart | Call::Feed(_) | Call::FeedEnd)
     }
@@ -76,20 +100,24 @@ pub struct Case {
     /// For a pair of lists (demand 3): which calls stand in the first list too. Then
     /// `calls` is the second list, and each list starts from opening with this K.
     pub pair: Option<(u64, Vec<bool>)>,
+    /// A join from which each list of a pair starts instead.
+    pub start: Option<Call>,
     /// The clause that the case is meant to violate first, where it is meant to.
     pub clause: Option<&'static str>,
     /// What is to come of the calls, where the case is made so that it is known.
     pub meant: Option<Meant>,
 }
 
-/// The answers, and how the slip begins then; where they are known, the whole desk, the count and the number of each pair, and
-/// the last balances.
+/// The answers, and how the slip begins then; where they are known, the whole desk, the sheet, the count and the number of each
+/// pair, and the last balances.
 #[derive(Clone, Default)]
 pub struct Meant {
     /// Of a pair of lists those of the second list, then those of the first.
     pub answers: Vec<u8>,
     pub slip: Vec<u8>,
     pub desk: Option<Vec<u8>>,
+    /// The sheet, of K x K bytes.
+    pub sheet: Option<Vec<u8>>,
     pub numbers: Option<(u32, Vec<u32>)>,
     pub balances: Option<balances::Numbers>,
     /// Whether demand 3 says nothing of this pair of lists.
@@ -97,8 +125,8 @@ pub struct Meant {
 }
 
 pub struct Diff {
-    /// The judge that is wrong, the part of demand 3's claim, of the feed's promise or of what is said of balances that is
-    /// broken, LEAST, NUMBERS, or BY_RECORDS.
+    /// The judge that is wrong, the part of demand 3's claim, of the feed's promise or of what is said of balances or of joins
+    /// that is broken, LEAST, NUMBERS, or BY_RECORDS.
     pub judge: &'static str,
     pub call: usize,
     pub text: String,
@@ -128,6 +156,12 @@ pub struct Counts {
     pub clause_feed: [u64; FEED_CLAUSES.len()],
     pub clause_feed_end: [u64; FEED_CLAUSES.len()],
     pub balance: [u64; 16],
+    pub join: [u64; 16],
+    /// Joins refused for a bench, by which of the two and its first clause, and for a buffer to be written.
+    pub clause_join: [[u64; CLAUSES.len()]; 2],
+    pub short_join: [u64; 4],
+    /// Joins held to each part of what is said of them.
+    pub said_of_joins: [u64; joins::PARTS.len()],
     /// Pieces of two records and more whose balances were added over a split, and those held to the locks on a desk.
     pub added: u64,
     pub held: u64,
@@ -141,6 +175,9 @@ pub struct Counts {
     pub pair_records: u64,
     /// Pairs of lists with no fault, with one in the second only, in both.
     pub pair_faults: [u64; 3],
+    /// The same of those that start from a join, and faults of these that would be none from opening.
+    pub joined_pair_faults: [u64; 3],
+    pub faults_by_start: u64,
     /// Pairs of lists that gave two classes another number each.
     pub pair_numbers: u64,
     /// Those with a release of mode 1 to 5 put in that was accepted, and that was refused with 5.
@@ -196,6 +233,16 @@ struct Bench {
 }
 
 impl Bench {
+    /// As a bench that is joined.
+    fn lent(&self) -> Lent<'_> {
+        [self.desk.see(), self.sheet.see(), self.seen.see()]
+    }
+    fn all_four(&self) -> [&[u8]; 4] {
+        [self.desk.see(), self.sheet.see(), self.seen.see(), self.slip.see()]
+    }
+    fn lend(&mut self) -> [&mut [u8]; 4] {
+        [self.desk.lend(), self.sheet.lend(), self.seen.lend(), self.slip.lend()]
+    }
     fn of(case: &Case) -> Bench {
         Bench {
             desk: Guarded::of(&case.buffers.desk),
@@ -326,6 +373,15 @@ fn not_least(bench: &Bench) -> Option<String> {
 }
 
 impl Counts {
+    fn show(&mut self, slip: &[u8]) {
+        self.longest_cycle = self.longest_cycle.max(slip[0]);
+        for dependency in slip[1..].chunks_exact(7).take(usize::from(slip[0])) {
+            let kind = dependency[1].trailing_zeros() as usize;
+            if let Some(shown) = self.shown.get_mut(kind).and_then(|s| s.get_mut(usize::from(dependency[2]))) {
+                *shown += 1;
+            }
+        }
+    }
     fn sight(
         &mut self, call: &Call, before: &Bench, after: &Bench, answer: u8, clause: Option<&'static str>, history: History,
     ) {
@@ -341,6 +397,7 @@ impl Counts {
             seen: before.seen.see(),
             seen_after: after.seen.see(),
             slip: after.slip.see(),
+            slip_before: before.slip.see(),
             answer,
             clause,
             feed: before.feed.see(),
@@ -349,6 +406,8 @@ impl Counts {
             shown: OnceCell::new(),
             clashes: OnceCell::new(),
             numbers: OnceCell::new(),
+            joined: OnceCell::new(),
+            fit_benches: OnceCell::new(),
             tally: OnceCell::new(),
         };
         if let Some((newest, mode)) = look.older_fits() {
@@ -368,6 +427,8 @@ pub struct History {
     pub after_end: bool,
     /// From opening by steps: how many of them there were.
     pub steps: Option<u64>,
+    /// The same from a join that was not refused.
+    pub joined: Option<u64>,
     /// The answers of steps since the last opening, a bit each.
     pub answers: u16,
 }
@@ -379,14 +440,22 @@ impl History {
             Call::Open(_) if answer == 0 => Some(0),
             Call::Step(_) => self.steps.map(|steps| steps + 1),
             Call::Feed(_) | Call::FeedEnd => None,
+            Call::Join(_) if answer < 2 => None,
             _ => self.steps,
         };
+        let joined = match call {
+            Call::Join(_) if answer < 2 => Some(0),
+            Call::Open(_) if answer == 0 => None,
+            Call::Step(_) => self.joined.map(|steps| steps + 1),
+            Call::Feed(_) | Call::FeedEnd => None,
+            _ => self.joined,
+        };
         let answers = match call {
-            Call::Open(_) => 0,
+            Call::Open(_) | Call::Join(_) => 0,
             Call::Step(_) => self.answers | 1 << answer,
             _ => self.answers,
         };
-        History { after_end: matches!(call, Call::FeedEnd) && answer == 0, steps, answers }
+        History { after_end: matches!(call, Call::FeedEnd) && answer == 0, steps, joined, answers }
     }
 }
 
@@ -473,14 +542,7 @@ fn run_calls(case: &Case, calls: &[&Call], judges: &mut Judges, counts: &mut Cou
                     if refe.desk.see()[1] != 1 {
                         return fail("reference", "desk open after a 1".into());
                     }
-                    let slip = refe.slip.see();
-                    counts.longest_cycle = counts.longest_cycle.max(slip[0]);
-                    for dependency in slip[1..].chunks_exact(7).take(usize::from(slip[0])) {
-                        let kind = dependency[1].trailing_zeros() as usize;
-                        if let Some(shown) = counts.shown.get_mut(kind).and_then(|s| s.get_mut(usize::from(dependency[2]))) {
-                            *shown += 1;
-                        }
-                    }
+                    counts.show(refe.slip.see());
                 }
             }
             Call::Ask(class) => {
@@ -604,6 +666,33 @@ fn run_calls(case: &Case, calls: &[&Call], judges: &mut Judges, counts: &mut Cou
                     return fail("fast", text);
                 }
             }
+            Call::Join(sides) => {
+                // Guards around the benches, which nobody may write.
+                let lent = sides.each_ref().map(|side| side.lent(before.lent()).map(Guarded::of));
+                let [one, two] = lent.each_ref().map(|bench| bench.each_ref().map(Guarded::see));
+                want = other.join_of(one, two, refe.lend());
+                let [d, s, n, l] = subj.lend();
+                got = subject.join(one, two, d, s, n, l);
+                fast_got = fast.join_of(one, two, quick.lend());
+                counts.join[usize::from(want)] += 1;
+                let sizes = before.all_four().map(<[u8]>::len);
+                match joins::unfit(one, two, sizes) {
+                    Some(joins::Unfit::Bench(side, unfit)) => {
+                        clause = Some(CLAUSES[unfit]);
+                        counts.clause_join[side][unfit] += 1;
+                    }
+                    Some(joins::Unfit::Short(buffer)) => counts.short_join[buffer] += 1,
+                    None => {}
+                }
+                counts.sight(call, &before, &refe, want, clause, history);
+                let given = sides.iter().flat_map(|side| side.lent(before.lent()));
+                if !lent.as_flattened().iter().zip(given).all(|(lent, bytes)| lent.all == Guarded::of(bytes).all) {
+                    return fail("subject", "changed a bench that was joined".into());
+                }
+                if want == 1 && clause.is_none() && refe.slip.see().len() > 1 {
+                    counts.show(refe.slip.see());
+                }
+            }
         }
         history = history.after(call, want);
         answers.push(got);
@@ -619,6 +708,22 @@ fn run_calls(case: &Case, calls: &[&Call], judges: &mut Judges, counts: &mut Cou
             Call::Open(_) if want == 0 => accepted = Some(Vec::new()),
             Call::Step(record) if want < 2 => accepted.iter_mut().for_each(|all| all.extend_from_slice(record.slice())),
             Call::Step(_) | Call::Feed(_) | Call::FeedEnd => accepted = None,
+            Call::Join(sides) => {
+                if want < 2 {
+                    accepted = Some(Vec::new());
+                }
+                let [one, two] = sides.each_ref().map(|side| side.lent(before.lent()));
+                let join = joins::Join { benches: [one, two], before: before.all_four(), after: refe.all_four(), answer: want };
+                for (part, said) in join.said(counts.calls) {
+                    counts.said_of_joins[part] += 1;
+                    if let Some(text) = said(&join, subject) {
+                        return fail(joins::PARTS[part], text);
+                    }
+                }
+                if want < 2 && case.pair.is_none() {
+                    by_records = Some(Drawing::joined(one, two));
+                }
+            }
             Call::Balance(piece) => {
                 if want == 0 {
                     counts.added += u64::from(piece.len() >= 12);
@@ -642,7 +747,7 @@ fn run_calls(case: &Case, calls: &[&Call], judges: &mut Judges, counts: &mut Cou
         }
         // A feed that stood at an answer leaves the slip.
         let may_show = match call {
-            Call::Step(_) => true,
+            Call::Step(_) | Call::Join(_) => true,
             Call::Feed(_) => clause.is_none() && before.feed.see()[0] == 0,
             _ => false,
         };
@@ -685,7 +790,7 @@ fn run_calls(case: &Case, calls: &[&Call], judges: &mut Judges, counts: &mut Cou
         // "nothing changed", told from the bytes before the call
         let may_change = match call {
             Call::Open(_) => want == 0,
-            Call::Step(_) => want < 2,
+            Call::Step(_) | Call::Join(_) => want < 2,
             Call::Feed(piece) => clause.is_none() && feeds::completes(before.feed.see(), piece),
             Call::Ask(_) | Call::FeedStart | Call::FeedEnd | Call::Balance(_) => false,
         };
@@ -730,6 +835,10 @@ pub fn run(case: &Case, judges: &mut Judges, counts: &mut Counts) -> Result<(), 
                 let desk = ran.reference.desk.see();
                 if let Some(at) = meant.desk.as_ref().and_then(|wanted| (0..DESK).find(|&at| desk[at] != wanted[at])) {
                     return fail(format!("desk byte {at} is {}, and not as it was worked out", desk[at]));
+                }
+                let sheet = ran.reference.sheet.see();
+                if meant.sheet.as_ref().is_some_and(|wanted| !sheet.starts_with(wanted)) {
+                    return fail(format!("sheet {sheet:?}, and not as it was worked out"));
                 }
                 if let Some((count, wanted)) = &meant.numbers {
                     let seen = ran.reference.seen.see();
@@ -839,10 +948,10 @@ fn single_steps(fed: &Fed, subject: &mut Subject, bench: &mut Bench) -> (u8, u64
     (answer, number)
 }
 
-/// Demand 3: two lists, each from its own opening in buffers of its own.
+/// Demand 3: two lists, each from its own opening in buffers of its own, or both from the same join.
 fn run_pair(case: &Case, k: u64, in_first: &[bool], judges: &mut Judges, counts: &mut Counts) -> Result<(), Diff> {
     let fail = |judge: &'static str, call: usize, text: String| Err(Diff { judge, call, text });
-    let open = Call::Open(k);
+    let open = case.start.clone().unwrap_or(Call::Open(k));
     let mut play = |case: &Case, places: &[usize]| {
         let calls: Vec<&Call> = std::iter::once(&open).chain(places.iter().map(|&at| &case.calls[at])).collect();
         run_calls(case, &calls, judges, counts)
@@ -864,7 +973,14 @@ fn run_pair(case: &Case, k: u64, in_first: &[bool], judges: &mut Judges, counts:
     };
     let run = |name, answers, places: Vec<usize>| {
         let records: Vec<&Rec> = places.iter().filter_map(record).collect();
-        let (drawn, drawing) = drawing::first_closed(k as usize, records.iter().copied());
+        let start = match &case.start {
+            Some(Call::Join(sides)) => {
+                let [one, two] = sides.each_ref().map(|side| side.lent(case.buffers.lent()));
+                Drawing::joined(one, two)
+            }
+            _ => Drawing::opened(k as usize),
+        };
+        let (drawn, drawing) = drawing::first_closed(start, records.iter().copied());
         claim::Run { name, records, answers, places, drawing, drawn }
     };
     let first = run("first", &first_ran.answers[1..], first_places);
@@ -898,7 +1014,14 @@ fn run_pair(case: &Case, k: u64, in_first: &[bool], judges: &mut Judges, counts:
     counts.pair_released += u64::from(released.contains(&0));
     counts.pair_not_fitting += u64::from(released.contains(&5));
     counts.pair_records += second.answers.len() as u64;
-    counts.pair_faults[usize::from(second.fault().is_some()) + usize::from(first.fault().is_some())] += 1;
+    let faults = usize::from(second.fault().is_some()) + usize::from(first.fault().is_some());
+    if case.start.is_some() {
+        counts.joined_pair_faults[faults] += 1;
+        let (from_opening, _) = drawing::first_closed(Drawing::opened(k as usize), second.records.iter().copied());
+        counts.faults_by_start += u64::from(second.fault().is_some() && from_opening.is_none());
+    } else {
+        counts.pair_faults[faults] += 1;
+    }
     Ok(())
 }
 
@@ -914,7 +1037,7 @@ pub fn tally(name: &'static str, counts: &mut Counts, calls_before: u64) {
 }
 
 /// A smaller case that still differs: calls are left out, then records of pieces whose balances are asked for, then bytes set
-/// to zero.
+/// to zero, of benches that are joined too.
 pub fn shrink(case: &Case, judge: &'static str, judges: &mut Judges) -> Case {
     let started = std::time::Instant::now();
     let mut best = case.clone();
@@ -970,11 +1093,20 @@ pub fn shrink(case: &Case, judge: &'static str, judges: &mut Judges) -> Case {
             size = (size / 2).next_multiple_of(6);
         }
     }
-    fn buffers(case: &mut Case) -> [&mut Vec<u8>; 5] {
+    fn buffers(case: &mut Case) -> Vec<&mut Vec<u8>> {
         let Buffers { desk, sheet, seen, slip } = &mut case.buffers;
-        [desk, sheet, seen, slip, &mut case.feed]
+        let mut all = vec![desk, sheet, seen, slip, &mut case.feed];
+        for call in case.calls.iter_mut().chain(&mut case.start) {
+            let Call::Join(sides) = call else { continue };
+            for side in sides.iter_mut() {
+                if let Side::Given(Buffers { desk, sheet, seen, .. }) = side {
+                    all.extend([desk, sheet, seen]);
+                }
+            }
+        }
+        all
     }
-    for which in 0..5 {
+    for which in 0..buffers(&mut best).len() {
         let len = buffers(&mut best)[which].len();
         let mut size = len.max(1);
         loop {
@@ -1015,6 +1147,24 @@ fn in_runs(piece: &[u8]) -> String {
     same.chunk_by(|a, b| a == b).map(|run| format!("\n    {} x{}", run.len(), hex(run[0]))).collect()
 }
 
+/// The benches of a join.
+fn joining(sides: &[Side; 2]) -> String {
+    let mut out = "join".to_string();
+    for (side, name) in sides.iter().zip(["first", "second"]) {
+        match side {
+            Side::Given(Buffers { desk, sheet, seen, .. }) => {
+                for (buffer, bytes) in [("desk", desk), ("sheet", sheet), ("second sheet", seen)] {
+                    out.push('\n');
+                    show_bytes(&format!("  {name} {buffer}"), bytes, &mut out);
+                    out.pop();
+                }
+            }
+            Side::Own => out += &format!("\n    {name}: these buffers as they stand"),
+        }
+    }
+    out
+}
+
 pub fn describe(case: &Case) -> String {
     let mut out = format!("case \"{}\"\n", case.name);
     let Buffers { desk, sheet, seen, slip } = &case.buffers;
@@ -1024,7 +1174,11 @@ pub fn describe(case: &Case) -> String {
     show_bytes("slip", slip, &mut out);
     show_bytes("feed", &case.feed, &mut out);
     if let Some((k, _)) = &case.pair {
-        out.push_str(&format!("  pair of lists, each opened with K = {k}; + stands in the second only\n"));
+        let start = match &case.start {
+            Some(Call::Join(sides)) => format!("from this {}\n ", joining(sides)),
+            _ => format!("opened with K = {k}"),
+        };
+        out.push_str(&format!("  pair of lists, each {start}; + stands in the second only\n"));
     }
     for (i, call) in case.calls.iter().enumerate() {
         let foreign = matches!(&case.pair, Some((_, first)) if !first[i]);
@@ -1036,6 +1190,7 @@ pub fn describe(case: &Case) -> String {
             Call::Feed(piece) => format!("feed{}", hex(piece)),
             Call::FeedEnd => "feed end".into(),
             Call::Balance(piece) => format!("balance of {} bytes:{}", piece.len(), in_runs(piece)),
+            Call::Join(sides) => joining(sides),
         };
         out.push_str(&format!("  {}{text}\n", if foreign { "+ " } else { "" }));
     }

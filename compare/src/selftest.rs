@@ -6,6 +6,7 @@ use crate::clashes;
 use crate::depths;
 use crate::feeds::{self, PROMISE};
 use crate::gen::{self, Part};
+use crate::joins;
 use crate::judges::{Judges, Subject};
 use crate::needs::{self, Need};
 use crate::numbers;
@@ -20,22 +21,22 @@ use std::time::{Duration, Instant};
 
 /// Random cases of a quick run, and for a planted judge; of a run without something: the first, and of those that had it
 /// the first.
-const CASES: u64 = 2400;
+const CASES: u64 = 3900;
 const CASES_FOR_PLANT: u64 = 4000;
 const ANY_CASES: u64 = 5;
-const CASES_WITH: usize = 20;
+const CASES_WITH: usize = 12;
 /// Other cases for a planted judge in every place, then pairs of lists, logs in pieces, or ties, at most, and how many of
 /// them are to show it.
-const OTHERS: u64 = 200;
+const OTHERS: u64 = 120;
 const PAIRS: u64 = 1000;
 const SHOWN: u64 = 3;
 
 /// A seed with which so few cases meet every minimum, and one for the cases that planted judges get.
-const SEED: u64 = 8;
+const SEED: u64 = 5;
 const PLANT_SEED: u64 = 2;
 
 fn quick(without: Option<Need>) -> Limits {
-    Limits { seconds: 0, cases: CASES, seed: SEED, without, only: None, balances_first: false }
+    Limits { seconds: 0, cases: CASES, seed: SEED, without, only: None, first: None }
 }
 
 fn soon() -> Instant {
@@ -44,7 +45,7 @@ fn soon() -> Instant {
 
 /// In the library's place it is caught by the fixed cases alone and by the random ones alone, at a call that is one of
 /// the sights named for it. Where only the feed is wrong, cases without one are passed over, else those with one; likewise
-/// the balance; where it is wrong about clashes, all but those with clashes; where it is wrong about numbers, depths or releases, the
+/// the balance and the join; where it is wrong about clashes, all but those with clashes; where it is wrong about numbers, depths or releases, the
 /// fixed ones about these come first. Of the random ones a judge that is wrong about depths or releases gets those about these alone.
 fn caught(plant: &Plant) -> bool {
     let mut calls = Vec::new();
@@ -55,13 +56,15 @@ fn caught(plant: &Plant) -> bool {
             try_case(case, &mut judges, &mut counts, &mut failed);
             // A call is to show it, unless it breaks the promise where no call differs; where sights are named, a call always.
             let by_call = |judge| plant.breaks != Some(judge) || !plant.sights.is_empty();
-            let broken = |judge| PROMISE.contains(&judge) && by_call(judge) || judge == balances::PARTS[0];
+            let said = |judge| judge == balances::PARTS[0] || joins::PARTS.contains(&judge);
+            let broken = |judge| PROMISE.contains(&judge) && by_call(judge) || said(judge);
             failed.take_if(|(_, diff)| broken(diff.judge));
             failed.is_none()
         };
         match which {
             "fixed" if plant.of_feed => feeds::fixed(&mut each),
             "fixed" if plant.of_balance => balances::fixed(&mut each),
+            "fixed" if plant.of_join => joins::fixed(&mut each),
             "fixed" if plant.of_clash => clashes::fixed(&mut each),
             "fixed" if plant.of_numbers || plant.of_depth || plant.of_release => {
                 let mut going = true;
@@ -83,6 +86,7 @@ fn caught(plant: &Plant) -> bool {
                 let part = match plant {
                     Plant { of_feed: true, .. } => Part::Feeds,
                     Plant { of_balance: true, .. } => Part::Balances,
+                    Plant { of_join: true, .. } => Part::Joins,
                     Plant { of_clash: true, .. } => Part::Clashes,
                     Plant { of_depth: true, .. } => Part::Depths,
                     Plant { of_release: true, .. } => Part::Releases,
@@ -115,29 +119,34 @@ fn caught(plant: &Plant) -> bool {
 }
 
 /// In the place of every judge no two differ, and that part of demand 3's claim of two lists catches it, that part of the
-/// promise of a feed or of what is said of balances, the least cycle, the first-seen numbers, or what the records alone draw.
+/// promise of a feed or of what is said of balances or of joins, the least cycle, the first-seen numbers, or what the records alone draw.
 /// The last may catch it too where another is to: what is drawn wrong has wrong numbers.
 fn breaks(plant: &Plant, part: &str) -> bool {
     let mut judges = Judges::all(plant.judge);
     let (mut counts, mut failed) = (Counts::default(), None);
-    let (of_feed, of_balance) = (PROMISE.contains(&part), balances::PARTS.contains(&part));
+    let (of_feed, of_balance, of_join) = (PROMISE.contains(&part), balances::PARTS.contains(&part), plant.of_join);
     let only = (of_feed || of_balance).then_some(Part::Others);
     let no_pairs = Limits { cases: OTHERS, only, ..quick(Some(Need::Kind(gen::PAIRS))) };
-    no_pairs.random(soon(), &mut |case| {
-        try_case(case, &mut judges, &mut counts, &mut failed);
-        failed.take_if(|(_, diff)| diff.judge == part || diff.judge == BY_RECORDS);
-        failed.is_none()
-    });
-    let others = [&claim::PARTS[..], &PROMISE, &balances::PARTS].concat();
+    // Where only the join is wrong, the others have nothing to show.
+    if !of_join {
+        no_pairs.random(soon(), &mut |case| {
+            try_case(case, &mut judges, &mut counts, &mut failed);
+            failed.take_if(|(_, diff)| diff.judge == part || diff.judge == BY_RECORDS);
+            failed.is_none()
+        });
+    }
+    let others = [&claim::PARTS[..], &PROMISE, &balances::PARTS, &joins::PARTS].concat();
     let (mut seen, mut number) = (0, 0);
     while seen < SHOWN && number < PAIRS {
         let rng = &mut Rng::new(number);
         let case = match part {
             _ if of_feed => feeds::cut_log(rng),
             _ if of_balance => balances::any(rng),
+            _ if of_join => joins::any(rng),
             LEAST => ties::on_desk(rng),
             NUMBERS if number % 2 == 0 => numbers::later_kind(rng),
             NUMBERS | BY_RECORDS => gen::log(rng),
+            _ if plant.from_join => joins::pair_from_join(rng),
             _ => gen::pair(rng),
         };
         number += 1;
@@ -152,6 +161,7 @@ fn breaks(plant: &Plant, part: &str) -> bool {
     let cases = match part {
         _ if of_feed => "logs in pieces",
         _ if of_balance => "pieces",
+        _ if of_join => "cases with joins",
         LEAST => "ties",
         NUMBERS => "desks and logs",
         BY_RECORDS => "logs",
@@ -164,16 +174,22 @@ fn breaks(plant: &Plant, part: &str) -> bool {
     well
 }
 
-/// In the place of every judge, wrong about clashes or balances: caught by what is to come of the cases with these, or by
-/// what is said of balances.
+/// In the place of every judge, wrong about clashes, numbers, balances or joins: caught by what is to come of the cases with these, or by
+/// what is said of balances and of joins.
 fn not_meant(plant: &Plant) -> bool {
     let mut judges = Judges::all(plant.judge);
     let (mut counts, mut failed) = (Counts { blind: true, ..Counts::default() }, None);
-    let fixed = if plant.of_balance { balances::fixed } else { clashes::fixed };
+    let fixed = match plant {
+        Plant { of_balance: true, .. } => balances::fixed,
+        Plant { of_join: true, .. } => joins::fixed,
+        Plant { of_numbers: true, .. } => numbers::fixed,
+        _ => clashes::fixed,
+    };
     fixed(&mut |case| try_case(case, &mut judges, &mut counts, &mut failed));
     // One that remembers an earlier piece differs from itself.
     let of_balance = |judge| balances::PARTS.contains(&judge) || plant.of_balance && judge == "subject";
-    let caught_by = |judge| [LEAST, "reference"].contains(&judge) || of_balance(judge);
+    let of_join = |judge| joins::PARTS.contains(&judge) || plant.of_join && judge == NUMBERS;
+    let caught_by = |judge| [LEAST, "reference"].contains(&judge) || of_balance(judge) || of_join(judge);
     let well = failed.as_ref().is_some_and(|(_, diff)| caught_by(diff.judge));
     println!("{} in every place: {} in call {}", plant.name, if well { "caught" } else { "NOT CAUGHT" }, counts.calls);
     well
@@ -255,11 +271,12 @@ pub fn run() -> bool {
     for plant in PLANTS {
         well &= caught(plant);
         well &= match plant.breaks {
+            Some("reference") => not_meant(plant),
             Some(part) => breaks(plant, part),
-            None => !(plant.of_clash || plant.of_balance) || not_meant(plant),
+            None => !(plant.of_clash || plant.of_balance || plant.of_join) || not_meant(plant),
         };
     }
-    let parts = claim::PARTS.into_iter().chain(PROMISE).chain(balances::PARTS);
+    let parts = claim::PARTS.into_iter().chain(PROMISE).chain(balances::PARTS).chain(joins::PARTS);
     for part in parts.chain([LEAST, NUMBERS, BY_RECORDS]) {
         if !PLANTS.iter().any(|p| p.breaks == Some(part)) {
             println!("no planted judge breaks \"{part}\"");

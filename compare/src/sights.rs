@@ -5,10 +5,11 @@ use crate::clashes;
 use crate::cycles::{Choice, Drawing, Shown};
 use crate::drawing::FRAME;
 use crate::feeds::{self, ANSWER, KEEP, KEPT, OPENED};
-use crate::gen::{mode_at, places_of};
-use crate::numbers::{self, ABOVE, FULL, NO_KINDS, NO_NUMBER};
+use crate::gen::{mode_at, places_of, sizes};
+use crate::judges::Lent;
+use crate::numbers::{self, FULL, NO_KINDS, NO_NUMBER};
 use crate::older;
-use crate::run::{Call, History};
+use crate::run::{Call, History, Side};
 use reference::{CLAUSES, COUNT, DEEPEST, DEPTHS, DESK, FEED, FRAMES, HOLDS, MARKS, ORIGINS, STATES};
 use std::cell::OnceCell;
 use std::ops::{Range, RangeInclusive};
@@ -27,6 +28,7 @@ pub struct Look<'a> {
     pub seen: &'a [u8],
     pub seen_after: &'a [u8],
     pub slip: &'a [u8],
+    pub slip_before: &'a [u8],
     pub answer: u8,
     /// With answer 11: the first clause of "Unfit" that is violated; at a feed, of the feed's fit test.
     pub clause: Option<&'static str>,
@@ -38,7 +40,10 @@ pub struct Look<'a> {
     /// The classes whose marks clash before and after the call, once they are asked for.
     pub clashes: OnceCell<[u64; 2]>,
     /// What is asked of all numbers before the call.
-    pub numbers: OnceCell<[bool; 3]>,
+    pub numbers: OnceCell<[bool; 10]>,
+    /// What the two benches of a join have, pair by pair and class by class; None where it is to be refused. And whether they fit.
+    pub joined: OnceCell<Option<Joined>>,
+    pub fit_benches: OnceCell<[bool; 2]>,
     /// What a piece has whose balances are asked for, its whole records up to the limit.
     pub tally: OnceCell<Tally>,
 }
@@ -62,6 +67,11 @@ fn tries(desk: &[u8], frame: usize) -> impl DoubleEndedIterator<Item = usize> + 
 
 fn waits(desk: &[u8], frame: usize) -> impl DoubleEndedIterator<Item = usize> + '_ {
     (0..depth(desk, frame)).filter(move |&place| !is_try(desk, frame, place))
+}
+
+/// Whether nothing but K is on a desk.
+fn is_fresh(desk: &[u8]) -> bool {
+    desk[1..DESK].iter().all(|&byte| byte == 0)
 }
 
 fn has_origins(desk: &[u8]) -> bool {
@@ -431,7 +441,8 @@ impl Look<'_> {
 /// A fault: the cycle that the slip shows.
 impl Look<'_> {
     fn shown(&self) -> Option<&Shown> {
-        let faults = self.answer == 1 && (self.record().is_some() || self.piece_at(false).is_some());
+        let joins = matches!(self.call, Call::Join(_)) && self.made().is_some();
+        let faults = self.answer == 1 && (joins || self.record().is_some() || self.piece_at(false).is_some());
         let shown = || if faults { Shown::of(self.after, self.sheet_after, self.seen_after, self.slip) } else { None };
         self.shown.get_or_init(shown).as_ref()
     }
@@ -505,18 +516,14 @@ impl Look<'_> {
     fn showed_number(&self, such: impl Fn(u32) -> bool) -> bool {
         self.showed(|_, _, source, number| source == 0 && such(number))
     }
-    /// Refused for a number, where this holds of a pair that does not fit so, K, its number, and the count.
-    fn unfit_number(&self, clause: &str, such: impl Fn(usize, usize, u32, u32) -> bool) -> bool {
-        self.clause(clause) && {
-            let (k, count) = (usize::from(self.classes()), numbers::count(self.before));
+    /// Refused for a number, where this holds of a pair that does not fit so, and K.
+    fn unfit_number(&self, clause: &str, such: impl Fn(usize, usize) -> bool) -> bool {
+        matches!(self.call, Call::Step(_) | Call::Ask(_)) && self.clause(clause) && {
+            let k = usize::from(self.classes());
             (0..k * k).any(|pair| {
                 let (kinds, number) = (self.sheet[pair], numbers::number(self.seen, pair));
-                let unfit = match clause {
-                    NO_NUMBER => kinds != 0 && number == 0,
-                    NO_KINDS => kinds == 0 && number != 0,
-                    _ => number > count,
-                };
-                unfit && such(pair, k, number, count)
+                let unfit = if clause == NO_NUMBER { kinds != 0 && number == 0 } else { kinds == 0 && number != 0 };
+                unfit && such(pair, k)
             })
         }
     }
@@ -525,31 +532,55 @@ impl Look<'_> {
         let fit = matches!(self.call, Call::Step(_) | Call::Ask(_)) && self.answer < 11;
         fit.then(|| usize::from(self.classes()) * usize::from(self.classes()))
     }
-    /// The same: whether a number is the count, whether one has a greater low byte, and whether one is under 2 to the 31
-    /// where the count is not.
-    fn fit_numbers(&self) -> [bool; 3] {
+    /// The same: whether a number is the count; whether one under it has a greater low byte, and is under 2 to the 31 where the count
+    /// is not; whether one is above it, at the first pair, behind the first row, at the last pair, by one, with no greater low byte,
+    /// by its high byte alone, and over 2 to the 31 where the count is not.
+    fn fit_numbers(&self) -> [bool; 10] {
         *self.numbers.get_or_init(|| {
-            let Some(pairs) = self.fit_pairs() else { return [false; 3] };
-            let count = numbers::count(self.before);
-            let mut all = [false; 3];
-            for four in self.seen[..4 * pairs].chunks_exact(4) {
-                let n = u32::from_le_bytes(four.try_into().unwrap());
+            let Some(pairs) = self.fit_pairs() else { return [false; 10] };
+            let (count, k) = (numbers::count(self.before), usize::from(self.classes()));
+            let numbers = || self.seen[..4 * pairs].chunks_exact(4).map(|four| u32::from_le_bytes(four.try_into().unwrap()));
+            // Without a branch, as most desks have none above the count.
+            let mut all = [false; 10];
+            for n in numbers() {
                 all[0] |= (n == count) & (n != 0);
-                all[1] |= n as u8 > count as u8;
-                all[2] |= (n != 0) & (n >> 31 == 0);
+                all[1] |= (n < count) & (n as u8 > count as u8);
+                all[2] |= (n < count) & (n != 0) & (n >> 31 == 0);
+                all[3] |= n > count;
             }
             all[2] &= count >> 31 == 1;
+            if all[3] {
+                for (pair, n) in numbers().enumerate().filter(|(_, n)| *n > count) {
+                    all[4] |= pair >= k;
+                    all[5] |= k > 1 && pair + 1 == pairs;
+                    all[6] |= n == count + 1;
+                    all[7] |= n as u8 <= count as u8;
+                    all[8] |= n << 8 <= count << 8;
+                    all[9] |= n >> 31 > count >> 31;
+                }
+            }
             all
         })
+    }
+    /// A step or a question on a fit desk with a number above the count, at the first pair.
+    fn first_above(&self) -> bool {
+        self.fit_numbers()[3] && numbers::number(self.seen, 0) > numbers::count(self.before)
     }
     /// The same, where the pair behind the last does not fit.
     fn past_unfit(&self) -> bool {
         self.fit_pairs().is_some_and(|past| {
             self.sheet.len() > past && self.seen.len() >= 4 * past + 4 && {
                 let (kinds, number) = (self.sheet[past], numbers::number(self.seen, past));
-                (kinds == 0) != (number == 0) || number > numbers::count(self.before)
+                (kinds == 0) != (number == 0)
             }
         })
+    }
+    /// A piece with a record that is judged on a desk with a number above the count.
+    fn fed_above(&self) -> bool {
+        self.piece(|_| true) && self.opened() && self.answer != 11 && self.records() > 0 && {
+            let (k, count) = (usize::from(self.classes()), numbers::count(self.before));
+            self.seen.chunks_exact(4).take(k * k).any(|four| u32::from_le_bytes(four.try_into().unwrap()) > count)
+        }
     }
     /// Refused for nothing but the second sheet's length.
     fn short_seen(&self, lens: impl Fn(usize) -> Range<usize>) -> bool {
@@ -637,11 +668,155 @@ impl Look<'_> {
     }
 }
 
+/// What two benches that are joined have.
+#[derive(Clone, Copy, Default)]
+pub struct Joined {
+    /// Pairs with kinds on the first alone, on the second alone, on both alike, with a kind that the first alone has, with one that
+    /// the second alone has.
+    pairs: [bool; 5],
+    /// Marks likewise, of a class that has marks on both benches.
+    marks: [bool; 5],
+    /// Numbers of a pair on both: the first's less, the first's greater; a first's with a low byte of 0.
+    numbers: [bool; 3],
+    /// A number above the count of its bench, on the first and on the second.
+    above: [bool; 2],
+}
+
+/// Joins.
+impl Look<'_> {
+    fn benches(&self) -> Option<[Lent<'_>; 2]> {
+        let Call::Join(sides) = self.call else { return None };
+        Some(sides.each_ref().map(|side| side.lent([self.before, self.sheet, self.seen])))
+    }
+    /// A join such that this holds of the two benches.
+    fn joins(&self, such: impl Fn(Lent, Lent) -> bool) -> bool {
+        self.benches().is_some_and(|[one, two]| such(one, two))
+    }
+    /// One that was not refused, and is not to be.
+    fn made(&self) -> Option<Joined> {
+        let well = || self.answer < 2 && self.with_room() == Some([false; 2]) && self.both_k().is_some_and(|[one, two]| one == two);
+        *self.joined.get_or_init(|| self.benches().filter(|_| well()).map(|[one, two]| Joined::of(one, two)))
+    }
+    fn joined(&self) -> Joined {
+        self.made().unwrap_or_default()
+    }
+    /// Whether each bench is fit.
+    fn fit_benches(&self) -> [bool; 2] {
+        let fit = |[desk, sheet, seen]: Lent| reference::unfit(desk, sheet, seen, None).is_none();
+        *self.fit_benches.get_or_init(|| self.benches().map_or([false; 2], |benches| benches.map(fit)))
+    }
+    /// The smaller and the larger K of two fit benches.
+    fn both_k(&self) -> Option<[usize; 2]> {
+        let [one, two] = self.benches().filter(|_| self.fit_benches() == [true; 2])?.map(|bench| usize::from(bench[0][0]));
+        Some([one.min(two), one.max(two)])
+    }
+    /// A join of fit benches such that this holds of the lengths of the buffers to be written, and their sizes for the smaller and
+    /// for the larger K; and of the benches' K.
+    fn room(&self, such: impl Fn([usize; 4], [usize; 4], [usize; 4]) -> bool) -> bool {
+        self.both_k().is_some_and(|[small, large]| {
+            let lengths = [self.before.len(), self.sheet.len(), self.seen.len(), self.slip.len()];
+            such(lengths, sizes(small), sizes(large))
+        })
+    }
+    /// Refused for one buffer alone, by its place: with such a length beside its sizes for the smaller and for the larger K.
+    fn short_alone(&self, which: usize, such: impl Fn(usize, usize, usize) -> bool) -> bool {
+        self.answer == 11
+            && self.room(|lengths, small, large| {
+                let others = (0..4).all(|i| i == which || lengths[i] >= large[i]);
+                others && lengths[which] < large[which] && such(lengths[which], small[which], large[which])
+            })
+    }
+    /// Enough room for the larger K, and which of the fit benches are closed.
+    fn with_room(&self) -> Option<[bool; 2]> {
+        let room = self.room(|lengths, _, large| (0..4).all(|i| lengths[i] >= large[i]));
+        self.benches().filter(|_| room).map(|benches| benches.map(|bench| bench[0][1] == 1))
+    }
+    fn closed(&self, answer: u8, closed: [bool; 2]) -> bool {
+        self.answer == answer && self.with_room() == Some(closed)
+    }
+    /// A bench unfit, the other fit and such that this holds of its desk.
+    fn one_unfit(&self, side: usize, such: impl Fn(&[u8]) -> bool) -> bool {
+        let mut fit = [true; 2];
+        fit[side] = false;
+        self.answer == 11 && self.fit_benches() == fit && self.joins(|one, two| such([two, one][side][0]))
+    }
+    /// A join that was not refused, such that this holds of the desk of one bench, by its place.
+    fn joins_desk(&self, side: usize, such: impl Fn(&[u8]) -> bool) -> bool {
+        self.made().is_some() && self.joins(|one, two| such([one, two][side][0]))
+    }
+    /// A fault, and which benches have a cycle of their own.
+    fn own_cycles(&self, which: [bool; 2]) -> bool {
+        let own = |[desk, sheet, seen]: Lent| Drawing::of(desk, sheet, seen).has_cycle();
+        self.answer == 1 && self.made().is_some() && self.benches().is_some_and(|benches| benches.map(own) == which)
+    }
+    /// A dependency shown such that this holds of its pair, its kind, its source, and the kinds and the numbers that the benches have
+    /// for the pair.
+    fn shown_of(&self, such: impl Fn(u8, u8, [u8; 2], [u32; 2]) -> bool) -> bool {
+        self.benches().is_some_and(|benches| {
+            self.showed(|pair, kind, source, _| {
+                such(kind, source, benches.map(|bench| bench[1][pair]), benches.map(|bench| numbers::number(bench[2], pair)))
+            })
+        })
+    }
+    /// An interrupt shown whose unsafe mark only one bench has, and whose safe mark only the other.
+    fn interrupt_across(&self) -> bool {
+        let Some([one, two]) = self.benches() else { return false };
+        self.shows(|s| {
+            (0..s.n()).any(|i| {
+                let [from, kind, source] = s.cycle[i];
+                let level = if source == 2 { 4 } else { 0 };
+                let (is_unsafe, safe) = ((if kind < 4 { 4 } else { 8 }) << level, (if kind == 1 || kind == 4 { 2 } else { 1 }) << level);
+                let has = |bench: Lent, class: usize, mark: u8| bench[0][MARKS + class] & mark != 0;
+                let [f, t] = [usize::from(from), s.to(i)];
+                let across = |a: Lent, b: Lent| has(a, f, is_unsafe) && !has(a, t, safe) && has(b, t, safe) && !has(b, f, is_unsafe);
+                source > 0 && (across(one, two) || across(two, one))
+            })
+        })
+    }
+    /// Which side is the case's own bench.
+    fn own_side(&self, own: [bool; 2]) -> bool {
+        matches!(self.call, Call::Join(sides) if sides.each_ref().map(|side| matches!(side, Side::Own)) == own) && self.answer < 2
+    }
+    /// A step on a joined desk, so many steps behind the join, such that this holds.
+    fn steps_joined(&self, such: impl Fn(u64) -> bool) -> bool {
+        matches!(self.call, Call::Step(_)) && self.history.joined.is_some_and(such)
+    }
+}
+
+impl Joined {
+    fn of(one: Lent, two: Lent) -> Joined {
+        let mut all = Joined::default();
+        let k = usize::from(one[0][0]);
+        let sort = |found: &mut [bool; 5], a: u8, b: u8| {
+            found[0] |= a != 0 && b == 0;
+            found[1] |= a == 0 && b != 0;
+            found[2] |= a != 0 && a == b;
+            found[3] |= b != 0 && a & !b != 0;
+            found[4] |= a != 0 && b & !a != 0;
+        };
+        let counts = [one, two].map(|bench| numbers::count(bench[0]));
+        for pair in 0..k * k {
+            let kinds = [one, two].map(|bench| bench[1][pair]);
+            if kinds == [0; 2] {
+                continue;
+            }
+            sort(&mut all.pairs, kinds[0], kinds[1]);
+            let n = [one, two].map(|bench| numbers::number(bench[2], pair));
+            all.numbers[0] |= n[0] != 0 && n[0] < n[1];
+            all.numbers[1] |= n[1] != 0 && n[0] > n[1];
+            all.numbers[2] |= n[0] != 0 && n[0] as u8 == 0 && n[1] != 0;
+            (0..2).for_each(|i| all.above[i] |= n[i] > counts[i]);
+        }
+        (0..k).for_each(|class| sort(&mut all.marks, one[0][MARKS + class], two[0][MARKS + class]));
+        all
+    }
+}
+
 pub struct Sight {
     pub name: &'static str,
     /// The least number in 100,000 random cases.
     pub least: u64,
-    /// Whether calls of the feed are such, those of the balance, or others.
+    /// Whether calls of the feed are such, those of the balance, joins, or others.
     of: Of,
     met: fn(&Look) -> bool,
 }
@@ -650,6 +825,7 @@ pub struct Sight {
 enum Of {
     Feed,
     Balance,
+    Join,
     Others,
 }
 
@@ -665,10 +841,15 @@ const fn at_balance(name: &'static str, least: u64, met: fn(&Look) -> bool) -> S
     Sight { name, least, of: Of::Balance, met }
 }
 
+const fn at_join(name: &'static str, least: u64, met: fn(&Look) -> bool) -> Sight {
+    Sight { name, least, of: Of::Join, met }
+}
+
 impl Sight {
     pub fn met(&self, look: &Look) -> bool {
         let of = match look.call {
             Call::Balance(_) => Of::Balance,
+            Call::Join(_) => Of::Join,
             call if call.of_feed() => Of::Feed,
             _ => Of::Others,
         };
@@ -1053,26 +1234,45 @@ pub const SIGHTS: &[Sight] = &[
     sight("interrupt shown, its pair with a number", 180, |l| l.showed(|_, _, source, number| source > 0 && number != 0)),
     sight("cycle that the numbers' bytes would change", 50, |l| l.chooses(Choice::NumberBytes)),
     sight("cycle that the numbers would change", 50, |l| l.chooses(Choice::NumberValues)),
-    // The fit test.
-    sight("kinds without a number at the first pair", 66, |l| l.unfit_number(NO_NUMBER, |pair, _, _, _| pair == 0)),
-    sight("kinds without a number behind the first row", 180, |l| l.unfit_number(NO_NUMBER, |pair, k, _, _| pair >= k)),
-    sight("kinds without a number at the last pair", 53, |l| l.unfit_number(NO_NUMBER, |pair, k, _, _| k > 1 && pair + 1 == k * k)),
-    sight("number without kinds at the first pair", 78, |l| l.unfit_number(NO_KINDS, |pair, _, _, _| pair == 0)),
-    sight("number without kinds behind the first row", 180, |l| l.unfit_number(NO_KINDS, |pair, k, _, _| pair >= k)),
-    sight("number without kinds at the last pair", 52, |l| l.unfit_number(NO_KINDS, |pair, k, _, _| k > 1 && pair + 1 == k * k)),
-    sight("number above the count at the first pair", 68, |l| l.unfit_number(ABOVE, |pair, _, _, _| pair == 0)),
-    sight("number above the count behind the first row", 140, |l| l.unfit_number(ABOVE, |pair, k, _, _| pair >= k)),
-    sight("number above the count at the last pair", 46, |l| l.unfit_number(ABOVE, |pair, k, _, _| k > 1 && pair + 1 == k * k)),
-    sight("number one above the count", 110, |l| l.unfit_number(ABOVE, |_, _, number, count| number == count + 1)),
-    sight("number above the count, its low byte less", 53, |l| l.unfit_number(ABOVE, |_, _, n, count| n as u8 <= count as u8)),
-    sight("number above the count by its high byte alone", 40, |l| {
-        l.unfit_number(ABOVE, |_, _, number, count| number << 8 <= count << 8)
+    // On a joined desk.
+    sight("first step on a joined desk with a number", 700, |l| l.steps_joined(|steps| steps == 0) && l.fit_numbers()[3]),
+    sight("first step on a joined desk, accepted", 440, |l| l.steps_joined(|steps| steps == 0) && l.answer < 2),
+    sight("question on a joined desk with a number", 96, |l| {
+        matches!(l.call, Call::Ask(_)) && l.history.joined == Some(0) && l.fit_numbers()[3]
     }),
-    sight("number above the count over 2 to the 31", 37, |l| l.unfit_number(ABOVE, |_, _, n, count| n >> 31 == 1 && count >> 31 == 0)),
-    sight("number at the count", 19_000, |l| l.fit_numbers()[0]),
-    sight("number under the count, its low byte greater", 45_000, |l| l.fit_numbers()[1]),
-    sight("number under 2 to the 31, the count over it", 4000, |l| l.fit_numbers()[2]),
-    sight("pair behind the last that does not fit", 20_000, |l| l.past_unfit()),
+    sight("pair drawn first on a joined desk", 240, |l| l.steps_joined(|_| true) && l.drew_first(|_| true)),
+    sight("kind added on a joined desk to a pair of a bench", 25, |l| {
+        l.steps_joined(|_| true) && l.drew(|before, kind, number| before != 0 && before & kind == 0 && number > numbers::count(l.after))
+    }),
+    sight("fault of a step on a joined desk", 84, |l| l.steps_joined(|_| true) && l.answer == 1),
+    sight("fault of a step with a number that a bench brought", 12, |l| {
+        l.steps_joined(|_| true) && l.showed_number(|number| number > numbers::count(l.after))
+    }),
+    sight("step on a joined desk that is closed", 360, |l| l.steps_joined(|steps| steps == 0) && l.answer == 10),
+    // The fit test.
+    sight("kinds without a number at the first pair", 66, |l| l.unfit_number(NO_NUMBER, |pair, _| pair == 0)),
+    sight("kinds without a number behind the first row", 180, |l| l.unfit_number(NO_NUMBER, |pair, k| pair >= k)),
+    sight("kinds without a number at the last pair", 53, |l| l.unfit_number(NO_NUMBER, |pair, k| k > 1 && pair + 1 == k * k)),
+    sight("number without kinds at the first pair", 78, |l| l.unfit_number(NO_KINDS, |pair, _| pair == 0)),
+    sight("number without kinds behind the first row", 180, |l| l.unfit_number(NO_KINDS, |pair, k| pair >= k)),
+    sight("number without kinds at the last pair", 52, |l| l.unfit_number(NO_KINDS, |pair, k| k > 1 && pair + 1 == k * k)),
+    sight("step over a number above the count", 8000, |l| matches!(l.call, Call::Step(_)) && l.fit_numbers()[3]),
+    sight("question over a number above the count", 2400, |l| matches!(l.call, Call::Ask(_)) && l.fit_numbers()[3]),
+    sight("number above the count at the first pair", 980, |l| l.first_above()),
+    sight("number above the count behind the first row", 9300, |l| l.fit_numbers()[4]),
+    sight("number above the count at the last pair", 820, |l| l.fit_numbers()[5]),
+    sight("number one above the count", 2900, |l| l.fit_numbers()[6]),
+    sight("number above the count, its low byte less", 4100, |l| l.fit_numbers()[7]),
+    sight("number above the count by its high byte alone", 2800, |l| l.fit_numbers()[8]),
+    sight("number above the count over 2 to the 31", 4400, |l| l.fit_numbers()[9]),
+    sight("number above a count of 0", 2500, |l| l.fit_numbers()[3] && numbers::count(l.before) == 0),
+    sight("number above a count but 0", 7900, |l| l.fit_numbers()[3] && numbers::count(l.before) > 0),
+    sight("fault over a number above the count", 440, |l| l.answer == 1 && l.record().is_some() && l.fit_numbers()[3]),
+    sight("pair drawn first on a desk with a number above the count", 200, |l| l.fit_numbers()[3] && l.drew_first(|_| true)),
+    sight("number at the count", 21_000, |l| l.fit_numbers()[0]),
+    sight("number under the count, its low byte greater", 20_000, |l| l.fit_numbers()[1]),
+    sight("number under 2 to the 31, the count over it", 2800, |l| l.fit_numbers()[2]),
+    sight("pair behind the last that does not fit", 190, |l| l.past_unfit()),
     sight("call with a second sheet a byte short", 100, |l| l.short_seen(|pairs| 4 * pairs - 1..4 * pairs)),
     sight("call with a second sheet of K x K bytes", 92, |l| l.short_seen(|pairs| pairs..pairs + 1)),
     sight("call with a second sheet a byte longer", 11_000, |l| l.fit_pairs().is_some_and(|pairs| l.seen.len() == 4 * pairs + 1)),
@@ -1224,6 +1424,7 @@ pub const SIGHTS: &[Sight] = &[
     at_feed("record that stops with 9 over a cut", 100, |l| l.stops(9) && l.opened() && l.kept() > 0 && l.records() == 1),
     at_feed("record that stops with 9 after others of the piece", 10, |l| l.stops(9) && l.records() > 1),
     at_feed("piece after a 9", 730, |l| matches!(l.call, Call::Feed(_)) && l.stood_at_9()),
+    at_feed("record in a piece over a number above the count", 42, |l| l.fed_above()),
     at_feed("pair drawn first in a piece", 360, |l| l.drew_in_piece()),
     at_feed("pair drawn first in a piece, its place another", 30, |l| {
         l.drew_in_piece() && feeds::number(l.feed_after) != u64::from(numbers::count(l.after))
@@ -1379,6 +1580,123 @@ pub const SIGHTS: &[Sight] = &[
     at_balance("balances of records refused with 8", 34, |l| l.desk_said(8)),
     at_balance("balances of records with a fault", 49, |l| l.desk_said(1)),
     at_balance("balances of records behind a fault", 17, |l| l.desk_said(10)),
+    // Joins refused: for a bench.
+    at_join("join with both benches unfit", 100, |l| l.answer == 11 && l.fit_benches() == [false; 2]),
+    at_join("join with the first bench unfit alone", 320, |l| l.one_unfit(0, |_| true)),
+    at_join("join with the second bench unfit alone", 310, |l| l.one_unfit(1, |_| true)),
+    at_join("join with an unfit bench and a closed one", 140, |l| l.one_unfit(0, |other| other[1] == 1) || l.one_unfit(1, |other| other[1] == 1)),
+    at_join("join with a closed bench that is unfit", 170, |l| {
+        l.answer == 11 && l.benches().is_some_and(|b| (0..2).any(|i| !l.fit_benches()[i] && b[i][0].get(1) == Some(&1)))
+    }),
+    at_join("join with an unfit bench of another K", 200, |l| {
+        l.answer == 11 && l.fit_benches() != [true; 2] && l.joins(|one, two| one[0].first().zip(two[0].first()).is_some_and(|(a, b)| a != b))
+    }),
+    // For room.
+    at_join("join into a desk a byte short", 12, |l| l.short_alone(0, |length, _, size| length + 1 == size)),
+    at_join("join into a sheet a byte short", 48, |l| l.short_alone(1, |length, _, size| length + 1 == size)),
+    at_join("join into a second sheet a byte short", 46, |l| l.short_alone(2, |length, _, size| length + 1 == size)),
+    at_join("join with a slip a byte short", 48, |l| l.short_alone(3, |length, _, size| length + 1 == size)),
+    at_join("join into a second sheet of K x K bytes", 24, |l| l.short_alone(2, |length, _, size| 4 * length == size)),
+    at_join("join with a slip of 1 + 3K bytes", 36, |l| l.short_alone(3, |length, _, size| length == 1 + 3 * (size - 1) / 7)),
+    at_join("join into a sheet for the smaller K", 45, |l| l.short_alone(1, |length, small, _| length >= small)),
+    at_join("join into a second sheet for the smaller K", 46, |l| l.short_alone(2, |length, small, _| length >= small)),
+    at_join("join with a slip for the smaller K", 64, |l| l.short_alone(3, |length, small, _| length >= small)),
+    at_join("join with a short slip, a cycle there", 25, |l| {
+        l.short_alone(3, |_, small, large| small == large) && l.joins(|one, two| [one, two].iter().any(|b| Drawing::of(b[0], b[1], b[2]).has_cycle()))
+    }),
+    at_join("join with a short slip, the benches fresh", 15, |l| {
+        l.short_alone(3, |_, small, large| small == large) && l.joins(|one, two| {
+            [one, two].iter().all(|b| b[1].iter().take(usize::from(b[0][0]).pow(2)).all(|&kinds| kinds == 0) && b[0][MARKS..HOLDS] == [0; 64])
+        })
+    }),
+    at_join("join short of room with a closed bench", 87, |l| {
+        l.answer == 11 && l.room(|_, _, _| true) && l.joins(|one, two| one[0][1] == 1 || two[0][1] == 1)
+    }),
+    // For different K, and for closed benches.
+    at_join("12, the first bench with more classes", 150, |l| l.answer == 12 && l.with_room().is_some() && l.joins(|one, two| one[0][0] > two[0][0])),
+    at_join("12, the second bench with more classes", 140, |l| l.answer == 12 && l.with_room().is_some() && l.joins(|one, two| one[0][0] < two[0][0])),
+    at_join("12, all just long enough for the larger K", 49, |l| l.answer == 12 && l.room(|lengths, _, large| lengths == large)),
+    at_join("12, K one more or less", 170, |l| {
+        l.answer == 12 && l.with_room().is_some() && l.joins(|one, two| one[0][0].abs_diff(two[0][0]) == 1)
+    }),
+    at_join("12 with the first bench closed", 60, |l| l.closed(12, [true, false])),
+    at_join("12 with the second bench closed", 58, |l| l.closed(12, [false, true])),
+    at_join("12 with both benches closed", 61, |l| l.closed(12, [true; 2])),
+    at_join("13 for the first bench alone", 110, |l| l.closed(13, [true, false])),
+    at_join("13 for the second bench alone", 110, |l| l.closed(13, [false, true])),
+    at_join("13 for both benches", 63, |l| l.closed(13, [true; 2])),
+    at_join("13 where the drawing has a cycle", 240, |l| {
+        l.answer == 13 && l.with_room().is_some() && l.joins(|one, two| [one, two].iter().any(|b| Drawing::of(b[0], b[1], b[2]).has_cycle()))
+    }),
+    // What is joined.
+    at_join("pair that the first bench alone has", 550, |l| l.joined().pairs[0]),
+    at_join("pair that the second bench alone has", 530, |l| l.joined().pairs[1]),
+    at_join("pair with the same kinds on both benches", 200, |l| l.joined().pairs[2]),
+    at_join("pair of both benches, a kind on the first alone", 310, |l| l.joined().pairs[3]),
+    at_join("pair of both benches, a kind on the second alone", 300, |l| l.joined().pairs[4]),
+    at_join("class that the first bench alone marks", 450, |l| l.joined().marks[0]),
+    at_join("class that the second bench alone marks", 410, |l| l.joined().marks[1]),
+    at_join("class with the same marks on both benches", 130, |l| l.joined().marks[2]),
+    at_join("class marked on both, a mark on the first alone", 230, |l| l.joined().marks[3]),
+    at_join("class marked on both, a mark on the second alone", 230, |l| l.joined().marks[4]),
+    at_join("marks of class 8 or more joined", 240, |l| l.made().is_some() && l.after[MARKS + 8..HOLDS].iter().any(|&m| m != 0)),
+    at_join("marks of class 63 joined", 39, |l| l.made().is_some() && l.after[HOLDS - 1] != 0),
+    at_join("number on both benches, the first's less", 230, |l| l.joined().numbers[0]),
+    at_join("number on both benches, the first's greater", 220, |l| l.joined().numbers[1]),
+    at_join("number of the first bench with a low byte of 0", 67, |l| l.joined().numbers[2]),
+    at_join("number above the count of the first bench", 180, |l| l.joined().above[0]),
+    at_join("number above the count of the second bench", 180, |l| l.joined().above[1]),
+    at_join("count of the first bench but 0", 990, |l| l.joins_desk(0, |desk| numbers::count(desk) != 0)),
+    at_join("count of the second bench but 0", 950, |l| l.joins_desk(1, |desk| numbers::count(desk) != 0)),
+    at_join("state of the first bench but 0", 880, |l| l.joins_desk(0, |desk| desk[STATES..DEPTHS] != [0; 8])),
+    at_join("state of the second bench but 0", 890, |l| l.joins_desk(1, |desk| desk[STATES..DEPTHS] != [0; 8])),
+    at_join("locks held on the first bench", 770, |l| l.joins_desk(0, |desk| desk[DEPTHS..MARKS].iter().any(|&depth| depth > 0))),
+    at_join("locks held on the second bench", 750, |l| l.joins_desk(1, |desk| desk[DEPTHS..MARKS].iter().any(|&depth| depth > 0))),
+    at_join("tries held on the first bench", 450, |l| l.joins_desk(0, has_origins)),
+    at_join("tries held on the second bench", 420, |l| l.joins_desk(1, has_origins)),
+    at_join("join with a fresh bench", 150, |l| l.joins_desk(0, is_fresh) || l.joins_desk(1, is_fresh)),
+    at_join("join of one class", 100, |l| l.joins_desk(0, |desk| desk[0] == 1)),
+    at_join("join of 64 classes", 130, |l| l.joins_desk(0, |desk| desk[0] == 64)),
+    at_join("join into buffers with bytes behind", 880, |l| l.answer < 2 && l.room(|lengths, _, large| (0..4).any(|i| lengths[i] > large[i]))),
+    at_join("join into buffers just long enough", 190, |l| l.answer < 2 && l.room(|lengths, _, large| lengths == large)),
+    at_join("join into a desk that has a closed byte", 370, |l| l.made().is_some() && l.answer == 0 && l.before[1] != 0),
+    // What comes of it.
+    at_join("clean join of benches that both draw", 110, |l| l.answer == 0 && l.joined().pairs[0] && l.joined().pairs[1]),
+    at_join("fault of the join, of neither bench", 110, |l| l.own_cycles([false; 2])),
+    at_join("fault of the join and of the first bench", 130, |l| l.own_cycles([true, false])),
+    at_join("fault of the join and of the second bench", 120, |l| l.own_cycles([false, true])),
+    at_join("fault of the join and of both benches", 110, |l| l.own_cycles([true; 2])),
+    at_join("join with a cycle of 1 dependency", 310, |l| l.of_length(1..=1)),
+    at_join("join with a cycle of 2 dependencies", 110, |l| l.of_length(2..=2)),
+    at_join("join with a cycle of 3 to 7 dependencies", 43, |l| l.of_length(3..=7)),
+    at_join("join with a cycle of 8 and more dependencies", 15, |l| l.of_length(8..=64)),
+    at_join("join with several cycles of the fewest", 210, |l| l.shows(|s| s.several)),
+    at_join("clash of marks from both benches", 56, |l| {
+        l.shows(|s| s.n() == 1 && s.cycle[0][2] > 0 && l.joins(|one, two| {
+            [one, two].iter().all(|b| !clashes::clashes(b[0][MARKS + usize::from(s.cycle[0][0])]))
+        }))
+    }),
+    at_join("interrupt shown, unsafe on one bench and safe on the other", 70, |l| l.interrupt_across()),
+    at_join("number shown of a pair of the first bench alone", 200, |l| l.shown_of(|_, source, _, n| source == 0 && n[1] == 0)),
+    at_join("number shown of a pair of the second bench alone", 150, |l| l.shown_of(|_, source, _, n| source == 0 && n[0] == 0)),
+    at_join("number shown of the first bench, the second has another", 140, |l| {
+        l.shown_of(|_, source, _, n| source == 0 && n[0] != 0 && n[1] != 0 && n[0] != n[1])
+    }),
+    at_join("number shown of the first bench, the kind the second's", 61, |l| {
+        l.shown_of(|kind, source, kinds, n| source == 0 && n[0] != 0 && n[0] != n[1] && kinds[0] & kind == 0)
+    }),
+    at_join("interrupt shown by a join, its pair with a number", 16, |l| l.shown_of(|_, source, _, n| source > 0 && n != [0; 2])),
+    at_join("slip longer than the cycle of a join", 440, |l| l.shows(|s| l.slip.len() > 1 + 7 * s.n())),
+    at_join("clean join over a slip with bytes", 590, |l| l.answer == 0 && l.slip_before.iter().any(|&b| b != 0)),
+    // Joined again.
+    at_join("join of the joined desk as the first bench", 58, |l| l.own_side([true, false]) && l.history.joined.is_some()),
+    at_join("join of the joined desk as the second bench", 51, |l| l.own_side([false, true]) && l.history.joined.is_some()),
+    at_join("join of the joined desk after steps", 110, |l| {
+        l.history.joined > Some(0) && (l.own_side([true, false]) || l.own_side([false, true]))
+    }),
+    at_join("join of a desk with itself", 43, |l| l.own_side([true; 2])),
+    at_join("join of a desk from opening by steps", 77, |l| l.answer < 2 && l.history.steps > Some(0)),
+    at_join("13 for the joined desk itself", 270, |l| l.answer == 13 && l.history.joined.is_some()),
 ];
 
 /// Sights by their places.

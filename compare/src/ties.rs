@@ -568,7 +568,7 @@ pub struct HandDrawing {
 
 /// Dependencies as the program prints them, sources but hold left out: "0 ER 2, 2 EN 0"; with other numbers than the usual:
 /// "0 ER 2 at 5". With marks: "3 marks 68".
-fn sketch(k: usize, text: &str) -> Sketch {
+pub fn sketch(k: usize, text: &str) -> Sketch {
     let mut s = Sketch::new(k);
     for part in text.split(", ") {
         let words: Vec<&str> = part.split(' ').collect();

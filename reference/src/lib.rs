@@ -3,9 +3,9 @@
 //! Written from the documents alone (01, "What will be built, and the rules", and
 //! of 02 "A try never waits", "Logs arrive in pieces", "Show the shortest circle",
 //! "Clash of one class by table", "Where was this arrow first seen?", "Balance of a piece",
-//! "Deeper nesting" and "Strict release", with the feed's layout and fit test as they were
-//! handed over), to be compared byte for byte with the proved library. Sentences in quotation
-//! marks are the documents'.
+//! "Deeper nesting", "Strict release" and "Two benches, one drawing", with the feed's layout
+//! and fit test as they were handed over), to be compared byte for byte with the proved
+//! library. Sentences in quotation marks are the documents'.
 //!
 //! How closed strong paths are decided: a path is a walk over *arrivals*, an
 //! arrival being a class together with the second letter (N or R) of the arrow
@@ -22,11 +22,13 @@
 //!
 //! The numbers of request e, in the second sheet, are written by [`step`] and shown by the
 //! slip; [`first_seen`] works them out from the list of records alone, with books of its
-//! own, and neither reads the other.
+//! own, and neither reads the other. For a joined desk, [`Books::joined`] does the same
+//! beside [`join`].
 #![forbid(unsafe_code)]
 
-use std::ffi::OsStr;
-use std::io::{ErrorKind, Read, Write};
+use std::ffi::{OsStr, OsString};
+use std::fs::File;
+use std::io::{BufReader, ErrorKind, Read, Write};
 
 // ---------------------------------------------------------------- the bench
 
@@ -113,7 +115,7 @@ pub fn open(k: u64, desk: &mut [u8], sheet: &mut [u8], seen: &mut [u8]) -> u8 {
 // -------------------------------------------------------------------- unfit
 
 /// Every name that [`unfit`] can give, in the order in which it looks.
-pub const CLAUSES: [&str; 20] = [
+pub const CLAUSES: [&str; 19] = [
     "desk too short",
     "K not 1-64",
     "sheet too short",
@@ -133,7 +135,6 @@ pub const CLAUSES: [&str; 20] = [
     "second sheet too short",
     "kinds but number 0",
     "number but no kinds",
-    "number above the count",
 ];
 
 /// The first clause of "Unfit" that is violated, in the order of [`CLAUSES`].
@@ -218,26 +219,22 @@ pub fn unfit(desk: &[u8], sheet: &[u8], seen: &[u8], slip: Option<&[u8]>) -> Opt
         return Some(CLAUSES[15]);
     }
     // "The fit test covers the new lengths, and a pair with kinds but number 0, or the
-    // reverse, or a number above the count, is unfit."
+    // reverse", is unfit. 02 i: "The fit test no longer ties first-seen numbers to the record
+    // count.": a number may be any.
     if seen.len() < seen_len(k) {
         return Some(CLAUSES[16]);
     }
-    let count = word_at(desk, COUNT);
-    let (mut missing, mut stray, mut above) = (false, false, false);
+    let (mut missing, mut stray) = (false, false);
     for pair in 0..k * k {
         let (kinds, number) = (sheet[pair], word_at(seen, WORD * pair));
         missing |= kinds != 0 && number == 0;
         stray |= kinds == 0 && number != 0;
-        above |= number > count;
     }
     if missing {
         return Some(CLAUSES[17]);
     }
     if stray {
         return Some(CLAUSES[18]);
-    }
-    if above {
-        return Some(CLAUSES[19]);
     }
     None
 }
@@ -1119,6 +1116,151 @@ pub fn first_seen<R: AsRef<[u8]>>(k: u64, records: &[R]) -> Option<Vec<u32>> {
     Some(books.numbers)
 }
 
+// ---------------------------------------------------------------- the joiner
+
+/// "a joiner of two open desks of one K with their sheets into a third pair": the drawings
+/// of both benches in one, on a desk with nothing else. Answers 0, or 1: "The answer is a
+/// fault exactly when the joined drawing has a closed strong path, and then the joined desk
+/// is closed and a slip written." Or 11, 12, 13 in this order, "and changes nothing".
+#[allow(clippy::too_many_arguments)]
+pub fn join(
+    desk1: &[u8],
+    sheet1: &[u8],
+    seen1: &[u8],
+    desk2: &[u8],
+    sheet2: &[u8],
+    seen2: &[u8],
+    desk: &mut [u8],
+    sheet: &mut [u8],
+    seen: &mut [u8],
+    slip: &mut [u8],
+) -> u8 {
+    // "It refuses with 11 if either bench is unfit": desk and both sheets, without a slip.
+    let first_fits = unfit(desk1, sheet1, seen1, None).is_none();
+    let second_fits = unfit(desk2, sheet2, seen2, None).is_none();
+    if !first_fits || !second_fits {
+        return 11;
+    }
+    // "or a buffer to be written is too short for the larger K": the slip too, whether or
+    // not a fault comes.
+    let (k1, k2) = (usize::from(desk1[0]), usize::from(desk2[0]));
+    let larger = k1.max(k2);
+    let lengths = [desk.len(), sheet.len(), seen.len(), slip.len()];
+    let sizes = [DESK, sheet_len(larger), seen_len(larger), slip_len(larger)];
+    if (0..lengths.len()).any(|i| lengths[i] < sizes[i]) {
+        return 11;
+    }
+    // "then 12 for different K"
+    if k1 != k2 {
+        return 12;
+    }
+    // "then 13 for a closed desk"
+    if desk1[1] == 1 || desk2[1] == 1 {
+        return 13;
+    }
+
+    // "the cores are fresh, the record count 0": as opening leaves a desk, with no hold and
+    // no origin, and so it stays where a circle comes.
+    open(k1 as u64, desk, sheet, seen);
+    // "The joined sheet has exactly the kinds of either, the marks likewise"
+    for class in 0..k1 {
+        desk[MARKS + class] = desk1[MARKS + class] | desk2[MARKS + class];
+    }
+    for pair in 0..sheet_len(k1) {
+        sheet[pair] = sheet1[pair] | sheet2[pair];
+        // "first-seen numbers come from the first bench, or the second where that has
+        // none", whichever of the two a kind comes from.
+        let joined_number = match word_at(seen1, WORD * pair) {
+            0 => word_at(seen2, WORD * pair),
+            firsts => firsts,
+        };
+        set_word(seen, WORD * pair, joined_number);
+    }
+
+    // "a fault exactly when the joined drawing has a closed strong path, and then the joined
+    // desk is closed and a slip written": the circle of request c, with the numbers of the
+    // joined second sheet.
+    let circle = least_circle(desk, sheet, seen);
+    let fault = u8::from(circle.is_some());
+    desk[1] = fault;
+    if let Some(circle) = circle {
+        show(slip, &circle, k1, seen);
+    }
+    fault
+}
+
+/// The books of a joined bench, kept like those of an opening. Nothing here reads what
+/// [`join`] left, nor shares anything with it but the fit test.
+impl Books {
+    /// The drawing that stands on a bench, its numbers, and whether it is closed: with fresh
+    /// cores and nothing counted, to be joined. None for an unfit one. (A record that draws
+    /// nothing finds no circle that stood on an open bench before; a joined one has none.)
+    pub fn of_bench(desk: &[u8], sheet: &[u8], seen: &[u8]) -> Option<Books> {
+        if unfit(desk, sheet, seen, None).is_some() {
+            return None;
+        }
+        let mut books = Books::open(u64::from(desk[0]))?;
+        for class in 0..books.k {
+            let has = |bit: u8| desk[MARKS + class] & bit != 0;
+            for (bit, level, letter) in [(4, 1, 'E'), (8, 1, 'S'), (64, 2, 'E'), (128, 2, 'S')] {
+                if has(bit) {
+                    books.unsafe_marks[class].push((level, letter));
+                }
+            }
+            for (bit, level, letter) in [(1, 1, 'N'), (2, 1, 'R'), (16, 2, 'N'), (32, 2, 'R')] {
+                if has(bit) {
+                    books.safe_marks[class].push((level, letter));
+                }
+            }
+        }
+        for (pair, kinds) in books.kinds.iter_mut().enumerate() {
+            let letters = [('E', 'R'), ('E', 'N'), ('S', 'R'), ('S', 'N')];
+            for (i, arrow) in letters.into_iter().enumerate() {
+                if sheet[pair] >> i & 1 == 1 {
+                    kinds.push(arrow);
+                }
+            }
+            let number = (0..WORD).map(|i| u32::from(seen[WORD * pair + i]) << (8 * i));
+            books.numbers[pair] = number.sum();
+        }
+        books.closed = desk[1] == 1;
+        Some(books)
+    }
+
+    /// Whether the desk is closed.
+    pub fn closed(&self) -> bool {
+        self.closed
+    }
+
+    /// These books and the second's in one. None where [`join`] refuses with 12 or 13.
+    pub fn joined(&self, second: &Books) -> Option<Books> {
+        if self.k != second.k || self.closed || second.closed {
+            return None;
+        }
+        let mut books = Books::open(self.k as u64)?;
+        for either in [self, second] {
+            for pair in 0..self.k * self.k {
+                for &arrow in &either.kinds[pair] {
+                    note(&mut books.kinds[pair], arrow);
+                }
+                if books.numbers[pair] == 0 {
+                    books.numbers[pair] = either.numbers[pair];
+                }
+            }
+            for class in 0..self.k {
+                for &unsafe_mark in &either.unsafe_marks[class] {
+                    note(&mut books.unsafe_marks[class], unsafe_mark);
+                }
+                for &safe_mark in &either.safe_marks[class] {
+                    note(&mut books.safe_marks[class], safe_mark);
+                }
+            }
+        }
+        books.closed = books.circle();
+        Some(books)
+    }
+}
+
 // ------------------------------------------------------------- the question
 
 /// "which classes end a strong path of one or more arrows from class c? The answer
@@ -1418,6 +1560,26 @@ pub fn run(
     }
 }
 
+/// The program with all its arguments: `join` and the paths of two logs, or else [`run`]. It
+/// is an error where a log can't be opened or read, and `join` without two paths.
+pub fn run_arguments(
+    arguments: &[OsString],
+    input: &mut dyn Read,
+    out: &mut dyn Write,
+) -> std::io::Result<()> {
+    match arguments {
+        [word, paths @ ..] if word == "join" => {
+            let [path1, path2] = paths else {
+                return Err(ErrorKind::InvalidInput.into());
+            };
+            let mut log1 = BufReader::new(File::open(path1)?);
+            let mut log2 = BufReader::new(File::open(path2)?);
+            run_join(&mut log1, &mut log2, out)
+        }
+        _ => run(arguments.first().map(|word| word.as_os_str()), input, out),
+    }
+}
+
 /// Reads until the buffer is full or the input ends; how many bytes came.
 fn fill(input: &mut dyn Read, buffer: &mut [u8]) -> std::io::Result<usize> {
     let mut got = 0;
@@ -1475,6 +1637,107 @@ pub fn run_log(input: &mut dyn Read, out: &mut dyn Write) -> std::io::Result<()>
                 return out.flush();
             }
         }
+    }
+}
+
+/// A bench with room for any K, what a log leaves there, and what was said of the log: its
+/// first answer but 0 and the record's number, or 0 and how many records there were.
+struct Left {
+    desk: Vec<u8>,
+    sheet: Vec<u8>,
+    seen: Vec<u8>,
+    slip: Vec<u8>,
+    said: u8,
+    at: u64,
+}
+
+impl Left {
+    fn nothing() -> Left {
+        Left {
+            desk: vec![0; DESK],
+            sheet: vec![0; sheet_len(MAX_K)],
+            seen: vec![0; seen_len(MAX_K)],
+            slip: vec![0; slip_len(MAX_K)],
+            said: 0,
+            at: 0,
+        }
+    }
+
+    /// Feeds a log to a bench: the header, then record by record, up to and with the first
+    /// answer but 0, or to its end. No more is read than that.
+    fn by(log: &mut dyn Read) -> std::io::Result<Left> {
+        let mut left = Left::nothing();
+        let Left {
+            desk,
+            sheet,
+            seen,
+            slip,
+            said,
+            at,
+        } = &mut left;
+        let mut held = [0; FEED];
+        let mut piece = [0; RECORD];
+        let mut size = HEADER;
+        loop {
+            let got = fill(log, &mut piece[..size])?;
+            *said = feed(&mut held, desk, sheet, seen, slip, &piece[..got], at);
+            let ended = got < size;
+            if ended {
+                *said = feed_end(&mut held, desk, sheet, seen, slip, at);
+            }
+            if ended || *said != 0 {
+                return Ok(left);
+            }
+            size = RECORD;
+        }
+    }
+}
+
+/// Joins what two logs leave: `clean`, `fault` and the circle's lines, or `refused 12`. Or,
+/// for each log that isn't clean itself, what [`run_log`] says of it, and nothing of the
+/// join. Both logs are read before anything is written.
+pub fn run_join(
+    log1: &mut dyn Read,
+    log2: &mut dyn Read,
+    out: &mut dyn Write,
+) -> std::io::Result<()> {
+    let [left1, left2] = [Left::by(log1)?, Left::by(log2)?];
+    for (left, name) in [(&left1, "log 1"), (&left2, "log 2")] {
+        if left.said != 0 {
+            write!(out, "{name}: ")?;
+            write_verdict(
+                left.said,
+                &format!(" at record {}", left.at),
+                &left.slip,
+                out,
+            )?;
+        }
+    }
+    if left1.said == 0 && left2.said == 0 {
+        let mut third = Left::nothing();
+        third.said = join(
+            &left1.desk,
+            &left1.sheet,
+            &left1.seen,
+            &left2.desk,
+            &left2.sheet,
+            &left2.seen,
+            &mut third.desk,
+            &mut third.sheet,
+            &mut third.seen,
+            &mut third.slip,
+        );
+        write_verdict(third.said, "", &third.slip, out)?;
+    }
+    out.flush()
+}
+
+/// `clean`, `fault` or `refused` with its number, and the place; a fault's circle after it.
+fn write_verdict(said: u8, place: &str, slip: &[u8], out: &mut dyn Write) -> std::io::Result<()> {
+    match said {
+        0 => writeln!(out, "clean{place}"),
+        1 => writeln!(out, "fault{place}").and_then(|()| write_circle(slip, out)),
+        refusal => writeln!(out, "refused {refusal}{place}"),
     }
 }
 

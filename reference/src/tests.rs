@@ -109,9 +109,9 @@ impl Bench {
         let at = 4 * (from * self.desk[0] as usize + to);
         self.seen[at..at + 4].copy_from_slice(&number.to_le_bytes());
     }
-    /// Makes numbers and count fit a sheet that was written by hand: a pair with kinds and
-    /// no number gets one in no order, up to 2 to the 31; one without kinds gets 0; and a
-    /// count below any of them is raised.
+    /// Makes numbers fit a sheet that was written by hand: a pair with kinds and no number
+    /// gets one in no order, up to 2 to the 31; one without kinds gets 0. A count below any of
+    /// them is raised, as after an opening; it needn't be (02 i).
     fn settle(&mut self) {
         let k = self.desk[0] as usize;
         let mut highest = self.count();
@@ -916,14 +916,10 @@ fn each_clause_of_unfit() {
                 violate(CLAUSES[18], &|b| b.seen[4 * pair + byte] = 1 << bit);
             }
         }
-        for number in [6, 7, 255, 256, 5 << 8, 5 << 16, 5 << 24, u32::MAX] {
-            violate(CLAUSES[19], &|b| {
-                b.sheet[pair] = SN;
-                b.set_number(pair / 8, pair % 8, number);
-            });
-        }
     }
     assert_eq!(met, CLAUSES);
+    assert_eq!(CLAUSES.len(), 19);
+    assert!(CLAUSES.iter().all(|clause| !clause.contains("count")));
 
     // And what is still fit.
     let fit = |change: &dyn Fn(&mut Bench)| {
@@ -948,11 +944,21 @@ fn each_clause_of_unfit() {
         b.settle();
     });
     fit(&|b| b.seen.push(255));
+    // Numbers up to the count of 5, and, since 02 i, above it.
     for pair in 0..64 {
-        for number in 1..=5 {
+        for number in
+            [1, 2, 3, 4, 5]
+                .into_iter()
+                .chain([6, 7, 255, 256, 5 << 8, 5 << 16, 5 << 24, u32::MAX])
+        {
             fit(&|b| {
                 b.sheet[pair] = SN;
                 b.set_number(pair / 8, pair % 8, number);
+            });
+            fit(&|b| {
+                b.sheet[pair] = SN;
+                b.set_number(pair / 8, pair % 8, number);
+                b.set_count(0);
             });
         }
     }
@@ -2528,7 +2534,7 @@ fn no_circle_and_unfit() {
     assert!((0..9).all(|n| clean.all_circles(n).is_empty()));
     let circle = made(8, &[(0, EN, 0)], &[]);
     assert_shows(&circle, &[(0, EN, 0)]);
-    let changes: [&dyn Fn(&mut Bench); 9] = [
+    let changes: [&dyn Fn(&mut Bench); 8] = [
         &|b| b.desk.truncate(1397),
         &|b| b.desk[0] = 65,
         &|b| b.sheet.truncate(63),
@@ -2536,7 +2542,6 @@ fn no_circle_and_unfit() {
         &|b| b.seen.truncate(255),
         &|b| b.set_number(0, 0, 0),
         &|b| b.set_number(7, 7, 1),
-        &|b| b.set_number(0, 0, b.count() + 1),
         &|b| b.desk[MARKS] = 64,
     ];
     for change in changes {
@@ -2545,6 +2550,15 @@ fn no_circle_and_unfit() {
         assert_eq!(b.least_circle(), None);
         assert!(b.all_circles(1).is_empty());
         b.refused(&event(0, HARD_ON), 11);
+    }
+    // A number above the count is fit (02 i), and the circle shown.
+    for number in [circle.count() + 1, u32::MAX] {
+        let mut b = circle.clone();
+        b.set_number(0, 0, number);
+        assert_shows(&b, &[(0, EN, 0)]);
+        b.set_count(0);
+        assert_shows(&b, &[(0, EN, 0)]);
+        assert_eq!(b.all_circles(1), [[(0, EN, 0)]]);
     }
 }
 
@@ -4460,7 +4474,8 @@ fn an_end_with_loose_bytes() {
         (changed(&|b| (b.sheet[5], b.seen[20]) = (16, 1)), 11),
         (changed(&|b| b.sheet[5] = 1), 11),
         (changed(&|b| b.seen[20] = 1), 11),
-        (changed(&|b| (b.sheet[5], b.seen[20]) = (1, 2)), 11),
+        // A number above the count is fit (02 i).
+        (changed(&|b| (b.sheet[5], b.seen[20]) = (1, 2)), 3),
         (changed(&|b| (b.sheet[5], b.seen[20]) = (1, 1)), 3),
         // 3 before 9.
         (changed(&|b| b.set_count(u32::MAX)), 3),
@@ -4882,8 +4897,9 @@ fn a_bench_written_meanwhile() {
         (&|b| b.desk[0] = 2, 4),
         (&|b| b.sheet[2 * 8 + 1] = EN, 11),
         (&|b| b.set_number(2, 1, 1), 11),
-        (&|b| (b.sheet[2 * 8 + 1], b.seen[4 * 17]) = (EN, 2), 11),
+        (&|b| (b.sheet[2 * 8 + 1], b.seen[4 * 17]) = (EN, 2), 1), // above the count
         (&|b| (b.sheet[2 * 8 + 1], b.seen[4 * 17]) = (EN, 1), 1),
+        (&|b| (b.sheet[2 * 8 + 3], b.seen[4 * 19 + 3]) = (EN, 255), 0), // far above it
         (&|b| b.set_count(u32::MAX), 9),
         (&|b| b.set_count(u32::MAX - 1), 0),
         (&|b| b.set_count(0), 0),
@@ -5428,20 +5444,19 @@ fn the_highest_number() {
     assert_eq!(b.step(&take(0, 0, E)), 1);
     assert_eq!(b.slip, [1, 0, EN, 0, 255, 255, 255, 255]);
     b.refused(&event(0, HARD_ON), 10);
-    // A number of 4,294,967,295 stands where the count does too, and nowhere else.
+    // A number of 4,294,967,295 may stand with any count; with that count comes 9.
     let mut b = made(2, &[(0, ER, 1)], &[]);
     b.set_number(0, 1, u32::MAX);
-    for (count, answer) in [(u32::MAX, 9), (u32::MAX - 1, 11), (1, 11), (0, 11)] {
+    for (count, answer) in [(u32::MAX, 9), (u32::MAX - 1, 0), (1, 0), (0, 0)] {
         b.set_count(count);
-        b.refused(&event(0, HARD_ON), answer);
-        assert_eq!(
-            b.ask(0),
-            if answer == 9 {
-                (0, 0b10, 1)
-            } else {
-                (11, 0, 0)
-            }
-        );
+        assert_eq!(b.ask(0), (0, 0b10, 1));
+        if answer == 9 {
+            b.refused(&event(0, HARD_ON), answer);
+        } else {
+            let mut after = b.clone();
+            assert_eq!(after.step(&event(0, HARD_ON)), answer);
+            assert_eq!(after, b.counted());
+        }
     }
 }
 
@@ -5495,8 +5510,10 @@ fn all_other_refusals_before_9() {
 
 #[test]
 fn numbers_and_the_count() {
-    // Fit up to the count and itself; unfit 1 above it, and all further up.
+    // Fit up to the count and itself, and, since 02 i, 1 above it and all further up.
+    let (mut below, mut above) = (0, 0);
     for count in [
+        0,
         1,
         2,
         255,
@@ -5510,7 +5527,7 @@ fn numbers_and_the_count() {
     ] {
         let mut numbers = vec![
             1,
-            count - 1,
+            count.saturating_sub(1),
             count,
             count.saturating_add(1),
             count.saturating_add(2),
@@ -5533,21 +5550,13 @@ fn numbers_and_the_count() {
                 let mut b = at_count(k, count);
                 b.sheet[pair] = SR;
                 b.set_number(pair / k, pair % k, number);
-                let fit = number <= count;
-                assert_eq!(
-                    b.unfit(),
-                    if fit {
-                        None
-                    } else {
-                        Some("number above the count")
-                    }
-                );
+                below += u64::from(number <= count);
+                above += u64::from(number > count);
+                assert_eq!(b.unfit(), None);
                 let c = (pair / k) as u64;
                 let reached = 1 << (pair % k);
-                assert_eq!(b.ask(c), if fit { (0, reached, 1) } else { (11, 0, 0) });
-                if !fit {
-                    b.refused(&event(0, HARD_ON), 11);
-                } else if count == u32::MAX {
+                assert_eq!(b.ask(c), (0, reached, 1));
+                if count == u32::MAX {
                     b.refused(&event(0, HARD_ON), 9);
                 } else {
                     let after = b.counted();
@@ -5557,12 +5566,13 @@ fn numbers_and_the_count() {
             }
         }
     }
-    // With a count of 0 no number is fit, and no kinds are.
+    assert!(below > 1_000 && above > 1_000, "{below}, {above}");
+    // With a count of 0 kinds and a number are fit together, and neither alone.
     let mut b = Bench::new(2);
     b.sheet[0] = SR;
     assert_eq!(b.unfit(), Some("kinds but number 0"));
     b.set_number(0, 0, 1);
-    assert_eq!(b.unfit(), Some("number above the count"));
+    assert_eq!(b.unfit(), None);
     b.sheet[0] = 0;
     assert_eq!(b.unfit(), Some("number but no kinds"));
     // Two pairs with one number, more accepted than numbers: fit.
@@ -5579,8 +5589,8 @@ fn only_the_pairs_below_k_are_looked_at() {
         let size = k * k;
         let mut b = lent(DESK + 4, size + 4, 4 * size + 16, slip_len(k) + 4);
         assert_eq!(b.open(k as u64), 0);
-        // Past the pairs: kinds without a number, a number without kinds, one above the
-        // count, a sheet byte over 15; past the desk another count.
+        // Past the pairs: kinds without a number, a number without kinds, both, a sheet byte
+        // over 15; past the desk another count.
         b.sheet[size..].copy_from_slice(&[EN, 0, EN, 255]);
         b.seen[4 * size..]
             .copy_from_slice(&[0, 0, 0, 0, 1, 0, 0, 0, 255, 255, 255, 255, 1, 0, 0, 0]);
@@ -5592,18 +5602,22 @@ fn only_the_pairs_below_k_are_looked_at() {
         assert_eq!(b.step(&event(0, HARD_OFF)), 0);
         assert_eq!(b, after);
         // The last pair is.
-        for (kinds, number) in [(EN, 0), (0, 1), (EN, 2), (16, 1)] {
+        for (kinds, number) in [(EN, 0), (0, 1), (0, 2), (16, 1)] {
             let mut b = b.clone();
             b.sheet[size - 1] = kinds;
             b.set_number(k - 1, k - 1, number);
             b.refused(&event(0, HARD_OFF), 11);
             assert_eq!(b.ask(0), (11, 0, 0));
         }
-        b.sheet[size - 1] = EN;
-        b.set_number(k - 1, k - 1, 1);
-        assert_eq!(b.step(&event(0, HARD_OFF)), 1);
-        assert_eq!(b.slip[..8], [1, k as u8 - 1, EN, 0, 1, 0, 0, 0]);
-        assert!(b.slip[8..].iter().all(|&x| x == 0xA5));
+        // With the count's own number, or one above it.
+        for number in [1, 2] {
+            let mut b = b.clone();
+            b.sheet[size - 1] = EN;
+            b.set_number(k - 1, k - 1, number);
+            assert_eq!(b.step(&event(0, HARD_OFF)), 1);
+            assert_eq!(b.slip[..8], [1, k as u8 - 1, EN, 0, number as u8, 0, 0, 0]);
+            assert!(b.slip[8..].iter().all(|&x| x == 0xA5));
+        }
     }
     // K decides which they are: the sheets of 3 classes read with 2 and with 4.
     let mut b = made(3, &[(2, SR, 2)], &[]);
@@ -5842,6 +5856,8 @@ fn what_writes_the_second_sheet() {
             1 => u32::MAX,
             2 => u32::MAX - 1,
             3 => highest.max(0x0403_0200),
+            // Below the numbers, too.
+            4 => dice.under(300) as u32,
             _ => highest + dice.under(1 << 20) as u32,
         });
         assert_eq!(b.unfit(), None);
@@ -7008,7 +7024,7 @@ fn fit_by_hand(b: &Bench) -> bool {
     };
     (0..k * k).all(|pair| {
         let (kinds, number) = (b.sheet[pair], high_first(4 * pair, &b.seen));
-        kinds <= 15 && (kinds == 0) == (number == 0) && number <= high_first(1394, desk)
+        kinds <= 15 && (kinds == 0) == (number == 0)
     })
 }
 
@@ -7776,9 +7792,14 @@ fn old_desks_that_are_unfit() {
     let b = Bench::new(3).clean(&p2_records()[..4]);
     let mut long = with_old_desk(&b, &old_layout(&b), 0);
     assert_unfit(&long);
+    // Without it, it is fit in the new layout, with a count of 0 (02 i).
     long.desk[638] = 0;
-    assert_eq!(long.unfit(), Some("number above the count"));
-    assert_unfit(&long);
+    assert_eq!(
+        (long.unfit(), long.count(), long.number(1, 2)),
+        (None, 0, 2)
+    );
+    assert!(fit_by_hand(&long));
+    assert_eq!(long.clone().step(&event(0, HARD_ON)), 0);
     long.set_count(4);
     assert_eq!(long, b);
 }
@@ -8840,6 +8861,2031 @@ fn first_seen_with_releases() {
     assert_eq!(books.numbers(), [0, 4, 0, 0, 0, 6, 0, 0, 0]);
     assert_eq!((books.accepted(), b.count()), (7, 7));
     assert_eq!(b.seen, bytes_of(books.numbers()));
+}
+
+// ----------------------------------------------------- two benches, one drawing
+
+impl Bench {
+    /// Joins this bench and a second into these buffers.
+    fn join(&self, second: &Bench, into: &mut Bench) -> u8 {
+        join(
+            &self.desk,
+            &self.sheet,
+            &self.seen,
+            &second.desk,
+            &second.sheet,
+            &second.seen,
+            &mut into.desk,
+            &mut into.sheet,
+            &mut into.seen,
+            &mut into.slip,
+        )
+    }
+    /// Into buffers that are just enough, of 0xA5: the answer and the joined bench.
+    fn joined(&self, second: &Bench) -> (u8, Bench) {
+        let mut into = lent_for(self.desk[0] as usize);
+        let answer = self.join(second, &mut into);
+        (answer, into)
+    }
+    /// A join that is refused, in this order of the two: nothing may change.
+    fn join_refused(&self, second: &Bench, into: &Bench, answer: u8) {
+        let mut after = into.clone();
+        assert_eq!(self.join(second, &mut after), answer);
+        assert_eq!(&after, into);
+    }
+    /// A join that must be clean, with the slip unchanged.
+    fn joined_clean(&self, second: &Bench) -> Bench {
+        let (answer, into) = self.joined(second);
+        assert_eq!(answer, 0);
+        assert!(into.slip.iter().all(|&byte| byte == 0xA5));
+        into
+    }
+    fn books(&self) -> Option<Books> {
+        Books::of_bench(&self.desk, &self.sheet, &self.seen)
+    }
+}
+
+/// What a join of two fit and open benches of one K should answer and leave in these
+/// buffers, worked out kind by kind and mark by mark, with the circle from this function.
+fn plainly(
+    one: &Bench,
+    two: &Bench,
+    into: &Bench,
+    circle_of: fn(&Bench) -> Option<Vec<Triple>>,
+) -> (u8, Bench) {
+    let k = one.desk[0] as usize;
+    let mut desk = vec![0u8; 1398];
+    desk[0] = one.desk[0];
+    for class in 0..k {
+        for bit in 0..8 {
+            let has = |b: &Bench| b.desk[34 + class] / (1 << bit) % 2 == 1;
+            if has(one) || has(two) {
+                desk[34 + class] += 1 << bit;
+            }
+        }
+    }
+    let (mut sheet, mut seen) = (vec![], vec![]);
+    for from in 0..k {
+        for to in 0..k {
+            let kinds = [1, 2, 4, 8].into_iter().filter(|kind| {
+                [one, two]
+                    .iter()
+                    .any(|b| b.sheet[from * k + to] / kind % 2 == 1)
+            });
+            sheet.push(kinds.sum());
+            let numbers = [one.number(from, to), two.number(from, to)];
+            let number = numbers.into_iter().find(|&n| n > 0).unwrap_or(0);
+            seen.extend(bytes_of(&[number]));
+        }
+    }
+    let slip = into.slip[..1 + 7 * k].to_vec();
+    let mut wanted = Bench {
+        desk,
+        sheet,
+        seen,
+        slip,
+    };
+    let circle = circle_of(&wanted);
+    wanted.slip = wanted.shown_or_not(&wanted.slip, &circle);
+    wanted.desk[1] = u8::from(circle.is_some());
+    let past = |bytes: &mut Vec<u8>, into: &[u8]| bytes.extend(&into[bytes.len()..]);
+    past(&mut wanted.desk, &into.desk);
+    past(&mut wanted.sheet, &into.sheet);
+    past(&mut wanted.seen, &into.seen);
+    past(&mut wanted.slip, &into.slip);
+    (u8::from(circle.is_some()), wanted)
+}
+
+/// Joined in either order, all bytes as [`plainly`] says; the joined bench of this order.
+fn assert_joins(one: &Bench, two: &Bench, circle: Option<&[Triple]>) -> Bench {
+    let mut joined = Vec::new();
+    for (one, two) in [(one, two), (two, one)] {
+        let into = lent_for(one.desk[0] as usize);
+        let (answer, wanted) = plainly(one, two, &into, listed);
+        assert_eq!(one.joined(two), (answer, wanted.clone()));
+        assert_eq!(wanted.unfit(), None);
+        assert_eq!(wanted.least_circle().as_deref(), circle);
+        assert_eq!(answer, u8::from(circle.is_some()));
+        assert_eq!(closed_strong_path(&wanted.desk, &wanted.sheet), answer == 1);
+        if let Some(circle) = circle {
+            assert_eq!(wanted.slip, wanted.shown_over(&into.slip, circle));
+            assert!(wanted.true_circle(&wanted.slip));
+        }
+        joined.push(wanted);
+    }
+    // "Apart from first-seen numbers and the slip, joining in either order gives the same."
+    assert_eq!(joined[0].desk, joined[1].desk);
+    assert_eq!(joined[0].sheet, joined[1].sheet);
+    joined.swap_remove(0)
+}
+
+#[test]
+fn a_clean_join_byte_by_byte() {
+    let one = Bench::new(3).clean(&[
+        take(0, 1, E),
+        take(0, 2, E),
+        event(1, HARD_OFF),
+        take(1, 0, TE),
+        event(2, ENTER_HARD),
+        take(2, 0, R),
+    ]);
+    let two = Bench::new(3).clean(&[
+        event(7, SOFT_OFF),
+        take(7, 1, NR),
+        take(7, 2, R),
+        take(7, 2, R),
+        event(6, ENTER_SOFT),
+        take(6, 0, NR),
+        release(6, 0, NR),
+    ]);
+    assert_eq!(
+        (one.desk[34..37].to_vec(), one.count()),
+        (vec![2, 68, 68], 6)
+    );
+    assert_eq!(
+        (two.desk[34..37].to_vec(), two.count()),
+        (vec![16 + 8, 8, 8], 7)
+    );
+    assert_eq!(one.sheet, [0, 0, 0, 0, 0, EN, 0, 0, 0]);
+    assert_eq!(one.seen, bytes_of(&[0, 0, 0, 0, 0, 2, 0, 0, 0]));
+    assert_eq!(two.sheet, [0, 0, 0, 0, 0, SR, 0, 0, SR]);
+    assert_eq!(two.seen, bytes_of(&[0, 0, 0, 0, 0, 3, 0, 0, 4]));
+    let wanted = |numbers: [u32; 9]| {
+        let mut desk = vec![0; 1398];
+        (desk[0], desk[34], desk[35], desk[36]) = (3, 26, 76, 76);
+        Bench {
+            desk,
+            sheet: vec![0, 0, 0, 0, 0, EN | SR, 0, 0, SR],
+            seen: bytes_of(&numbers),
+            slip: vec![0xA5; 22],
+        }
+    };
+    assert_eq!(
+        one.joined(&two),
+        (0, wanted([0, 0, 0, 0, 0, 2, 0, 0, 4])),
+        "first before second"
+    );
+    assert_eq!(two.joined(&one), (0, wanted([0, 0, 0, 0, 0, 3, 0, 0, 4])));
+    // The two benches are lent, and joined again they give the same.
+    assert_joins(&one, &two, None);
+}
+
+#[test]
+fn a_fault_byte_by_byte() {
+    // P2's halves on two benches, with other records before: 1 EN 2 and 2 EN 1.
+    let one = Bench::new(3).clean(&p2_records()[..4]);
+    let two = Bench::new(3).clean(&[event(4, HARD_ON), take(4, 2, E), take(4, 1, E)]);
+    let wanted = |first: u32, second: u32| {
+        let mut desk = vec![0; 1398];
+        (desk[0], desk[1], desk[35], desk[36]) = (3, 1, 68, 68);
+        let mut slip = entries(&[(1, EN, 0, first), (2, EN, 0, second)]);
+        slip.resize(22, 0xA5);
+        Bench {
+            desk,
+            sheet: vec![0, 0, 0, 0, 0, EN, 0, EN, 0],
+            seen: bytes_of(&[0, 0, 0, 0, 0, first, 0, second, 0]),
+            slip,
+        }
+    };
+    assert_eq!(one.joined(&two), (1, wanted(2, 3)));
+    assert_eq!(two.joined(&one), (1, wanted(2, 3)));
+    let joined = assert_joins(&one, &two, Some(&[(1, EN, 0), (2, EN, 0)]));
+    for r in [take(0, 0, E), event(0, HARD_ON), release(4, 1, E), [0; 6]] {
+        joined.refused(&r, 10);
+    }
+    assert_eq!(joined.ask(1), (0, 0b110, 2));
+    // Joined again: 13.
+    let empty = Bench::new(3);
+    joined.join_refused(&empty, &lent_for(3), 13);
+    empty.join_refused(&joined, &lent_for(3), 13);
+}
+
+/// One way to make the bench of K = 8 in `each_clause_of_unfit` unfit for each clause but the
+/// slip's.
+fn ways_to_be_unfit() -> Vec<(&'static str, fn(&mut Bench))> {
+    vec![
+        (CLAUSES[0], |b| b.desk.truncate(1397)),
+        (CLAUSES[0], |b| b.desk.clear()),
+        (CLAUSES[1], |b| b.desk[0] = 0),
+        (CLAUSES[1], |b| b.desk[0] = 65),
+        (CLAUSES[2], |b| b.sheet.truncate(63)),
+        (CLAUSES[4], |b| b.desk[1] = 2),
+        (CLAUSES[4], |b| b.desk[1] = 255),
+        (CLAUSES[5], |b| b.desk[9] = 9),
+        (CLAUSES[6], |b| b.desk[10] = 49),
+        (CLAUSES[7], |b| (b.desk[10], b.desk[98]) = (1, 8)),
+        (CLAUSES[8], |b| (b.desk[10], b.desk[98]) = (1, 192)),
+        (CLAUSES[9], |b| b.desk[1249] = 64),
+        (CLAUSES[10], |b| b.desk[1393] = 128),
+        (CLAUSES[11], |b| b.desk[11] = 1),
+        (CLAUSES[12], |b| b.desk[33] = 1),
+        (CLAUSES[13], |b| b.desk[97] = 4),
+        (CLAUSES[14], |b| b.desk[41] = 64 + 8),
+        (CLAUSES[15], |b| (b.sheet[63], b.seen[252]) = (16, 1)),
+        (CLAUSES[16], |b| b.seen.truncate(255)),
+        (CLAUSES[17], |b| b.sheet[63] = SR),
+        (CLAUSES[18], |b| b.seen[255] = 1),
+    ]
+}
+
+#[test]
+fn either_bench_unfit() {
+    let good = Bench::new(8).clean(&[
+        take(2, 7, R),
+        event(2, ENTER_SOFT),
+        take(2, 6, E),
+        event(2, ENTER_HARD),
+        take(2, 5, NR),
+    ]);
+    let others = [
+        good.clone(),
+        Bench::new(8),
+        Bench::new(1),
+        Bench::new(64),
+        made(8, &[(0, EN, 0)], &[]),
+        {
+            let mut closed = good.clone();
+            closed.desk[1] = 1;
+            closed
+        },
+    ];
+    let mut met = Vec::new();
+    for (clause, change) in ways_to_be_unfit() {
+        let mut b = good.clone();
+        change(&mut b);
+        let name = unfit(&b.desk, &b.sheet, &b.seen, None);
+        assert_eq!(name, Some(clause));
+        note(&mut met, clause);
+        // Whatever the other is, and however much room there is; with both unfit too.
+        for into in [lent_for(64), lent_for(8), lent_for(1), lent(0, 0, 0, 0)] {
+            for other in others.iter().chain([&b]) {
+                b.join_refused(other, &into, 11);
+                other.join_refused(&b, &into, 11);
+            }
+        }
+        assert!(b.books().is_none());
+    }
+    let mut clauses = CLAUSES.to_vec();
+    clauses.retain(|&clause| clause != "slip too short");
+    assert_eq!(met, clauses);
+    // The good one joins, a number above its count or not: nothing ties them.
+    let mut b = good.clone();
+    (b.sheet[63], b.seen[255]) = (SR, 1);
+    for count in [0, 5, u32::MAX] {
+        b.set_count(count);
+        let (one, two) = (good.joined_clean(&b), b.joined_clean(&good));
+        assert_eq!(one, two);
+        assert_eq!((one.number(7, 7), one.count()), (1 << 24, 0));
+    }
+}
+
+/// Room for this K, with one buffer (desk, sheet, second sheet, slip) this much longer.
+fn room(k: usize, which: usize, more: isize) -> Bench {
+    let mut sizes = [1398, k * k, 4 * k * k, 1 + 7 * k];
+    sizes[which] = sizes[which].saturating_add_signed(more);
+    lent(sizes[0], sizes[1], sizes[2], sizes[3])
+}
+
+#[test]
+fn buffers_to_be_written() {
+    // Clean, with a circle, and closed; every K.
+    for k in 1..=64usize {
+        let clean = Bench::new(k);
+        let circle = made(k, &[(k - 1, EN, k - 1)], &[]);
+        let mut closed = Bench::new(k);
+        closed.desk[1] = 1;
+        for (one, two, answer) in [
+            (&clean, &clean, 0),
+            (&clean, &circle, 1),
+            (&circle, &clean, 1),
+            (&circle, &circle, 1),
+            (&closed, &clean, 13),
+            (&clean, &closed, 13),
+        ] {
+            for which in 0..4 {
+                for less in [1, 2, 7, 1_000_000] {
+                    one.join_refused(two, &room(k, which, -less), 11);
+                }
+                let mut into = room(k, which, 1);
+                let before = into.clone();
+                assert_eq!(one.join(two, &mut into), answer);
+                if answer < 2 {
+                    assert_eq!((answer, into), plainly(one, two, &before, by_choosing));
+                } else {
+                    assert_eq!(into, before);
+                }
+            }
+            one.join_refused(two, &lent(0, 0, 0, 0), 11);
+        }
+    }
+    // Different K: the larger decides, whichever bench has it.
+    for (smaller, larger) in [(1, 2), (1, 64), (2, 3), (7, 8), (8, 64), (63, 64)] {
+        let (one, two) = (Bench::new(smaller), Bench::new(larger));
+        let mut closed = [one.clone(), two.clone()];
+        closed.iter_mut().for_each(|b| b.desk[1] = 1);
+        for (one, two) in [
+            (&one, &two),
+            (&closed[0], &two),
+            (&one, &closed[1]),
+            (&closed[0], &closed[1]),
+        ] {
+            for (one, two) in [(one, two), (two, one)] {
+                one.join_refused(two, &lent_for(larger), 12);
+                one.join_refused(two, &lent_for(64), 12);
+                one.join_refused(two, &lent_for(smaller), 11);
+                for which in 0..4 {
+                    one.join_refused(two, &room(larger, which, -1), 11);
+                    one.join_refused(two, &room(larger, which, 1), 12);
+                    // Just enough for the smaller K in one buffer; the desk has no K.
+                    let small = room(smaller, 0, 0);
+                    let mut into = lent_for(larger);
+                    match which {
+                        0 => into.desk.truncate(1397),
+                        1 => into.sheet = small.sheet,
+                        2 => into.seen = small.seen,
+                        _ => into.slip = small.slip,
+                    }
+                    one.join_refused(two, &into, 11);
+                }
+            }
+        }
+    }
+}
+
+#[test]
+fn refusals_of_a_join_in_order() {
+    // Every pair of conditions, and all at once: 11 by either bench or by each buffer, 12, 13
+    // by either desk.
+    let mut met = [0u64; 14];
+    for code in 0..1u32 << 9 {
+        let has = |i: u32| code >> i & 1 == 1;
+        let mut one = Bench::new(4).clean(&[take(0, 1, E), take(0, 2, E)]);
+        let mut two = Bench::new(if has(6) { 5 } else { 4 }).clean(&[take(1, 2, E)]);
+        (one.desk[1], two.desk[1]) = (u8::from(has(7)), u8::from(has(8)));
+        if has(0) {
+            one.desk[DEPTHS] = 3;
+            one.desk[HOLDS + 2] = 4;
+        }
+        if has(1) {
+            two.desk[STATES] = 9;
+        }
+        let mut into = lent_for(5);
+        let lengths = [
+            &mut into.desk,
+            &mut into.sheet,
+            &mut into.seen,
+            &mut into.slip,
+        ];
+        for (i, buffer) in lengths.into_iter().enumerate() {
+            let k = if has(6) { 5 } else { 4 };
+            let size = [1398, k * k, 4 * k * k, 1 + 7 * k][i];
+            buffer.truncate(size - usize::from(has(2 + i as u32)));
+        }
+        let answer = match code {
+            _ if code & 0b11_1111 != 0 => 11,
+            _ if has(6) => 12,
+            _ if has(7) || has(8) => 13,
+            _ => 0,
+        };
+        met[answer as usize] += 1;
+        if answer == 0 {
+            assert_eq!(one.join(&two, &mut into), 0);
+        } else {
+            one.join_refused(&two, &into, answer);
+        }
+        // And the other way round.
+        let mut into = lent_for(5);
+        let (answer, k) = (two.join(&one, &mut into), if has(6) { 5 } else { 4 });
+        let wanted = match code {
+            _ if has(0) || has(1) => 11,
+            _ if k == 5 => 12,
+            _ if has(7) || has(8) => 13,
+            _ => 0,
+        };
+        assert_eq!(answer, wanted);
+        if answer > 0 {
+            assert_eq!(into, lent_for(5));
+        }
+    }
+    assert_eq!(met, [1, 0, 0, 0, 0, 0, 0, 0, 0, 0, 0, 504, 4, 3]);
+}
+
+#[test]
+fn closed_desks() {
+    // With a circle and without one, whatever the other has.
+    let clean = Bench::new(3).clean(&p2_records()[..4]);
+    let circle = made(3, &[(1, EN, 1)], &[]);
+    for one in [&clean, &circle] {
+        for two in [&clean, &circle] {
+            for (first, second) in [(1, 0), (0, 1), (1, 1)] {
+                let (mut one, mut two) = (one.clone(), two.clone());
+                (one.desk[1], two.desk[1]) = (first, second);
+                one.join_refused(&two, &lent_for(3), 13);
+                one.join_refused(&two, &lent_for(64), 13);
+                let books = one.books().unwrap().joined(&two.books().unwrap());
+                assert!(books.is_none());
+            }
+            // Open both: a circle of its own makes the joined one a fault.
+            let faults = [one, two]
+                .iter()
+                .any(|b| closed_strong_path(&b.desk, &b.sheet));
+            assert_eq!(one.joined(two).0, u8::from(faults));
+        }
+    }
+    // A closed desk of another K is 12.
+    let mut closed = Bench::new(2);
+    closed.desk[1] = 1;
+    clean.join_refused(&closed, &lent_for(3), 12);
+    closed.join_refused(&clean, &lent_for(3), 12);
+    // A log's fault: closed, and not joined.
+    let mut b = Bench::new(3);
+    let answers = p2_records().map(|r| b.step(&r));
+    assert_eq!(answers, [0, 0, 0, 0, 0, 1]);
+    b.join_refused(&clean, &lent_for(3), 13);
+    clean.join_refused(&b, &lent_for(3), 13);
+}
+
+#[test]
+fn longer_buffers_of_a_join() {
+    // What lies past the sizes isn't read on either bench, and stays in the third.
+    let longer = |mut b: Bench, fill: u8| {
+        for buffer in [&mut b.desk, &mut b.sheet, &mut b.seen, &mut b.slip] {
+            buffer.extend([fill; 11]);
+        }
+        b
+    };
+    for k in [1usize, 2, 3, 8, 63, 64] {
+        let last = k - 1;
+        let clean = made(k, &[(0, SR, last)], &[(last, 4)]);
+        let fault = made(k, &[(last, EN, last), (0, ER, last)], &[(0, 2)]);
+        for (one, two) in [(&clean, &clean), (&clean, &fault), (&fault, &clean)] {
+            let (answer, exact) = one.joined(two);
+            for fills in [[0, 0, 0], [255, 255, 255], [1, 2, 3], [0xA5, 15, 64]] {
+                let [one, two] =
+                    [(one, fills[0]), (two, fills[1])].map(|(b, f)| longer(b.clone(), f));
+                let mut into = longer(lent_for(k), fills[2]);
+                assert_eq!(one.join(&two, &mut into), answer);
+                assert_eq!(into, longer(exact.clone(), fills[2]));
+                // Much longer, and with other bytes in all of them before.
+                let mut into = lent(2_000, 5_000, 20_000, 600);
+                let before = into.clone();
+                assert_eq!(one.join(&two, &mut into), answer);
+                assert_eq!(into.desk[..1398], exact.desk[..]);
+                assert_eq!(into.desk[1398..], before.desk[1398..]);
+                assert_eq!(into.sheet[..k * k], exact.sheet[..]);
+                assert_eq!(into.sheet[k * k..], before.sheet[k * k..]);
+                assert_eq!(into.seen[..4 * k * k], exact.seen[..]);
+                assert_eq!(into.seen[4 * k * k..], before.seen[4 * k * k..]);
+                assert_eq!(into.slip[..1 + 7 * k], exact.slip[..]);
+                assert_eq!(into.slip[1 + 7 * k..], before.slip[1 + 7 * k..]);
+            }
+        }
+    }
+}
+
+#[test]
+fn what_lay_in_the_third_pair_before() {
+    // A bench of any sort, or any bytes at all: nothing of it is left, but the slip where no
+    // fault comes, and past the circle.
+    let one = Bench::new(4).clean(&[take(0, 1, E), take(0, 2, E)]);
+    let two = Bench::new(4).clean(&[take(0, 2, E), take(0, 3, R)]);
+    let fault = Bench::new(4).clean(&[take(0, 3, R), take(0, 1, E)]);
+    let fault = fault.joined_clean(&Bench::new(4).clean(&[take(3, 2, E), take(3, 1, R)]));
+    let mut full = made(4, &[(0, 15, 0), (3, 15, 2)], &[(0, 255), (3, 255)]);
+    full.desk[1] = 1;
+    full.desk[STATES..MARKS].fill(8);
+    full.set_count(u32::MAX);
+    for fill in 0..=255 {
+        let mut any = lent_for(4);
+        for buffer in [&mut any.desk, &mut any.sheet, &mut any.seen, &mut any.slip] {
+            buffer.fill(fill);
+        }
+        for before in [&any, &full, &Bench::new(4), &one, &two] {
+            for (first, second) in [(&one, &two), (&one, &fault), (&fault, &two)] {
+                let mut into = before.clone();
+                let answer = first.join(second, &mut into);
+                let (wanted, left) = plainly(first, second, before, listed);
+                assert_eq!((answer, &into), (wanted, &left));
+                if answer == 0 {
+                    assert_eq!(into.slip, before.slip);
+                } else {
+                    let n = 1 + 7 * into.slip[0] as usize;
+                    assert_eq!(into.slip[n..], before.slip[n..]);
+                }
+            }
+        }
+    }
+}
+
+#[test]
+fn numbers_of_either_bench() {
+    // All pairs of numbers, 0 for no kinds: the first's if it has one, whatever the second's;
+    // at the first pair, at the last and between.
+    let numbers = [
+        0,
+        1,
+        2,
+        255,
+        256,
+        0x0001_0000,
+        0x0100_0000,
+        0x0403_0201,
+        0x8000_0000,
+        0xFFFF_FF00,
+        u32::MAX,
+    ];
+    for (k, pair) in [
+        (1usize, 0usize),
+        (2, 1),
+        (3, 5),
+        (8, 0),
+        (8, 63),
+        (64, 4095),
+    ] {
+        let (from, to) = (pair / k, pair % k);
+        for first in numbers {
+            for second in numbers {
+                for (kinds1, kinds2) in [(SR, SR), (SR, ER), (ER | SR, SR), (SR, 5)] {
+                    if k == 1 && (kinds1 | kinds2) & ER != 0 {
+                        continue;
+                    }
+                    let bench = |number: u32, kinds: u8, count: u32| {
+                        let mut b = Bench::new(k);
+                        b.sheet[pair] = if number > 0 { kinds } else { 0 };
+                        b.set_number(from, to, number);
+                        b.set_count(count);
+                        assert_eq!(b.unfit(), None);
+                        b
+                    };
+                    let (one, two) = (bench(first, kinds1, 7), bench(second, kinds2, u32::MAX));
+                    let (answer, joined) = one.joined(&two);
+                    let mut seen = vec![0; k * k];
+                    seen[pair] = if first > 0 { first } else { second };
+                    assert_eq!(joined.seen, bytes_of(&seen));
+                    let kinds = one.sheet[pair] | two.sheet[pair];
+                    assert_eq!(joined.sheet[pair], kinds);
+                    let circle = from == to && kinds & ER != 0;
+                    assert_eq!(answer, u8::from(circle));
+                    if circle {
+                        // Shown with the joined number, though the kind shown be the other's.
+                        let number = seen[pair];
+                        assert_eq!(joined.slip[..8], entries(&[(from as u8, ER, 0, number)]));
+                    }
+                }
+            }
+        }
+    }
+    // Each pair for itself: one's where it has one, two's elsewhere.
+    let one = made(3, &[(0, SR, 1), (1, SR, 1), (2, SR, 0)], &[]);
+    let mut two = made(3, &[(0, SR, 0), (0, SR, 1), (1, SR, 2), (2, SR, 0)], &[]);
+    for pair in 0..9 {
+        if two.sheet[pair] != 0 {
+            two.set_number(pair / 3, pair % 3, 100 + pair as u32);
+        }
+    }
+    let number = |b: &Bench, pair: usize| b.number(pair / 3, pair % 3);
+    let joined = assert_joins(&one, &two, None);
+    for pair in 0..9 {
+        let from_first = [1, 4, 6].contains(&pair);
+        assert_eq!(
+            number(&joined, pair),
+            number(if from_first { &one } else { &two }, pair)
+        );
+    }
+    let joined = assert_joins(&two, &one, None);
+    for pair in 0..9 {
+        let from_second = pair == 4;
+        assert_eq!(
+            number(&joined, pair),
+            number(if from_second { &one } else { &two }, pair)
+        );
+    }
+}
+
+#[test]
+fn the_kind_of_one_and_the_number_of_the_other() {
+    // 1 SR 2 by the first bench's record 3, 1 EN 2 by the second's record 2; 2 SN 1 by
+    // the second's only. The circle needs the second's kind, and shows the first's number.
+    let one = Bench::new(3).clean(&[event(0, HARD_ON), take(0, 1, R), take(0, 2, R)]);
+    let two = Bench::new(3).clean(&[
+        take(0, 1, E),
+        take(0, 2, NR),
+        release(0, 2, NR),
+        release(0, 1, E),
+    ]);
+    let mut three = Bench::new(3).clean(&[event(0, HARD_ON); 8]);
+    three = three.clean(&[take(0, 2, NR), take(0, 1, E)]);
+    assert_eq!((one.number(1, 2), two.number(1, 2)), (3, 2));
+    assert_eq!(three.number(2, 1), 10);
+    // 1 SR 2 SN 1 alone isn't strong at 2.
+    assert_joins(&one, &three, None);
+    for (first, second, number) in [(&one, &two, 3), (&two, &one, 2)] {
+        let both = first.joined_clean(second);
+        assert_eq!((both.sheet[5], both.number(1, 2)), (SR | EN, number));
+        for (answer, joined) in [both.joined(&three), three.joined(&both)] {
+            assert_eq!(answer, 1);
+            assert_eq!(
+                joined.slip[..15],
+                entries(&[(1, EN, 0, number), (2, SN, 0, 10)])
+            );
+        }
+    }
+}
+
+#[test]
+fn kinds_of_both_in_one_pair() {
+    let mut faults = 0;
+    for (k, pair) in [(1usize, 0usize), (2, 0), (2, 1), (2, 2), (2, 3), (5, 13)] {
+        for first in 0..16u8 {
+            for second in 0..16u8 {
+                let [one, two] =
+                    [first, second].map(|kinds| made(k, &[(pair / k, kinds, pair % k)], &[]));
+                let itself = pair / k == pair % k;
+                let least = [ER, EN, SN]
+                    .into_iter()
+                    .find(|kind| (first | second) & kind != 0);
+                let circle = least
+                    .filter(|_| itself)
+                    .map(|kind| vec![((pair / k) as u8, kind, 0)]);
+                let joined = assert_joins(&one, &two, circle.as_deref());
+                assert_eq!(joined.sheet[pair], first | second);
+                faults += u64::from(circle.is_some());
+            }
+        }
+    }
+    assert!(faults > 500);
+}
+
+#[test]
+fn marks_of_both() {
+    // All marks of one class on both benches.
+    let marks = fit_marks();
+    for (k, class) in [(1usize, 0usize), (2, 1), (64, 0), (64, 63)] {
+        let step = if k == 64 { 7 } else { 1 };
+        for first in marks.iter().step_by(step) {
+            for second in marks.iter().step_by(step) {
+                let [one, two] = [first, second].map(|&bits| made(k, &[], &[(class, bits)]));
+                let (answer, joined) = one.joined(&two);
+                let mut wanted = vec![0; 64];
+                wanted[class] = first | second;
+                assert_eq!(joined.desk[34..98], wanted[..]);
+                assert_eq!(answer, CLASHES[usize::from(first | second)]);
+                assert_eq!(answer, u8::from(clash(first | second)));
+                assert_eq!(joined.desk[1], answer);
+                if answer == 1 {
+                    let wanted = &one_arrow(class, 0, first | second)[..1];
+                    assert_eq!(
+                        joined.slip,
+                        joined.shown_over(&[0xA5; 449][..1 + 7 * k], wanted)
+                    );
+                } else {
+                    assert_eq!(joined.slip, lent_for(k).slip);
+                }
+            }
+        }
+    }
+    // Each class of 64, each bit from either bench.
+    for class in 0..64 {
+        for (one, two) in [
+            (12, 8),
+            (4, 0),
+            (0, 204),
+            (2, 16),
+            (32, 1),
+            (51, 51),
+            (204, 204),
+        ] {
+            let [one, two] = [one, two].map(|bits| made(64, &[], &[(class, bits)]));
+            let (_, joined) = one.joined(&two);
+            for other in 0..64 {
+                assert_eq!(
+                    joined.desk[34 + other],
+                    one.desk[34 + other] | two.desk[34 + other]
+                );
+            }
+        }
+    }
+}
+
+#[test]
+fn marks_that_only_together_make_an_arrow() {
+    // Unsafe on one bench and safe on the other, by logs: P10 and P12 in two halves.
+    let unsafe_ = Bench::new(8).clean(&[take(0, 3, E), release(0, 3, E)]);
+    let hard = Bench::new(8).clean(&[event(0, ENTER_HARD), take(0, 3, E)]);
+    let soft = Bench::new(8).clean(&[event(5, ENTER_SOFT), take(5, 3, R), release(5, 3, R)]);
+    assert_joins(&unsafe_, &hard, Some(&[(3, EN, 1)]));
+    assert_joins(&unsafe_, &soft, Some(&[(3, ER, 2)]));
+    // (In state 4 the take is hard-unsafe as well.)
+    assert_joins(&hard, &soft, Some(&[(3, SN, 1)]));
+    let off = Bench::new(8).clean(&[event(5, ENTER_SOFT), event(5, HARD_OFF), take(5, 3, R)]);
+    assert_joins(&hard, &off, None);
+    // Both reads by recursion: clean, P10's second case.
+    let reads = Bench::new(8).clean(&[take(0, 3, R)]);
+    let hard_reads = Bench::new(8).clean(&[event(0, ENTER_HARD), take(0, 3, R)]);
+    assert_joins(&reads, &hard_reads, None);
+    // A try isn't safe, so there is no arrow.
+    let hard_try = Bench::new(8).clean(&[event(0, ENTER_HARD), take(0, 3, TE)]);
+    assert_joins(&unsafe_, &hard_try, None);
+    // Levels that differ make none.
+    for (unsafe_, safe, arrow) in [
+        (4, 1, true),
+        (4, 2, true),
+        (8, 1, true),
+        (8, 2, false),
+        (4, 16, false),
+        (4, 32, false),
+        (12, 48, false),
+        (68, 16, true),
+        (136, 16, true),
+        (136, 32, false),
+        (136, 34, false),
+        (204, 32, true),
+    ] {
+        let (one, two) = (made(2, &[], &[(1, unsafe_)]), made(2, &[], &[(1, safe)]));
+        let circle = listed(&made(2, &[], &[(1, unsafe_ | safe)]));
+        assert_eq!(circle.is_some(), arrow);
+        assert_joins(&one, &two, circle.as_deref());
+    }
+    // An interrupt arrow from the one's class to the other's, and a hold arrow back, from
+    // either bench: 0 EN 1 by hard, 1 EN 0 by hold.
+    for back_on_first in [false, true] {
+        let back: &[(usize, u8, usize)] = &[(1, EN, 0)];
+        let (one, two) = if back_on_first {
+            (back, &[][..])
+        } else {
+            (&[][..], back)
+        };
+        let (one, two) = (made(2, one, &[(0, 4)]), made(2, two, &[(1, 1)]));
+        assert_eq!((one.least_circle(), two.least_circle()), (None, None));
+        let joined = assert_joins(&one, &two, Some(&[(0, EN, 1), (1, EN, 0)]));
+        let number = joined.number(1, 0);
+        assert_eq!(
+            joined.slip[..15],
+            entries(&[(0, EN, 1, 0), (1, EN, 0, number)])
+        );
+    }
+    // P11 in two halves.
+    let one = Bench::new(8).clean(&[event(0, ENTER_HARD), take(0, 4, E)]);
+    let two = Bench::new(8).clean(&[
+        event(0, HARD_OFF),
+        take(0, 4, E),
+        take(0, 5, E),
+        release(0, 5, E),
+        release(0, 4, E),
+        event(0, HARD_ON),
+        take(0, 5, E),
+    ]);
+    let joined = assert_joins(&one, &two, Some(&[(4, EN, 0), (5, EN, 1)]));
+    assert_eq!(joined.slip[..15], entries(&[(4, EN, 0, 3), (5, EN, 1, 0)]));
+}
+
+#[test]
+fn circles_only_the_join_has() {
+    // Neither bench has one; joined, the shortest and then least, by hand.
+    type Holds = &'static [(usize, u8, usize)];
+    let cases: [(Holds, Holds, Option<&[Triple]>); 10] = [
+        (
+            &[(0, EN, 1)],
+            &[(1, EN, 0)],
+            Some(&[(0, EN, 0), (1, EN, 0)]),
+        ),
+        (&[(0, ER, 1)], &[(1, SN, 0)], None),
+        (
+            &[(0, ER, 1)],
+            &[(1, EN, 0)],
+            Some(&[(0, ER, 0), (1, EN, 0)]),
+        ),
+        (
+            &[(0, SR, 1)],
+            &[(1, EN, 0)],
+            Some(&[(0, SR, 0), (1, EN, 0)]),
+        ),
+        (&[(0, SR, 1)], &[(1, ER, 0)], None),
+        // Every other arrow of a ring.
+        (
+            &[(0, EN, 1), (2, EN, 3)],
+            &[(1, EN, 2), (3, EN, 0)],
+            Some(&[(0, EN, 0), (1, EN, 0), (2, EN, 0), (3, EN, 0)]),
+        ),
+        // P9: 0 ER 1, 1 SN 2 and 0 EN 2 on the one, 2 EN 0 on the other.
+        (
+            &[(0, ER, 1), (1, SN, 2), (0, EN, 2)],
+            &[(2, EN, 0)],
+            Some(&[(0, EN, 0), (2, EN, 0)]),
+        ),
+        // Of two circles the shorter, though its class is higher.
+        (
+            &[(0, EN, 1), (1, EN, 2), (3, EN, 4)],
+            &[(2, EN, 0), (4, EN, 3)],
+            Some(&[(3, EN, 0), (4, EN, 0)]),
+        ),
+        // Of two of one length the least: by class, and by kind.
+        (
+            &[(3, ER, 4), (1, SN, 2)],
+            &[(4, EN, 3), (2, EN, 1)],
+            Some(&[(1, SN, 0), (2, EN, 0)]),
+        ),
+        (
+            &[(1, SN, 2)],
+            &[(1, EN, 2), (2, EN, 1)],
+            Some(&[(1, EN, 0), (2, EN, 0)]),
+        ),
+    ];
+    for (i, (one, two, circle)) in cases.into_iter().enumerate() {
+        let (one, two) = (made(5, one, &[]), made(5, two, &[]));
+        assert_eq!(one.least_circle(), None, "{i}");
+        assert_eq!(two.least_circle().is_some(), i == 9, "{i}");
+        assert_joins(&one, &two, circle);
+    }
+    // The logs of document 01 that fault on two cores, each core on a bench of its own.
+    for (one, two, kinds) in [
+        (
+            [take(0, 1, E), take(0, 2, E)],
+            [take(1, 2, E), take(1, 1, E)],
+            Some((EN, EN)),
+        ),
+        (
+            [take(0, 1, R), take(0, 2, E)],
+            [take(1, 2, R), take(1, 1, E)],
+            Some((SN, SN)),
+        ),
+        (
+            [take(0, 1, E), take(0, 2, R)],
+            [take(1, 2, R), take(1, 1, E)],
+            None,
+        ),
+        (
+            [take(0, 1, E), take(0, 2, R)],
+            [take(1, 2, E), take(1, 1, R)],
+            Some((ER, ER)),
+        ),
+    ] {
+        let (one, two) = (Bench::new(8).clean(&one), Bench::new(8).clean(&two));
+        let circle = kinds.map(|(first, second)| [(1, first, 0), (2, second, 0)]);
+        assert_joins(&one, &two, circle.as_ref().map(|c| &c[..]));
+    }
+}
+
+#[test]
+fn a_circle_of_its_own() {
+    // "A fit desk that didn't come from opening is judged as it stands": open, with a circle.
+    for (holds, marks, circle) in [
+        (&[(1, EN, 1)][..], &[][..], &[(1, EN, 0)][..]),
+        (&[(1, SR, 2), (2, EN, 1)], &[], &[(1, SR, 0), (2, EN, 0)]),
+        (&[], &[(2, 4 + 2)], &[(2, ER, 1)]),
+        (&[(2, EN, 1)], &[(1, 8), (2, 1)], &[(1, SN, 1), (2, EN, 0)]),
+    ] {
+        let own = made(3, holds, marks);
+        assert_eq!((own.desk[1], own.unfit()), (0, None));
+        let others = [
+            Bench::new(3),
+            Bench::new(3).clean(&[event(0, HARD_OFF), take(0, 0, E), take(0, 1, E)]),
+            own.clone(),
+        ];
+        for other in others {
+            assert_joins(&own, &other, Some(circle));
+        }
+        // A shorter or lesser one of the other's is shown instead.
+        let lesser = made(3, &[(0, ER, 0)], &[]);
+        assert_joins(&own, &lesser, Some(&[(0, ER, 0)]));
+    }
+}
+
+#[test]
+fn nothing_of_cores_holds_and_count_is_left() {
+    // Every state on some core, every frame that may hold full, all origins, any count.
+    let full = |k: usize, shift: usize, count: u32| {
+        let mut b = Bench::new(k);
+        for core in 0..8 {
+            b.desk[STATES + core] = ((core + shift) % 9) as u8;
+        }
+        for at in 0..24 {
+            let state = b.desk[STATES + at / 3];
+            if [true, [4, 5, 8].contains(&state), state > 5][at % 3] {
+                b.desk[10 + at] = 48;
+                for place in 0..48 {
+                    b.desk[98 + 48 * at + place] = (place % k + 64 * (place % 3)) as u8;
+                }
+                b.desk[1250 + 6 * at..1256 + 6 * at].fill(255);
+            }
+        }
+        b.desk[34] = 12;
+        b.set_count(count);
+        assert_eq!(b.unfit(), None);
+        b
+    };
+    for k in [1, 2, 7, 64] {
+        for shift in 0..9 {
+            for count in [0, 1, 0x0403_0201, u32::MAX] {
+                let one = full(k, shift, count);
+                for two in [full(k, shift + 4, count), Bench::new(k), full(k, 0, 9)] {
+                    for (one, two) in [(&one, &two), (&two, &one)] {
+                        let joined = one.joined_clean(two);
+                        assert_eq!(joined.desk[..2], [k as u8, 0]);
+                        assert!(joined.desk[2..34].iter().all(|&byte| byte == 0));
+                        assert_eq!(joined.desk[34], 12);
+                        assert!(joined.desk[35..].iter().all(|&byte| byte == 0));
+                    }
+                    // Also where a fault comes.
+                    let mut circle = two.clone();
+                    circle.sheet[0] = EN;
+                    circle.set_number(0, 0, 5);
+                    for (one, two) in [(&one, &circle), (&circle, &one)] {
+                        let (answer, joined) = one.joined(two);
+                        assert_eq!(answer, 1);
+                        assert_eq!(joined.desk[..2], [k as u8, 1]);
+                        assert!(joined.desk[2..34].iter().all(|&byte| byte == 0));
+                        assert_eq!(joined.desk[34], 12);
+                        assert!(joined.desk[35..].iter().all(|&byte| byte == 0));
+                    }
+                }
+            }
+        }
+    }
+    // Holds draw nothing by being joined: 1E held on the one, 2E on the other.
+    let one = Bench::new(3).clean(&[take(0, 1, E)]);
+    let two = Bench::new(3).clean(&[take(0, 2, E)]);
+    let joined = assert_joins(&one, &two, None);
+    assert!(joined.sheet.iter().all(|&kinds| kinds == 0));
+    // And set no marks: the states of the one and the holds of the other are gone.
+    assert_eq!(joined.desk[34..37], [0, 68, 68]);
+}
+
+#[test]
+fn rings_of_two_benches() {
+    // One class: an arrow to itself, from either bench, or from the marks of both.
+    let empty = Bench::new(1);
+    for kind in [ER, EN, SN] {
+        let b = made(1, &[(0, kind, 0)], &[]);
+        assert_joins(&b, &empty, Some(&[(0, kind, 0)]));
+    }
+    assert_joins(&made(1, &[(0, SR, 0)], &[]), &empty, None);
+    assert_joins(&empty, &empty, None);
+    let (one, two) = (made(1, &[], &[(0, 8)]), made(1, &[], &[(0, 1)]));
+    let joined = assert_joins(&one, &two, Some(&[(0, SN, 1)]));
+    assert_eq!(joined.slip, [1, 0, SN, 1, 0, 0, 0, 0]);
+    // A ring through all classes, its arrows on two benches in turn: the slip is full.
+    for k in 2..=64usize {
+        let mut benches = [Bench::new(k), Bench::new(k)];
+        for c in 0..k {
+            let b = &mut benches[c % 2];
+            b.sheet[c * k + (c + 1) % k] = EN;
+            b.set_number(c, (c + 1) % k, 0x0403_0200 + c as u32);
+        }
+        let [one, two] = benches;
+        assert_eq!((one.least_circle(), two.least_circle()), (None, None));
+        let wanted: Vec<(u8, u8, u8, u32)> = (0..k)
+            .map(|c| (c as u8, EN, 0, 0x0403_0200 + c as u32))
+            .collect();
+        for (one, two) in [(&one, &two), (&two, &one)] {
+            let mut into = lent_for(k);
+            into.slip.push(0xA5);
+            assert_eq!(one.join(two, &mut into), 1);
+            assert_eq!(into.slip, [entries(&wanted), vec![0xA5]].concat());
+        }
+        // One arrow less, from either: clean.
+        for which in 0..2 {
+            let mut both = [one.clone(), two.clone()];
+            both[which].sheet[which * k + (which + 1) % k] = 0;
+            both[which].set_number(which, (which + 1) % k, 0);
+            both[0].joined_clean(&both[1]);
+            both[1].joined_clean(&both[0]);
+        }
+    }
+}
+
+#[test]
+fn with_an_empty_bench() {
+    // The bench's own drawing, numbers too, in both orders; a bench joined with itself alike.
+    let mut dice = Dice(0xE307_1BE9_C4A0_0001);
+    let mut faults = 0;
+    for round in 0..400 {
+        let k = if round % 20 == 0 {
+            64
+        } else {
+            1 + dice.under(6)
+        };
+        let mut b = Bench::new(k as usize);
+        for _ in 0..dice.under(60) {
+            let r = random_record(&mut dice, k, &[R, R, R, NR, TE, E]);
+            let mut next = b.clone();
+            // A record that would close it is left out, so that the bench stays open.
+            if next.step(&r) == 0 {
+                b = next;
+            }
+        }
+        if round % 4 == 0 {
+            // One more circle of its own.
+            let c = dice.under(k) as usize;
+            b.sheet[c * k as usize + c] = EN;
+            b.set_number(c, c, 77);
+            faults += 1;
+        }
+        let empty = Bench::new(k as usize);
+        let mut wanted = b.clone();
+        wanted.desk[2..34].fill(0);
+        wanted.desk[98..].fill(0);
+        let circle = by_choosing(&b);
+        assert_eq!(circle.is_some(), round % 4 == 0);
+        wanted.desk[1] = u8::from(circle.is_some());
+        wanted.slip = b.shown_or_not(&lent_for(k as usize).slip, &circle);
+        for (one, two) in [(&b, &empty), (&empty, &b), (&b, &b)] {
+            assert_eq!(one.joined(two), (wanted.desk[1], wanted.clone()));
+        }
+        let fresh = empty.joined_clean(&empty);
+        assert_eq!(
+            (&fresh.desk, &fresh.sheet, &fresh.seen),
+            (&empty.desk, &empty.sheet, &empty.seen)
+        );
+    }
+    assert_eq!(faults, 100);
+}
+
+/// A fit, open bench of any drawing, numbers, states, holds, origins and count.
+fn any_bench(dice: &mut Dice, k: usize) -> Bench {
+    let mut b = if dice.under(8) == 0 {
+        let places = 1 + dice.under(k as u64) as usize;
+        drawing_of_places(dice, k, places, true)
+    } else {
+        Bench::new(k)
+    };
+    let many = [1, k as u64, (k * k) as u64 / 4][dice.under(3) as usize];
+    for _ in 0..many {
+        let pair = dice.under((k * k) as u64) as usize;
+        let mut kinds = [SR, SR, ER, SN, EN, SR | SN, 15][dice.under(7) as usize];
+        // Mostly upwards, so that circles aren't everywhere.
+        if pair / k >= pair % k && dice.under(8) > 0 {
+            kinds = if pair / k == pair % k { SR } else { 0 };
+        }
+        b.sheet[pair] = kinds;
+        let number = match dice.under(4) {
+            0 => dice.under(5) as u32,
+            1 => (dice.under(256) as u32) << (8 * dice.under(4)),
+            _ => dice.next() as u32,
+        };
+        b.set_number(pair / k, pair % k, number);
+    }
+    b.settle();
+    for _ in 0..[0, 0, 0, 1, 2, 3][dice.under(6) as usize] {
+        let class = dice.under(k as u64) as usize;
+        let marks = fit_marks();
+        let bits = marks[dice.under(144) as usize]
+            & [0xCC, 0x33, 0x44, 0x22, 0xFF][dice.under(5) as usize];
+        b.desk[34 + class] |= if bits & 0x40 != 0 { bits | 4 } else { bits };
+    }
+    for class in 0..k {
+        let bits = &mut b.desk[34 + class];
+        *bits |= (*bits & 0xC0) >> 4;
+    }
+    for at in 0..24 {
+        if at % 3 == 0 {
+            b.desk[2 + at / 3] = dice.under(9) as u8;
+        }
+        let state = b.desk[2 + at / 3];
+        let may_hold = [true, [4, 5, 8].contains(&state), state > 5][at % 3];
+        if may_hold && dice.under(3) == 0 {
+            let depth = dice.under(49) as usize;
+            b.desk[10 + at] = depth as u8;
+            for place in 0..depth {
+                let hold = dice.under(k as u64) + 64 * dice.under(3);
+                b.desk[98 + 48 * at + place] = hold as u8;
+                b.desk[1250 + 6 * at + place / 8] |= (dice.under(2) as u8) << (place % 8);
+            }
+        }
+    }
+    b.set_count([0, 1, u32::MAX, dice.next() as u32][dice.under(4) as usize]);
+    assert_eq!(b.unfit(), None);
+    b
+}
+
+/// A drawing with long circles, its pairs and marks dealt to two benches.
+fn dealt(dice: &mut Dice, k: usize, wild: bool) -> [Bench; 2] {
+    let places = 1 + dice.under(k as u64) as usize;
+    let whole = drawing_of_places(dice, k, places, wild);
+    let mut halves = [whole.clone(), whole];
+    for at in 0..k * k {
+        let b = &mut halves[dice.under(2) as usize];
+        b.sheet[at] = 0;
+        b.set_number(at / k, at % k, 0);
+    }
+    for class in 0..k {
+        halves[dice.under(2) as usize].desk[34 + class] = 0;
+    }
+    halves
+}
+
+#[test]
+fn any_benches_joined_plainly() {
+    // Any two benches, sometimes spoilt, closed, of another K or with buffers too short:
+    // answer and all bytes, by a second way.
+    let mut dice = Dice(0x70F0_BE4C_4E50_0001);
+    let mut met = [0u64; 14];
+    let (mut only_joined, mut lengths) = (0, [0u64; 7]);
+    for round in 0..16_000u64 {
+        let k = 1 + dice.under(6) as usize;
+        let other_k = if dice.under(8) == 0 {
+            1 + dice.under(6) as usize
+        } else {
+            k
+        };
+        let mut benches = if round % 4 == 0 {
+            dealt(&mut dice, k, round % 8 == 0)
+        } else {
+            [any_bench(&mut dice, k), any_bench(&mut dice, other_k)]
+        };
+        let own: Vec<bool> = benches
+            .iter()
+            .map(|b| closed_strong_path(&b.desk, &b.sheet))
+            .collect();
+        if dice.under(8) == 0 {
+            benches[dice.under(2) as usize].desk[1] = 1;
+        }
+        if dice.under(8) == 0 {
+            let b = &mut benches[dice.under(2) as usize];
+            match dice.under(5) {
+                0 => {
+                    let at = dice.under(1398) as usize;
+                    b.desk[at] = b.desk[at].wrapping_add(1 + dice.under(200) as u8);
+                }
+                1 => b.sheet[0] ^= 1 << dice.under(5),
+                2 => b.seen[dice.under(4) as usize] ^= 1 << dice.under(8),
+                3 => b.sheet.truncate(dice.under(40) as usize),
+                _ => b.seen.truncate(dice.under(150) as usize),
+            }
+        }
+        let mut into = lent_for(k.max(other_k));
+        for buffer in [
+            &mut into.desk,
+            &mut into.sheet,
+            &mut into.seen,
+            &mut into.slip,
+        ] {
+            for byte in buffer.iter_mut() {
+                *byte = dice.next() as u8;
+            }
+            match dice.under(40) {
+                0 => buffer.truncate(buffer.len() - 1),
+                1 => buffer.truncate(dice.under(buffer.len() as u64) as usize),
+                2..=9 => buffer.extend((0..dice.under(9)).map(|i| i as u8)),
+                _ => {}
+            }
+        }
+        let [one, two] = &benches;
+        // The slip is no part of a bench to be joined.
+        let fit = |b: &Bench| {
+            let mut b = b.clone();
+            b.slip = vec![0; 449];
+            fit_by_hand(&b)
+        };
+        let before = into.clone();
+        let answer = one.join(two, &mut into);
+        met[usize::from(answer)] += 1;
+        let refusal = if !fit(one) || !fit(two) {
+            11
+        } else {
+            let larger = usize::from(one.desk[0].max(two.desk[0]));
+            let short = before.desk.len() < 1398
+                || before.sheet.len() < larger * larger
+                || before.seen.len() < 4 * larger * larger
+                || before.slip.len() < 1 + 7 * larger;
+            match (short, one.desk[0] == two.desk[0], one.desk[1] + two.desk[1]) {
+                (true, _, _) => 11,
+                (_, false, _) => 12,
+                (_, _, 1..) => 13,
+                _ => 0,
+            }
+        };
+        if refusal > 0 {
+            assert_eq!((answer, &into), (refusal, &before));
+            continue;
+        }
+        let (wanted, left) = plainly(one, two, &before, listed);
+        assert_eq!((answer, &into), (wanted, &left), "{round}");
+        assert_eq!(into.unfit(), None);
+        // By the books too.
+        let books = one.books().unwrap().joined(&two.books().unwrap()).unwrap();
+        assert_eq!(books.closed(), answer == 1);
+        assert_eq!(into.seen[..4 * k * k], bytes_of(books.numbers()));
+        assert_eq!(books.accepted(), 0);
+        if answer == 1 {
+            assert!(into.true_circle(&into.slip));
+            only_joined += u64::from(!own[0] && !own[1]);
+            lengths[usize::from(into.slip[0])] += 1;
+        }
+        // "Apart from first-seen numbers and the slip, joining in either order gives the
+        // same.": the slip but for its numbers, the second sheet where one has none.
+        let mut other = before.clone();
+        assert_eq!(two.join(one, &mut other), answer);
+        assert_eq!((&other.desk, &other.sheet), (&into.desk, &into.sheet));
+        for at in 0..into.slip.len() {
+            let in_circle = answer == 1 && at < 1 + 7 * usize::from(into.slip[0]);
+            if !(in_circle && at > 0 && (at - 1) % 7 > 2) {
+                assert_eq!(other.slip[at], into.slip[at]);
+            }
+        }
+        for pair in 0..k * k {
+            let at = 4 * pair..4 * pair + 4;
+            let both = one.sheet[pair] != 0 && two.sheet[pair] != 0;
+            if both {
+                assert_eq!(into.seen[at.clone()], one.seen[at.clone()]);
+                assert_eq!(other.seen[at.clone()], two.seen[at]);
+            } else {
+                assert_eq!(into.seen[at.clone()], other.seen[at]);
+            }
+        }
+    }
+    for answer in [0, 1, 11, 12, 13] {
+        assert!(met[answer] > 400, "{met:?}");
+    }
+    assert!(only_joined > 600, "{only_joined}");
+    assert!(lengths[1..].iter().all(|&many| many > 15), "{lengths:?}");
+}
+
+#[test]
+fn large_benches_joined_plainly() {
+    let mut dice = Dice(0x1A26_E701_4ED0_0001);
+    let mut met = [0u64; 2];
+    for round in 0..250u64 {
+        let k = if round % 2 == 0 {
+            64
+        } else {
+            9 + dice.under(55) as usize
+        };
+        let (one, two) = if round % 3 == 0 {
+            let [one, two] = dealt(&mut dice, k, round % 2 == 0);
+            (one, two)
+        } else {
+            (any_bench(&mut dice, k), any_bench(&mut dice, k))
+        };
+        for (one, two) in [(&one, &two), (&two, &one)] {
+            let into = lent_for(k);
+            let wanted = plainly(one, two, &into, by_choosing);
+            assert_eq!(one.joined(two), wanted);
+            met[usize::from(wanted.0)] += 1;
+        }
+    }
+    assert!(met[0] > 20 && met[1] > 100, "{met:?}");
+}
+
+#[test]
+fn three_benches() {
+    // A joined bench that is open may be joined again, in any order to the same drawing.
+    let mut dice = Dice(0x7EEE_BE4C_4E50_0003);
+    let (mut clean, mut fault) = (0, 0);
+    for _ in 0..1_500 {
+        let k = 2 + dice.under(4) as usize;
+        let b = [(); 3].map(|_| any_bench(&mut dice, k));
+        let mut last: Option<(u8, Bench)> = None;
+        for [x, y, z] in [
+            [0, 1, 2],
+            [0, 2, 1],
+            [1, 0, 2],
+            [1, 2, 0],
+            [2, 0, 1],
+            [2, 1, 0],
+        ] {
+            let (answer, both) = b[x].joined(&b[y]);
+            let (answer, all) = if answer == 1 {
+                both.join_refused(&b[z], &lent_for(k), 13);
+                (1, None)
+            } else {
+                let (answer, all) = both.joined(&b[z]);
+                // First, then second, then third; and joined to the left or to the right.
+                if let (0, right) = b[y].joined(&b[z]) {
+                    assert_eq!(b[x].joined(&right), (answer, all.clone()));
+                }
+                (answer, Some(all))
+            };
+            let Some(all) = all else { continue };
+            if let Some((same, before)) = &last {
+                assert_eq!(
+                    (answer, &all.desk, &all.sheet),
+                    (*same, &before.desk, &before.sheet)
+                );
+            }
+            if answer == 0 {
+                clean += 1;
+            } else {
+                fault += 1;
+            }
+            last = Some((answer, all));
+        }
+    }
+    assert!(clean > 500 && fault > 500, "{clean}, {fault}");
+}
+
+#[test]
+fn steps_on_a_joined_desk() {
+    // Numbers from both benches, count 0: the first step goes on, its number is 1.
+    let one = Bench::new(4).clean(&[event(0, HARD_ON); 40]);
+    let one = one.clean(&[take(0, 1, E), take(0, 2, E)]);
+    let two = Bench::new(4).clean(&[event(0, HARD_ON); 70]);
+    let two = two.clean(&[take(0, 2, R), take(0, 3, R)]);
+    let mut b = one.joined_clean(&two);
+    assert_eq!((b.number(1, 2), b.number(2, 3), b.count()), (42, 72, 0));
+    assert_eq!(b.unfit(), None);
+    assert_eq!(b.ask(1), (0, 0b1100, 2));
+    // Cores are fresh: what was held isn't, and no handler is entered.
+    b.refused(&release(0, 1, E), 5);
+    b.refused(&release(0, 2, E), 5);
+    b.refused(&event(0, EXIT_HARD), 6);
+    b.refused(&take(0, 4, E), 4);
+    b.refused(&[], 3);
+    assert_eq!(b.step(&take(5, 1, E)), 0);
+    assert_eq!(b.count(), 1);
+    // Old pairs keep their numbers, whatever kind comes; new ones count from the joined desk.
+    assert_eq!(b.step(&take(5, 2, R)), 0);
+    assert_eq!((b.sheet[6], b.number(1, 2), b.count()), (EN | ER, 42, 2));
+    assert_eq!(b.step(&take(5, 0, E)), 0);
+    let numbers = |b: &Bench| {
+        [
+            b.number(1, 0),
+            b.number(2, 0),
+            b.number(1, 2),
+            b.number(2, 3),
+        ]
+    };
+    assert_eq!((numbers(&b), b.count()), ([3, 3, 42, 72], 3));
+    assert_eq!(b.ask(1), (0, 0b1101, 3));
+    // The fault shows an old number beside a new one: 2 SR 3 EN 2.
+    assert_eq!(b.step(&take(6, 3, NR)), 0);
+    let mut clean = b.clone();
+    assert_eq!(clean.step(&take(6, 2, R)), 0); // 3 SR 2, not strong at 3
+    assert_eq!((clean.number(3, 2), clean.count()), (5, 5));
+    b = b.clean(&[release(6, 3, NR), take(6, 3, E)]);
+    assert_eq!(b.step(&take(6, 2, E)), 1);
+    assert_eq!(b.slip[..15], entries(&[(2, SR, 0, 72), (3, EN, 0, 7)]));
+    assert_eq!((b.desk[1], b.count()), (1, 7));
+    b.refused(&take(6, 0, E), 10);
+    // The first record may be the one: 3E then 1E after two takes, or marks by one.
+    let marks = Bench::new(4).clean(&[event(0, ENTER_HARD), take(0, 3, E)]);
+    let mut b = one.joined_clean(&marks);
+    assert_eq!(b.step(&take(0, 3, E)), 1);
+    assert_eq!(
+        (b.slip[..8].to_vec(), b.count()),
+        (entries(&[(3, EN, 1, 0)]), 1)
+    );
+    // Nothing is held at first, so the lowest number that a joined desk gives is 2.
+    let b = one
+        .joined_clean(&two)
+        .clean(&[take(0, 0, E), take(0, 3, E)]);
+    assert_eq!((b.number(0, 3), b.count()), (2, 2));
+    assert_eq!((b.number(1, 2), b.number(2, 3)), (42, 72));
+    // By the feed too, opened and with any number of records before.
+    let joined = one.joined_clean(&two);
+    let records = [
+        take(3, 3, E),
+        event(3, HARD_OFF),
+        take(3, 2, E),
+        take(3, 0, E),
+    ];
+    let mut stepped = joined.clone();
+    assert_eq!([0, 1, 2].map(|i| stepped.step(&records[i])), [0, 0, 1]);
+    assert_eq!(
+        stepped.slip[..15],
+        entries(&[(2, SR, 0, 72), (3, EN, 0, 3)])
+    );
+    for cut in 0..24 {
+        let mut fed = Fed::lying(0, 1, 0, [0; 5], 41, joined.clone());
+        let bytes = records.concat();
+        fed.feed(&bytes[..cut]);
+        assert_eq!(fed.feed(&bytes[cut..]), (1, 44));
+        assert_eq!(fed.b, stepped);
+        fed.stands(1, 44);
+    }
+    // Opening makes it a fresh one.
+    let mut opened = stepped.clone();
+    assert_eq!(opened.open(4), 0);
+    assert_eq!((&opened.desk, &opened.sheet, &opened.seen), {
+        let fresh = &Bench::new(4);
+        (
+            &fresh.desk.clone(),
+            &fresh.sheet.clone(),
+            &fresh.seen.clone(),
+        )
+    });
+}
+
+#[test]
+fn books_of_a_joined_desk() {
+    // Two lists by the records alone, their books joined, and a third list: answers and
+    // numbers as on the joined desk.
+    let mut dice = Dice(0xB00C_50F7_0BE4_C4E5);
+    let (mut old, mut new, mut answers) = (0, 0, [0u64; 12]);
+    for round in 0..3_000u64 {
+        let k = if round % 25 == 0 {
+            50 + dice.under(15)
+        } else {
+            1 + dice.under(6)
+        };
+        let modes: &[u8] = [
+            &MODES[..],
+            &[R, R, R, NR, TRR],
+            &[R, R, R, R, R, E],
+            &[R, TRR],
+        ][round as usize % 4];
+        let mut sides = Vec::new();
+        for _ in 0..2 {
+            let mut b = Bench::new(k as usize);
+            let mut books = Books::open(k).unwrap();
+            for _ in 0..dice.under(40) {
+                let r = random_record(&mut dice, k, modes);
+                if b.clone().step(&r) == 1 && dice.under(4) > 0 {
+                    continue;
+                }
+                assert_eq!(books.enter(&r), b.step(&r) < 2);
+            }
+            assert_eq!(books.closed(), b.desk[1] == 1);
+            sides.push((b, books));
+        }
+        let [(one, books1), (two, books2)] = &sides[..] else {
+            unreachable!()
+        };
+        let (answer, mut b) = one.joined(two);
+        let mut lists = [
+            books1.joined(books2),
+            one.books().unwrap().joined(&two.books().unwrap()),
+        ];
+        if answer == 13 {
+            assert!(lists.iter().all(|books| books.is_none()));
+            assert!(one.desk[1] == 1 || two.desk[1] == 1);
+            answers[11] += 1;
+            continue;
+        }
+        for books in lists.iter_mut().flatten() {
+            assert_eq!(books.closed(), answer == 1);
+            assert_eq!(b.seen, bytes_of(books.numbers()));
+        }
+        let start = b.clone();
+        for place in 0..dice.under(50) {
+            let r = random_record(&mut dice, k, modes);
+            let said = b.step(&r);
+            answers[usize::from(said)] += 1;
+            if answer == 1 {
+                assert_eq!(said, 10);
+            }
+            for books in lists.iter_mut().flatten() {
+                assert_eq!(books.enter(&r), said < 2, "{round} {place}");
+                assert_eq!(books.accepted(), b.count());
+                assert_eq!(bytes_of(books.numbers()), b.seen);
+                assert_eq!(books.closed(), b.desk[1] == 1);
+            }
+            assert_eq!(b.unfit(), None);
+        }
+        assert!(lists.iter().all(|books| books.is_some()));
+        for pair in 0..(k * k) as usize {
+            let (from, to) = (pair / k as usize, pair % k as usize);
+            if start.sheet[pair] != 0 {
+                assert_eq!(b.number(from, to), start.number(from, to));
+                old += 1;
+            } else if b.sheet[pair] != 0 {
+                assert!((1..=b.count()).contains(&b.number(from, to)));
+                new += 1;
+            }
+        }
+    }
+    assert!(old > 5_000 && new > 3_000, "{old}, {new}");
+    for answer in [0, 1, 3, 5, 6, 7, 10, 11] {
+        assert!(answers[answer] > 50, "{answers:?}");
+    }
+    // Different K.
+    let [a, b] = [3, 4].map(|k| Books::open(k).unwrap());
+    assert!(a.joined(&b).is_none() && b.joined(&a).is_none());
+    assert!(a.joined(&a).is_some_and(|books| !books.closed()));
+}
+
+#[test]
+fn other_cores_records_from_a_joined_start() {
+    // Demand 3 in small: "when both its desks start as the same joined one; their drawings
+    // then start from its marks and sheet instead of from zero".
+    let mut dice = Dice(0xC0DE_1013_ED00_9BDF);
+    let (mut faults, mut from_start, mut later, mut before) = (0, 0, 0, 0);
+    for round in 0..4_000 {
+        let k = 1 + dice.under(6);
+        let sides = [(); 2].map(|_| {
+            let mut b = Bench::new(k as usize);
+            for _ in 0..dice.under(30) {
+                let mut next = b.clone();
+                if next.step(&random_record(&mut dice, k, &[E, NR, R, R, R, R, TE])) == 0 {
+                    b = next;
+                }
+            }
+            b
+        });
+        let (answer, joined) = sides[0].joined(&sides[1]);
+        from_start += u64::from(answer == 1);
+        let (mut short, mut long) = (joined.clone(), joined.clone());
+        // The drawing of the short list, from the joined marks and sheet.
+        let mut books = joined.books().unwrap();
+        for _ in 0..40 {
+            let mut r = random_record(&mut dice, k, &[E, NR, R, R, R, TE, TR, TRR]);
+            if read_record(&r).is_some() && dice.under(2) == 0 {
+                r[2] = 5;
+                let said = long.step(&r);
+                before += u64::from(said == 1);
+                continue;
+            }
+            if r[2] == 5 {
+                continue;
+            }
+            let closed = long.desk[1] == 1;
+            let (said, with_more) = (short.step(&r), long.step(&r));
+            assert_eq!(books.enter(&r), said < 2);
+            assert_eq!(books.closed(), short.desk[1] == 1);
+            match (answer, closed) {
+                (1, _) => assert_eq!((said, with_more), (10, 10)),
+                (_, true) => assert_eq!(with_more, 10),
+                _ => {
+                    assert!(
+                        said == with_more || (said == 0 && with_more == 1),
+                        "{round}"
+                    );
+                    faults += u64::from(said == 1);
+                    later += u64::from(said == 0 && with_more == 1);
+                }
+            }
+            assert!(short.desk[1] <= long.desk[1]);
+            // Kinds and marks of the short list are among the long one's, while both are open.
+            if long.desk[1] == 0 {
+                assert!((0..short.sheet.len()).all(|i| short.sheet[i] & !long.sheet[i] == 0));
+                assert!((34..98).all(|i| short.desk[i] & !long.desk[i] == 0));
+            }
+        }
+    }
+    assert!(
+        faults > 200 && from_start > 200 && later > 10 && before > 100,
+        "{faults}, {from_start}, {later}, {before}"
+    );
+}
+
+#[test]
+fn a_join_and_one_log_of_both() {
+    // Two lists of takes on cores of their own leave, joined, the drawing of the one list in
+    // which the second follows the first: fault or clean alike, marks and kinds.
+    let mut dice = Dice(0x04E1_0640_FB07_0001);
+    let mut met = [0u64; 2];
+    for _ in 0..2_000 {
+        let k = 1 + dice.under(6);
+        let mut lists = [vec![], vec![]];
+        let mut benches = [Bench::new(k as usize), Bench::new(k as usize)];
+        for side in 0..2 {
+            for _ in 0..dice.under(25) {
+                let mut r = random_record(&mut dice, k, &[E, NR, R, R, R, R, TE]);
+                r[2] = r[2] % 4 + 4 * side as u8;
+                let mut next = benches[side].clone();
+                if next.step(&r) == 0 {
+                    benches[side] = next;
+                    lists[side].push(r);
+                }
+            }
+        }
+        let (answer, joined) = benches[0].joined(&benches[1]);
+        met[usize::from(answer)] += 1;
+        let mut whole = Bench::new(k as usize);
+        let said: Vec<u8> = lists.concat().iter().map(|r| whole.step(r)).collect();
+        assert_eq!(said.contains(&1), answer == 1);
+        assert!(said.iter().all(|&a| a == 0) || answer == 1);
+        if answer == 0 {
+            assert_eq!(whole.sheet, joined.sheet);
+            assert_eq!(whole.desk[34..98], joined.desk[34..98]);
+        }
+    }
+    assert!(met[0] > 200 && met[1] > 200, "{met:?}");
+}
+
+// ------------------------------------------------------- the program of the joiner
+
+fn join_text(log1: &[u8], log2: &[u8]) -> String {
+    let mut out = Vec::new();
+    run_join(&mut &log1[..], &mut &log2[..], &mut out).unwrap();
+    String::from_utf8(out).unwrap()
+}
+
+/// What it should print of two logs, by what `run_log` prints of each and by the step.
+fn join_wanted(log1: &[u8], log2: &[u8]) -> String {
+    let texts = [program(log1), program(log2)];
+    let dirty: String = texts
+        .iter()
+        .zip(["log 1: ", "log 2: "])
+        .filter(|(text, _)| !text.starts_with("clean, "))
+        .map(|(text, name)| format!("{name}{text}"))
+        .collect();
+    if !dirty.is_empty() {
+        return dirty;
+    }
+    let benches = [log1, log2].map(|log| {
+        let mut b = Bench::new(log[3] as usize);
+        for r in log[4..].chunks(6) {
+            assert_eq!(b.step(r), 0);
+        }
+        b
+    });
+    if log1[3] != log2[3] {
+        return "refused 12\n".to_string();
+    }
+    let into = lent_for(log1[3] as usize);
+    match listed(&plainly(&benches[0], &benches[1], &into, listed).1) {
+        None => "clean\n".to_string(),
+        Some(circle) => format!("fault\n{}", printed(&circle)),
+    }
+}
+
+#[test]
+fn two_logs_joined() {
+    let p2 = p2_records();
+    let (first, second) = (log(3, &p2[..4]), log(3, &p2[4..]));
+    let fault = "fault\n1 EN 2 hold\n2 EN 1 hold\n";
+    assert_eq!(join_text(&first, &second), fault);
+    assert_eq!(join_text(&second, &first), fault);
+    assert_eq!(join_text(&first, &first), "clean\n");
+    assert_eq!(join_text(&second, &second), "clean\n");
+    // Headers alone, and empty logs.
+    assert_eq!(join_text(&log(3, &[]), &log(3, &[])), "clean\n");
+    assert_eq!(join_text(&log(3, &[]), &second), "clean\n");
+    assert_eq!(join_text(&log(1, &[]), &log(64, &[])), "refused 12\n");
+    assert_eq!(join_text(&[], &second), "log 1: refused 2 at record 0\n");
+    assert_eq!(join_text(&second, &[]), "log 2: refused 2 at record 0\n");
+    assert_eq!(
+        join_text(&[], &[]),
+        "log 1: refused 2 at record 0\nlog 2: refused 2 at record 0\n"
+    );
+    // Different K, whatever the records.
+    assert_eq!(join_text(&first, &log(4, &p2[4..])), "refused 12\n");
+    assert_eq!(join_text(&log(64, &p2[..4]), &second), "refused 12\n");
+    // A log with a fault of its own, in K = 3 or another.
+    let whole = log(3, &p2);
+    let at_6 = "fault at record 6\n1 EN 2 hold\n2 EN 1 hold\n";
+    assert_eq!(join_text(&whole, &first), format!("log 1: {at_6}"));
+    assert_eq!(join_text(&first, &whole), format!("log 2: {at_6}"));
+    assert_eq!(
+        join_text(&whole, &whole),
+        format!("log 1: {at_6}log 2: {at_6}")
+    );
+    assert_eq!(join_text(&whole, &log(4, &[])), format!("log 1: {at_6}"));
+    assert_eq!(join_text(&log(4, &[]), &whole), format!("log 2: {at_6}"));
+    // The one refused, the other with a fault: each its own line, log 1 first.
+    let refused = log(8, &[take(0, 1, E), take(0, 8, E), take(0, 1, E)]);
+    assert_eq!(
+        join_text(&refused, &whole),
+        format!("log 1: refused 4 at record 2\nlog 2: {at_6}")
+    );
+    assert_eq!(
+        join_text(&whole, &refused),
+        format!("log 1: {at_6}log 2: refused 4 at record 2\n")
+    );
+    // All sources, all kinds.
+    let safe = log(8, &[event(0, ENTER_HARD), take(0, 3, R)]);
+    let soft = log(
+        8,
+        &[event(0, ENTER_SOFT), event(0, HARD_OFF), take(0, 3, R)],
+    );
+    let unsafe_ = log(8, &[take(0, 3, TE)]);
+    assert_eq!(join_text(&safe, &unsafe_), "fault\n3 ER 3 hard\n");
+    assert_eq!(join_text(&unsafe_, &soft), "fault\n3 ER 3 soft\n");
+    assert_eq!(join_text(&safe, &soft), "clean\n");
+    let (one, two) = (
+        log(8, &[take(0, 0, R), take(0, 1, R)]),
+        log(8, &[take(7, 1, E), take(7, 0, NR)]),
+    );
+    assert_eq!(join_text(&one, &two), "fault\n0 SR 1 hold\n1 EN 0 hold\n");
+    let (one, two) = (
+        log(8, &[take(0, 0, R), take(0, 1, E)]),
+        log(8, &[take(7, 1, R), take(7, 0, E)]),
+    );
+    assert_eq!(join_text(&two, &one), "fault\n0 SN 1 hold\n1 SN 0 hold\n");
+}
+
+#[test]
+fn every_two_logs() {
+    // Clean, refused with each answer that a log can get, at any record, and with faults.
+    let full = vec![take(0, 0, R); 49];
+    let mut short = log(3, &p2_records()[..3]);
+    short.truncate(short.len() - 1);
+    let logs: Vec<Vec<u8>> = vec![
+        log(3, &[]),
+        log(3, &p2_records()[..4]),
+        log(3, &p2_records()[4..]),
+        log(4, &p2_records()[4..]),
+        log(64, &[take(0, 63, E), take(0, 62, E)]),
+        log(64, &[take(0, 62, E), take(0, 63, E)]),
+        vec![],
+        vec![0x4C, 0x48, 1],
+        vec![0x4C, 0x48, 2, 3],
+        log(0, &[]),
+        log(65, &[take(0, 0, E)]),
+        short,
+        [log(3, &[]), vec![0x4C]].concat(),
+        [log(3, &p2_records()), vec![0x4C]].concat(),
+        log(3, &[[0; 6], take(0, 3, E)]),
+        log(3, &[take(0, 0, E), take(0, 3, E)]),
+        log(3, &[take(0, 0, E), take(0, 0, TE), release(0, 0, E)]),
+        log(3, &[event(0, EXIT_HARD)]),
+        log(
+            3,
+            &[event(0, ENTER_HARD), take(0, 0, E), event(0, EXIT_HARD)],
+        ),
+        log(3, &full),
+        log(3, &p2_records()),
+        log(4, &p2_records()),
+        log(1, &[take(0, 0, E), take(0, 0, NR), [0; 6]]),
+        log(
+            2,
+            &[
+                take(0, 0, R),
+                release(0, 0, R),
+                event(0, ENTER_SOFT),
+                take(0, 0, E),
+            ],
+        ),
+        log(64, &[take(0, 63, E), event(0, ENTER_HARD), take(0, 63, R)]),
+    ];
+    let mut firsts = std::collections::BTreeSet::new();
+    let mut both = 0;
+    for log1 in &logs {
+        for log2 in &logs {
+            let text = join_text(log1, log2);
+            assert_eq!(text, join_wanted(log1, log2));
+            both += u64::from(text.contains("log 1: ") && text.contains("log 2: "));
+            firsts.insert(text.lines().next().unwrap().to_string());
+        }
+    }
+    assert_eq!(both, 19 * 19);
+    for line in [
+        "clean",
+        "fault",
+        "refused 12",
+        "log 1: refused 2 at record 0",
+        "log 1: refused 3 at record 1",
+        "log 1: refused 3 at record 3",
+        "log 1: refused 4 at record 2",
+        "log 1: refused 5 at record 3",
+        "log 1: refused 6 at record 1",
+        "log 1: refused 7 at record 3",
+        "log 1: refused 8 at record 49",
+        "log 1: fault at record 2",
+        "log 1: fault at record 3",
+        "log 1: fault at record 4",
+        "log 1: fault at record 6",
+        "log 2: refused 2 at record 0",
+        "log 2: refused 8 at record 49",
+        "log 2: fault at record 6",
+    ] {
+        assert!(firsts.contains(line), "{line}");
+    }
+}
+
+#[test]
+fn random_logs_joined() {
+    let mut dice = Dice(0x4A2D_0106_5101_4ED0);
+    let mut met = std::collections::BTreeMap::new();
+    for round in 0..3_000u64 {
+        let k = 1 + dice.under(5);
+        let logs = [(); 2].map(|_| {
+            let k = if dice.under(10) == 0 {
+                1 + dice.under(5)
+            } else {
+                k
+            };
+            let mut b = Bench::new(k as usize);
+            let mut records = vec![];
+            let spoilt = dice.under(6) == 0;
+            for _ in 0..dice.under(30) {
+                let r = random_record(&mut dice, k, &[E, NR, R, R, R, TE]);
+                let mut next = b.clone();
+                if next.step(&r) == 0 || spoilt {
+                    b = next;
+                    records.push(r);
+                }
+            }
+            let mut bytes = log(k as u8, &records);
+            if dice.under(20) == 0 {
+                bytes.truncate(dice.under(bytes.len() as u64) as usize);
+            }
+            bytes
+        });
+        let text = join_text(&logs[0], &logs[1]);
+        assert_eq!(text, join_wanted(&logs[0], &logs[1]), "{round}");
+        let word: String = text.chars().take_while(|c| c.is_alphabetic()).collect();
+        *met.entry(word).or_insert(0u64) += 1;
+        // Byte by byte, with interruptions.
+        let mut out = Vec::new();
+        run_join(
+            &mut Drip(&logs[0], false),
+            &mut Drip(&logs[1], true),
+            &mut out,
+        )
+        .unwrap();
+        assert_eq!(out, text.as_bytes());
+    }
+    for word in ["clean", "fault", "refused", "log"] {
+        assert!(met[word] > 100, "{met:?}");
+    }
+}
+
+/// A log of this many bytes: a header, a take, and then hard on and off over and over.
+fn long_log(k: u8, first: &[Rec], records: usize) -> Vec<u8> {
+    let rest = [event(1, HARD_OFF), event(1, HARD_ON)];
+    let rest = rest.iter().copied().cycle().take(records);
+    log(k, &[first.to_vec(), rest.collect()].concat())
+}
+
+#[test]
+fn logs_longer_than_any_buffer() {
+    let one = long_log(3, &p2_records()[..4], 30_000);
+    let two = long_log(3, &p2_records()[4..], 29_999);
+    let fault = "fault\n1 EN 2 hold\n2 EN 1 hold\n";
+    assert_eq!(join_text(&one, &two), fault);
+    assert_eq!(join_text(&two, &two), "clean\n");
+    // What comes last is judged too.
+    let late = |mut log: Vec<u8>, r: Rec| {
+        log.extend(r);
+        log
+    };
+    let refused = late(two.clone(), take(0, 3, E));
+    assert_eq!(
+        join_text(&one, &refused),
+        "log 2: refused 4 at record 30002\n"
+    );
+    let faulty = late(two.clone(), take(0, 2, E));
+    assert_eq!(
+        join_text(&faulty, &late(two.clone(), [0; 6])),
+        "log 2: refused 3 at record 30002\n"
+    );
+    let faulty = late(late(faulty, take(0, 0, E)), take(0, 2, E));
+    assert_eq!(
+        join_text(&faulty, &one),
+        "log 1: fault at record 30004\n2 EN 2 hold\n"
+    );
+    let cut = &one[..one.len() - 1];
+    assert_eq!(join_text(cut, &two), "log 1: refused 3 at record 30004\n");
+    // With more to come: read up to and with the first answer but 0, and no further.
+    for most in [1, 5, 6, 7, 4_096, usize::MAX] {
+        let much = |bytes: &'static [u8]| Hose {
+            bytes,
+            most,
+            limit: 100_000,
+            fails: None,
+            given: 0,
+        };
+        // The second header is refused with 3, as record 1; six bytes of it are read.
+        let (mut log1, mut log2) = (much(&[0x4C, 0x48, 1, 3]), much(&[0x4C, 0x48, 1]));
+        let mut out = Vec::new();
+        run_join(&mut log1, &mut log2, &mut out).unwrap();
+        assert_eq!(
+            String::from_utf8(out).unwrap(),
+            "log 1: refused 3 at record 1\nlog 2: refused 2 at record 0\n"
+        );
+        assert_eq!((log1.given, log2.given), (10, 4));
+    }
+}
+
+#[test]
+fn a_log_that_fails_is_no_answer() {
+    // An error of either input: no text, also not of a log that isn't clean. An error after
+    // the first answer but 0 isn't met.
+    let (good, bad) = (log(3, &p2_records()[..4]), log(3, &p2_records()));
+    for kind in [
+        ErrorKind::Other,
+        ErrorKind::UnexpectedEof,
+        ErrorKind::WouldBlock,
+    ] {
+        for (bytes, limits, stops) in [
+            (&good, vec![0, 1, 3, 4, 5, 10, 27, 28], usize::MAX),
+            (&bad, vec![0, 4, 28, 34, 39, 40], 40),
+        ] {
+            for other in [&good, &bad, &log(4, &[]), &vec![]] {
+                for limit in limits.iter().copied() {
+                    for first in [false, true] {
+                        let mut hose = Hose {
+                            bytes,
+                            most: 5,
+                            limit,
+                            fails: Some(kind),
+                            given: 0,
+                        };
+                        let mut out = Vec::new();
+                        let other = &mut &other[..];
+                        let result = if first {
+                            run_join(&mut hose, other, &mut out)
+                        } else {
+                            run_join(other, &mut hose, &mut out)
+                        };
+                        if limit < stops {
+                            assert_eq!(result.map_err(|e| e.kind()), Err(kind));
+                            assert_eq!(out, []);
+                        } else {
+                            assert!(result.is_ok() && !out.is_empty());
+                        }
+                    }
+                }
+            }
+        }
+    }
+    // An output error is one, and what is written is sent on.
+    for (log1, log2) in [
+        (&good, &log(3, &p2_records()[4..])),
+        (&good, &good),
+        (&bad, &bad),
+        (&good, &bad),
+        (&good, &log(4, &[])),
+    ] {
+        let text = join_text(log1, log2);
+        for short in [0, 1, 6] {
+            let mut room = vec![0; text.len() - short];
+            let result = run_join(&mut &log1[..], &mut &log2[..], &mut &mut room[..]);
+            assert_eq!(result.is_ok(), short == 0);
+            assert_eq!(room, text.as_bytes()[..room.len()]);
+        }
+        let mut out = std::io::BufWriter::new(Vec::new());
+        run_join(&mut &log1[..], &mut &log2[..], &mut out).unwrap();
+        assert_eq!(out.get_ref(), text.as_bytes());
+    }
+}
+
+#[test]
+fn the_arguments() {
+    let folder = std::env::temp_dir().join(format!("reference-join-{}", std::process::id()));
+    std::fs::create_dir_all(&folder).unwrap();
+    let path = |name: &str| folder.join(name).into_os_string();
+    let p2 = log(3, &p2_records());
+    for (name, bytes) in [
+        ("one", log(3, &p2_records()[..4])),
+        ("two", log(3, &p2_records()[4..])),
+        ("four", log(4, &[])),
+        ("empty", vec![]),
+        ("p2", p2.clone()),
+        ("long", long_log(3, &p2_records()[4..], 20_000)),
+    ] {
+        std::fs::write(path(name), bytes).unwrap();
+    }
+    let run = |arguments: &[OsString], input: &[u8]| {
+        let mut out = Vec::new();
+        let mut input = &input[..];
+        let result = run_arguments(arguments, &mut input, &mut out);
+        (
+            result
+                .map_err(|e| e.kind())
+                .map(|()| String::from_utf8(out.clone()).unwrap()),
+            out,
+            input.len(),
+        )
+    };
+    let joins = |names: &[&str]| {
+        let paths = names.iter().map(|name| path(name));
+        let arguments: Vec<OsString> = std::iter::once("join".into()).chain(paths).collect();
+        // Standard input isn't read.
+        let (result, out, rest) = run(&arguments, &p2);
+        assert_eq!(rest, p2.len());
+        if result.is_err() {
+            assert_eq!(out, []);
+        }
+        result
+    };
+    let fault = "fault\n1 EN 2 hold\n2 EN 1 hold\n";
+    let at_6 = "fault at record 6\n1 EN 2 hold\n2 EN 1 hold\n";
+    for (names, text) in [
+        (["one", "two"], fault.to_string()),
+        (["two", "one"], fault.to_string()),
+        (["one", "one"], "clean\n".to_string()),
+        (["one", "long"], fault.to_string()),
+        (["long", "two"], "clean\n".to_string()),
+        (["one", "four"], "refused 12\n".to_string()),
+        (
+            ["empty", "p2"],
+            format!("log 1: refused 2 at record 0\nlog 2: {at_6}"),
+        ),
+        (["p2", "one"], format!("log 1: {at_6}")),
+    ] {
+        assert_eq!(joins(&names), Ok(text), "{names:?}");
+    }
+    // No such file, and a folder; beside a log that isn't clean, too.
+    for (name, kind) in [
+        ("none", ErrorKind::NotFound),
+        (".", ErrorKind::IsADirectory),
+    ] {
+        for other in ["one", "p2", "empty"] {
+            assert_eq!(joins(&[name, other]), Err(kind));
+            assert_eq!(joins(&[other, name]), Err(kind));
+        }
+    }
+    // Two paths and no other number.
+    for names in [&[][..], &["one"], &["one", "two", "two"]] {
+        assert_eq!(joins(names), Err(ErrorKind::InvalidInput));
+    }
+    // The other uses are as they were: standard input, whatever comes after.
+    let piece = p2_records().concat();
+    for (arguments, input, text) in [
+        (&[][..], &p2, at_6),
+        (&["balance"], &piece, "1 1\n2 1\n"),
+        (&["balance", "join"], &piece, "1 1\n2 1\n"),
+        (&["Join", "a", "b"], &p2, at_6),
+        (&["joins", "a", "b"], &p2, at_6),
+        (&["", "join"], &p2, at_6),
+    ] {
+        let arguments: Vec<OsString> = arguments.iter().map(|word| word.into()).collect();
+        assert_eq!(run(&arguments, input).0, Ok(text.to_string()));
+    }
+    std::fs::remove_dir_all(&folder).unwrap();
 }
 
 // ----------------------------------------------------------------------- time

@@ -3,7 +3,7 @@ import random, re
 from pathlib import Path
 from rules import *
 
-BUFFER = int(re.search(r"const BUF_SIZE: usize = (\d+);", (Path(__file__).resolve().parents[2] / "crates/replay/src/main.rt").read_text(encoding="utf-8"))[1])  # the program's
+BUFFER = int(re.search(r"const BUF_SIZE: usize = (\d+);", (Path(__file__).resolve().parents[2] / "crates/files/src/lib.rt").read_text(encoding="utf-8"))[1])  # the programs'
 BOUNDARIES = [BUFFER, 2 * BUFFER, 3 * BUFFER]
 FEW, BUSY_CORES, FREE_CORES = 8, range(2, 8), (0, 1)
 
@@ -96,9 +96,10 @@ def long_log(number):
 
 
 def counted_log(number):
-    """A clean log of very many records, the second of which draws a dependency."""
+    """A clean log of very many records, the second of which draws a dependency; the last but one draws one of another pair, and the last meets its number."""
     drawn = record(0, ACQUIRE) + record(0, ACQUIRE, 1) + record(0, RELEASE, 1) + record(0, RELEASE)
-    return header(2) + drawn + (record(0, ACQUIRE) + record(0, RELEASE)) * (number // 2 - 2) + record(0, HARD_ON) * (number % 2)
+    between = (record(0, ACQUIRE) + record(0, RELEASE)) * ((number - 7) // 2) + record(0, HARD_ON) * ((number - 7) % 2)
+    return header(3) + drawn + between + record(0, ACQUIRE) + record(0, ACQUIRE, 2) + record(0, RELEASE, 2)
 
 
 def divided_logs():

@@ -110,8 +110,8 @@ class Machine:
             return (lock_class, kind, to) in self.hold_dependencies
         return (source, lock_class, kind[0]) in self.unsafe and (source, to, kind[1]) in self.safe
 
-    def reach(self, lock_class, letter="N"):
-        """The classes that a strong path from the class ends at, by its last letter, as words; as after an arrival by the letter (N: any)."""
+    def onward(self):
+        """The classes where the dependencies of a class and kind end, as words."""
         to = {}
         for c, kind, d in self.hold_dependencies:
             to[c, kind] = to.get((c, kind), 0) | 1 << d
@@ -119,18 +119,25 @@ class Machine:
             for other, d, second in self.safe:
                 if other == level:
                     to[c, first + second] = to.get((c, first + second), 0) | 1 << d
+        return to
+
+    def reach(self, lock_class, letter="N", to=None):
+        """The classes that a strong path from the class ends at, by its last letter, as words; as after an arrival by the letter (N: any). `to`: what
+        onward gives, for who asks more than once."""
+        to = self.onward() if to is None else to
         reached, todo = {"R": 0, "N": 0}, [(lock_class, letter)]
         while todo:
             c, arrival = todo.pop()
             for kind in ("ER", "EN", "SR", "SN")[:4 if arrival == "N" else 2]:
                 new = to.get((c, kind), 0) & ~reached[kind[1]]
                 reached[kind[1]] |= new
-                todo += [(d, kind[1]) for d in range(self.classes) if new >> d & 1]
+                todo += [(d, kind[1]) for d in members(new)]
         return reached
 
     def is_cyclic(self):
         """Whether there is a closed strong path."""
-        return any(self.reach(c, letter)[letter] >> c & 1 for c in range(self.classes) for letter in "RN")
+        to = self.onward()
+        return any(self.reach(c, letter, to)[letter] >> c & 1 for c in range(self.classes) for letter in "RN")
 
     def dependencies(self):
         """All dependencies by the class where they begin: (place of the kind, place of the source, class where it ends)."""
@@ -231,6 +238,10 @@ FAULT = re.compile(rb"fault at record " + NUMBER)
 ENTRY = re.compile(NUMBER + rb" (ER|EN|SR|SN) " + NUMBER + rb" (hold|hard|soft)")
 
 
+def is_header(data):
+    return len(data) >= HEADER and data[:HEADER - 1] == header(0)[:HEADER - 1] and 1 <= data[HEADER - 1] <= MAX_CLASSES
+
+
 def read_output(data, out, see=lambda machine, rec: None, see_tie=lambda what: None, see_refused=lambda machine, rec: None):
     """What an output says of a log: (word, number, cycle), the word clean, refused or fault, the number the refusal's. ValueError where it is not
     an output, or is untrue of the log by the rules (but for a fault that is not seen). Each record that is accepted is shown to `see` before, the one
@@ -239,7 +250,7 @@ def read_output(data, out, see=lambda machine, rec: None, see_tie=lambda what: N
     if lines.pop() != b"":
         raise ValueError("no line end at the end")
     first, rest = (lines or [b""])[0], lines[1:]
-    good = len(data) >= HEADER and data[:HEADER - 1] == header(0)[:HEADER - 1] and 1 <= data[HEADER - 1] <= MAX_CLASSES
+    good = is_header(data)
     machine, records = (Machine(data[3]), records_of(data)) if good else (None, [])
 
     def accepted(number):
@@ -283,3 +294,64 @@ def read_output(data, out, see=lambda machine, rec: None, see_tie=lambda what: N
             see_refused(machine, records[at - 1])
         return "refused", number, []
     raise ValueError("not an output")
+
+
+# ---- two logs
+
+def joined(one, two):
+    """Two benches of one number of classes in one: the dependencies and the marks of either, and fresh cores."""
+    both = Machine(one.classes)
+    for part in ("hold_dependencies", "safe", "unsafe"):
+        setattr(both, part, getattr(one, part) | getattr(two, part))
+    return both
+
+
+def bench_of(data):
+    """The machine that a clean log leaves. ValueError where the log is not clean by itself."""
+    if not is_header(data):
+        raise ValueError("its header is to be refused")
+    machine = Machine(data[HEADER - 1])
+    for i, rec in enumerate(records_of(data), 1):
+        if number := machine.refusal(rec):
+            raise ValueError(f"its record {i} is to be refused with {number}")
+        machine.accept(rec)
+    if machine.is_cyclic():
+        raise ValueError("it has a fault")
+    return machine
+
+
+OWN = re.compile(rb"^log ([12]): ", re.M)
+
+
+def own_texts(out):
+    """What an output of a join says of the logs by themselves: by their numbers, in their order."""
+    before, *parts = OWN.split(out)
+    numbers = [int(number) for number in parts[::2]]
+    if before or numbers not in ([1], [2], [1, 2]):
+        raise ValueError("not what two logs say by themselves")
+    return dict(zip(numbers, parts[1::2]))
+
+
+def cycle_text(cycle):
+    return "".join("%d %s %d %s\n" % entry for entry in cycle).encode()
+
+
+def read_join(pair, out, bench=bench_of):
+    """What an output says of the join of two logs: (word, cycle, {}), or of the logs by themselves: ("own", [], by number (word, number, cycle) as
+    read_output gives it). ValueError where it is not an output, or is untrue by the rules; but that a log's own fault is not due sooner is the
+    second program's to say. bench: what gives the machine of a clean log."""
+    if out.startswith(b"log "):
+        texts = own_texts(out)
+        own = {number: read_output(pair[number - 1], text) for number, text in texts.items()}
+        for number, data in enumerate(pair, 1):
+            if number not in own:
+                bench(data)
+            elif own[number][0] == "clean":
+                raise ValueError(f"log {number} is clean, and that is not said")
+        return "own", [], own
+    one, two = map(bench, pair)
+    cycle = joined(one, two).least_cycle() if one.classes == two.classes else None
+    due = b"refused 12\n" if one.classes != two.classes else b"fault\n" + cycle_text(cycle) if cycle else b"clean\n"
+    if out != due:
+        raise ValueError(f"the join says {due!r}")
+    return due.split()[0].decode(), cycle or [], {}

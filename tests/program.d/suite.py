@@ -1,4 +1,4 @@
-"""What the tests of the two programs share: an examiner's first methods, the workers, the planted wrong programs, the command line."""
+"""What the tests of the programs share: an examiner's first methods, the workers, the planted wrong programs, the command line."""
 import argparse, functools, multiprocessing, subprocess, sys, tempfile, time
 from collections import Counter, defaultdict
 from pathlib import Path
@@ -16,7 +16,10 @@ class Examiner:
 
     def __init__(self, program, shim):
         self.program, self.runner, self.met = program, Runner(shim), Counter()
-        self.second = functools.lru_cache(1000)(lambda data: self.runner.on_file((SECOND, *self.words), data)[0])
+        self.second = functools.lru_cache(1000)(self.ask_second)
+
+    def ask_second(self, data):
+        return self.runner.on_file((SECOND, *self.words), data)[0]
 
     def same(self, run, wanted, how):
         self.met["runs"] += 1

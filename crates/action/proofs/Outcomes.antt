@@ -155,7 +155,7 @@ module _ (desk sheet seen bytes : List ℕ) (w : WellFormed bytes) (few : classe
               (by-number s o v enc (λ m. FrameBytes desk′ m hs) (P .frame (current (s .cores i)) F)))
               (D .drawn (current (s .cores i)) F (small s o v enc) (s .graph .locks) (enc .in-sheet))
               (M .numbered (current (s .cores i)) F (small s o v enc) (s .journal) (sym (accepted-is s o v enc))
-              (λ f t. let a = v .journal .at-most f t in let b = v .journal .limit in omega arith) (enc .in-seen))
+              (v .journal .at-most) (enc .in-seen))
               (keeps-past (frame-inside s o v enc) keeps) (D .keeps) (M .keeps);
         }
 

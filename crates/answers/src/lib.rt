@@ -1,4 +1,5 @@
-// The numbers of the answers, once for the code. Opening gives OK or BAD_OPENING, the question OK, UNFIT or NO_CLASS, the step all but BAD_OPENING.
+// The numbers of the answers, once for the code. Opening gives OK or BAD_OPENING, the question OK, UNFIT or NO_CLASS, the step OK to UNFIT but BAD_OPENING,
+// the joiner OK, FAULT or UNFIT to BENCH_CLOSED.
 
 pub const OK: u8 = 0;
 
@@ -23,5 +24,9 @@ pub const COUNT_FULL: u8 = 9;
 pub const CLOSED: u8 = 10;
 
 pub const UNFIT: u8 = 11;
+
+pub const OTHER_CLASSES: u8 = 12;
+
+pub const BENCH_CLOSED: u8 = 13;
 
 pub const BAD_PIECE: u8 = 14;

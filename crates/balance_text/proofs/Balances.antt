@@ -17,10 +17,10 @@ use Rattle.balance.specs.Code.{Room}
 use Rattle.balance.proofs.Adding.{passes, answered-0, given}
 use Rattle.balance.proofs.Counting.{bits}
 use Rattle.balance.proofs.Walking.{room-of}
-use Rattle.log.specs.Text.{digits, lineEnd, Appended}
+use Rattle.log.specs.Text.{refusedLine, digits, lineEnd, Appended}
 use Rattle.log.proofs.Digits.{places-of-byte, places-of-word}
 use Rattle.log.proofs.Writing.{appended-both, as-text}
-use Rattle.balance_text.specs.Text.{signedText, space, balanceLine, shown, linesBelow, refusedLine, pieceText, signedRoom, lineRoom, LinePut}
+use Rattle.balance_text.specs.Text.{signedText, space, balanceLine, shown, linesBelow, pieceText, signedRoom, lineRoom, LinePut}
 
 -- ---- A line.
 

@@ -5,7 +5,7 @@ use Prim.Native.Nat.{ℕ, zero, suc, _+_, _*_, _≤_}
 use lib.IntN.{ℤ, pos, negsuc, natAbs}
 use Rattle.rules.specs.Limits.{maxClasses}
 use Rattle.rules.specs.Log.{recordsOf}
-use Rattle.log.specs.Text.{digits, refusedWord, lineEnd, Appended}
+use Rattle.log.specs.Text.{digits, lineEnd, refusedLine, Appended}
 use Rattle.balance.specs.Piece.{badPiece, isRefused, balance}
 
 -- A minus where the number is below zero.
@@ -32,9 +32,6 @@ shown c (negsuc n) = balanceLine c (negsuc n)
 unfoldable pub linesBelow : (n : ℕ) → (ℕ → ℤ) → List ℕ
 linesBelow zero b = []
 linesBelow (suc n) b = linesBelow n b ++ shown n (b n)
-
-unfoldable pub refusedLine : (answer : ℕ) → List ℕ
-refusedLine answer = (refusedWord ++ digits answer) ++ lineEnd
 
 -- The whole text for a piece: what the program writes.
 abbrev pub pieceText : (piece : List ℕ) → List ℕ

@@ -2,6 +2,7 @@
 use answers::OK;
 use layout::MAX_CLASSES;
 use log::put_number;
+use log::put_refusal;
 use log::put_word;
 use log::wide;
 ghost use mathlib.Core.Path.{_≡_};
@@ -11,7 +12,7 @@ ghost use lib.ListN.{length, getD};
 ghost use Rattle.rules.specs.Limits.{maxClasses};
 ghost use Rattle.log.specs.Text.{Appended};
 ghost use Rattle.balance.specs.Code.{Room};
-ghost use Rattle.balance_text.specs.Text.{signedText, linesBelow, refusedLine, pieceText, signedRoom, lineRoom, textRoom, LinePut};
+ghost use Rattle.balance_text.specs.Text.{signedText, linesBelow, pieceText, signedRoom, lineRoom, textRoom, LinePut};
 
 // Room for the longest text: a line for each class.
 pub const TEXT_SIZE: usize = 32 * MAX_CLASSES;
@@ -69,16 +70,6 @@ fn put_balances(out: &mut [u8], balances: &[i32; MAX_CLASSES]) -> usize
     end
 }
 
-// "refused 14"
-fn put_refused(out: &mut [u8], answer: u8) -> usize
-    requires { ⌜ lineRoom ≤ length (now out) ⌝ }
-    ensures { λ r. ⌜ Appended (now (out .entry)) 0 (refusedLine answer) (now (out .exit)) r ⌝ }
-{
-    let a = put_word(out, 0, b"refused ");
-    let b = put_number(out, a, wide(answer));
-    put_word(out, b, b"\n")
-}
-
 // The text of a piece: its balances, or that it is refused.
 pub fn put_text(out: &mut [u8], piece: &[u8]) -> usize
     requires { ⌜ textRoom ≤ length (now out) ⌝ }
@@ -87,7 +78,7 @@ pub fn put_text(out: &mut [u8], piece: &[u8]) -> usize
     let mut balances = [0i32; MAX_CLASSES];
     let answer = balance::balance_of(piece, &mut balances);
     if answer != OK {
-        return put_refused(out, answer);
+        return put_refusal(out, answer);
     }
     put_balances(out, &balances)
 }

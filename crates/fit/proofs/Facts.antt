@@ -12,7 +12,7 @@ use borrow.Author.Tests.{ltb-true, leb-true, eqb-true, lt-ltb, le-ltb, le-leb, e
 use Rattle.rules.specs.Limits.{coreCount, maxClasses, maxDepth, heldModes}
 use Rattle.rules.specs.Context.{hardOverSoft, soft, hard, mayHoldSoft, mayHoldHard}
 use Rattle.rules.proofs.Booleans.{or-cases, or-left, or-right, and-cases, and-both}
-use Rattle.layout.specs.Layout.{frameCount, placeCount, deskSize, sheetSize, seenSize, frameNumber, classesOf, closedOf, stateOf, depthOf, markOf, heldOf, originBit, acceptedOf, pairNumber}
+use Rattle.layout.specs.Layout.{frameCount, placeCount, deskSize, sheetSize, seenSize, frameNumber, classesOf, closedOf, stateOf, depthOf, markOf, heldOf, originBit, pairNumber}
 use Rattle.layout.specs.Fit.{allBelow, classesFit, coreFits, heldFits, frameFits, originFits, markFits, kindsFit, graphFits, numberFits, numbersFit, fits}
 use Rattle.layout.proofs.AllBelow.{all-at, all-of}
 
@@ -181,7 +181,6 @@ module _ (desk sheet : List ℕ) where
 -- Of the second sheet.
 pub record NumberFacts (desk sheet seen : List ℕ) : Type 0 where
   pub long : seenSize (classesOf desk) ≤ length seen
-  pub at-most : (j : ℕ) → j < sheetSize (classesOf desk) → pairNumber seen j ≤ acceptedOf desk
   pub numbered : (j : ℕ) → j < sheetSize (classesOf desk) → eqb (pairNumber seen j) 0 ≡ eqb (getD sheet j 0) 0
 
 beq-same : (a b : Bool) → Bool·beq a b ≡ true → a ≡ b
@@ -203,17 +202,11 @@ module _ (desk sheet seen : List ℕ) where
   unfolding fits numbersFit numberFits
   number-facts e =
       let a = and-cases (leb (seenSize (classesOf desk)) (length seen)) _ (and-cases (graphFits desk sheet) _ e .1) in
-      let at = all-at (sheetSize (classesOf desk)) (numberFits (acceptedOf desk) sheet seen) (a .1) in
-      record {
-        long = leb-true _ _ (a .0);
-        at-most = λ j l. leb-true _ _ (and-cases (leb (pairNumber seen j) (acceptedOf desk)) _ (at j l) .0);
-        numbered = λ j l. beq-same _ _ (and-cases (leb (pairNumber seen j) (acceptedOf desk)) _ (at j l) .1);
-      }
+      record { long = leb-true _ _ (a .0); numbered = λ j l. beq-same _ _ (all-at (sheetSize (classesOf desk)) (numberFits sheet seen) (a .1) j l) }
 
   pub fits-of : Facts desk sheet → NumberFacts desk sheet seen → fits desk sheet seen ≡ true
   unfolding fits numbersFit numberFits
   fits-of f n =
       and-both (graph-fits desk sheet f)
       (and-both (le-leb _ _ (n .long))
-      (all-of (sheetSize (classesOf desk)) (numberFits (acceptedOf desk) sheet seen)
-      (λ j l. and-both (le-leb _ _ (n .at-most j l)) (rw (n .numbered j l) (same-beq (eqb (getD sheet j 0) 0))))))
+      (all-of (sheetSize (classesOf desk)) (numberFits sheet seen) (λ j l. rw (n .numbered j l) (same-beq (eqb (getD sheet j 0) 0)))))

@@ -219,8 +219,9 @@ module _ (desk sheet : List ℕ) (f : Facts desk sheet) where
       let a = and-cases (ltb from K) _ (and-cases (ltb from K && ltb to K) _ e .0) in
       (ltb-true _ _ (a .0), ltb-true _ _ (a .1))
 
-pub fit-valid : (desk sheet seen : List ℕ) → fits desk sheet seen ≡ true → AreBytes deskSize desk → Valid (classesOf desk) (view desk sheet seen)
-fit-valid desk sheet seen e bytes =
+pub fit-valid : (desk sheet seen : List ℕ) → fits desk sheet seen ≡ true → AreBytes deskSize desk → AreBytes (seenSize (classesOf desk)) seen
+    → Valid (classesOf desk) (view desk sheet seen)
+fit-valid desk sheet seen e bytes numbers =
     let f = facts desk sheet seen e in
     record {
       cores = cores-valid desk sheet f;
@@ -231,7 +232,7 @@ fit-valid desk sheet seen e bytes =
         locks-in-range = locks-in-range desk sheet f;
       };
       journal = fit-journal desk sheet seen (number-facts desk sheet seen e) (value-small desk numberSize acceptedAt (λ j l. bytes (acceptedAt + j) (omega arith)))
-          (λ from to l h. kinds-view desk sheet f from to l h);
+          numbers (λ from to l h. kinds-view desk sheet f from to l h);
     }
 
 -- ---- Buffers that encode a valid state are fit.

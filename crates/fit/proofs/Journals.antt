@@ -8,6 +8,7 @@ use lib.Dec.{ltb, eqb}
 use lib.ListN.{getD}
 use borrow.Author.Tests.{ltb-true, eqb-true, lt-ltb}
 use Rattle.words.specs.Bits.{flag}
+use Rattle.rules.specs.Limits.{maxAccepted}
 use Rattle.rules.specs.Graph.{Kind, Dependencies}
 use Rattle.rules.specs.KindNames.{ER, EN, SR, SN, someKind}
 use Rattle.rules.specs.Run.{Journal}
@@ -16,7 +17,7 @@ use Rattle.layout.specs.Layout.{acceptedAt, numberSize, seenSize, classesOf, ki
 use Rattle.layout.specs.Encoding.{kindByte, NumberBytes, SheetBytes, SeenBytes}
 use Rattle.layout.specs.Decoding.{viewLocks, viewJournal}
 use Rattle.layout.proofs.Buffers.{cell-inside}
-use Rattle.layout.proofs.Numbers.{bytes-of, number-is}
+use Rattle.layout.proofs.Numbers.{bytes-of, value-small, number-is}
 use Rattle.validity.specs.Valid.{ValidJournal}
 use Rattle.fit.proofs.Places.{by-pair}
 use Rattle.fit.proofs.Facts.{NumberFacts}
@@ -67,18 +68,22 @@ module _ (desk sheet seen : List ℕ) (n : NumberFacts desk sheet seen) where
             (bytes-of seen numberSize (numberSize * (f * K + t)) (λ j m. bytes (numberSize * (f * K + t) + j) (omega arith)));
       }
 
-  pub fit-journal : acceptedOf desk < 256 ^ numberSize
+  pub fit-journal : acceptedOf desk < 256 ^ numberSize → AreBytes (seenSize K) seen
       → ((from to : ℕ) → from < K → to < K → kindsOf sheet K from to ≡ kindByte (viewLocks K sheet) from to)
       → ValidJournal (viewLocks K sheet) (viewJournal desk seen)
-  fit-journal small kinds =
+  fit-journal small bytes kinds =
       record {
         limit = omega arith;
         at-most = λ f t. most f t (inside K f t) refl;
         numbered = λ f t. pairs f t (inside K f t) refl;
       }
     where
-      most : (f t : ℕ) (b : Bool) → inside K f t ≡ b → cond b (numberOf seen K f t) 0 ≤ acceptedOf desk
-      most f t true h = let l = both-less K f t h in n .at-most (f * K + t) (cell-inside K f t (l .0) (l .1))
+      most : (f t : ℕ) (b : Bool) → inside K f t ≡ b → cond b (numberOf seen K f t) 0 ≤ maxAccepted
+      most f t true h =
+          let l = both-less K f t h in
+          let c = cell-inside K f t (l .0) (l .1) in
+          let v = value-small seen numberSize (numberSize * (f * K + t)) (λ j m. bytes (numberSize * (f * K + t) + j) (omega arith)) in
+          omega arith
       most f t false h = omega arith
 
       pairs : (f t : ℕ) (b : Bool) → inside K f t ≡ b → eqb (cond (inside K f t) (numberOf seen K f t) 0) 0 ≡ not (someKind (viewLocks K sheet f t))
@@ -97,7 +102,7 @@ module _ (desk seen : List ℕ) (locks : Dependencies) (j : Journal) (v : ValidJ
     (numbers : SeenBytes (classesOf desk) (j .seen) seen) where
   pair-is : (f t : ℕ) → f < classesOf desk → t < classesOf desk → numberOf seen (classesOf desk) f t ≡ j .seen f t
   pair-is f t l h =
-      number-is seen (j .seen f t) (numberSize * (f * classesOf desk + t)) (let a = v .at-most f t in let b = v .limit in omega arith) (numbers .numbers f t l h)
+      number-is seen (j .seen f t) (numberSize * (f * classesOf desk + t)) (v .at-most f t) (numbers .numbers f t l h)
 
   accepted-is : acceptedOf desk ≡ j .accepted
   accepted-is = number-is desk (j .accepted) acceptedAt (v .limit) count
@@ -133,7 +138,6 @@ module _ (desk seen : List ℕ) (locks : Dependencies) (j : Journal) (v : ValidJ
   encoded-numbers sheet some kinds =
       record {
         long = numbers .long;
-        at-most = by-pair (classesOf desk) some (λ i. pairNumber seen i ≤ acceptedOf desk) (λ f t l h. rw (pair-is f t l h, accepted-is) (v .at-most f t));
         numbered = by-pair (classesOf desk) some (λ i. eqb (pairNumber seen i) 0 ≡ eqb (getD sheet i 0) 0)
             (λ f t l h.
             ap (λ (x : ℕ). eqb x 0) (pair-is f t l h)

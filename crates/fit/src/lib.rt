@@ -3,7 +3,6 @@ use desk_fit::cores_fit;
 use desk_fit::frames_fit;
 use desk_fit::marks_fit;
 use desk_fit::origins_fit;
-use layout::ACCEPTED_AT;
 use layout::CLASSES_AT;
 use layout::CLOSED_AT;
 use layout::DESK_SIZE;
@@ -71,17 +70,16 @@ fn graph_fits(desk: &[u8], sheet: &[u8]) -> bool
     kinds_fit(sheet, size)
 }
 
-// Each pair of the second sheet has a number exactly where the sheet has kinds, and none above the count. The loop has no branch, so that the
-// compiler makes vector instructions of it.
-fn numbers_fit(sheet: &[u8], seen: &[u8], size: usize, accepted: u32) -> bool
+// Each pair of the second sheet has a number exactly where the sheet has kinds. The loop has no branch, so that the compiler makes vector instructions of it.
+fn numbers_fit(sheet: &[u8], seen: &[u8], size: usize) -> bool
     requires { ⌜ (size ≤ length (now sheet)) × (numberSize * size ≤ length (now seen)) × (size ≤ sheetSize maxClasses) ⌝ }
-    ensures { λ r. ⌜ r ≡ allBelow size (numberFits accepted (now (sheet .entry)) (now (seen .entry))) ⌝ }
+    ensures { λ r. ⌜ r ≡ allBelow size (numberFits (now (sheet .entry)) (now (seen .entry))) ⌝ }
 {
     let mut bad = false;
     let mut j: usize = 0;
     while j < size {
         let number = number_at(seen, NUMBER_SIZE * j);
-        bad = bad | (accepted < number) | ((number == 0) ^ (sheet[j] == 0));
+        bad = bad | ((number == 0) ^ (sheet[j] == 0));
         j += 1;
     }
     !bad
@@ -98,5 +96,5 @@ pub fn fits(desk: &[u8], sheet: &[u8], seen: &[u8]) -> bool
     if seen.len() < NUMBER_SIZE * size {
         return false;
     }
-    numbers_fit(sheet, seen, size, number_at(desk, ACCEPTED_AT))
+    numbers_fit(sheet, seen, size)
 }

@@ -13,9 +13,10 @@ use Rattle.rules.specs.Graph.{Dependencies, kindBit, Graph, sourceNumber}
 use Rattle.rules.specs.Decision.{tabulate}
 use Rattle.rules.specs.Cycle.{Entry, entryBytes, entryAt, following}
 use Rattle.rules.specs.LeastCycle.{LeastCycle}
-use Rattle.rules.specs.Run.{Journal, State}
+use Rattle.rules.specs.Verdict.{number}
+use Rattle.rules.specs.Run.{Journal, State, Result}
 use Rattle.layout.specs.Fit.{fits}
-use Rattle.layout.specs.Layout.{framesPerCore, frameNumber, numberSize, deskSize, seenSize, slipSize, entriesAt, entrySize, classesOf, closedOf, stateOf, depthOf, markOf, heldOf, originOf, kindsOf, acceptedOf, numberOf, countOf, AreBytes, KeepsPast}
+use Rattle.layout.specs.Layout.{framesPerCore, frameNumber, numberSize, deskSize, sheetSize, seenSize, slipSize, entriesAt, entrySize, classesOf, closedOf, stateOf, depthOf, markOf, heldOf, originOf, kindsOf, acceptedOf, numberOf, countOf, AreBytes, KeepsPast}
 use Rattle.layout.specs.Number.{bytesOf}
 
 -- "each class + 64 x mode", and the origin, "1 for a try"
@@ -87,3 +88,15 @@ pub record Reported (K : ℕ) (g : Graph) (numbers : ℕ → ℕ → ℕ) (slip 
   pub least : LeastCycle K g entries
   pub bytes : SlipBytes numbers entries slip′
   pub keeps : KeepsPast (slipSize (length entries)) slip slip′
+
+-- A result of the rules, carried out in the lent buffers: the number is the rules', desk and sheets stand for the state that they give, and no byte past
+-- the sizes is touched. A refusal changes nothing; the slip is written with a fault only.
+pub record CarriedOut (K : ℕ) (o : Result) (desk sheet seen slip : List ℕ) (answer : ℕ) (desk′ sheet′ seen′ slip′ : List ℕ) : Type 0 where
+  pub number-is : answer ≡ number (o .answer)
+  pub stands : StandFor K (o .state) desk′ sheet′ seen′
+  pub keeps-desk : KeepsPast deskSize desk desk′
+  pub keeps-sheet : KeepsPast (sheetSize K) sheet sheet′
+  pub keeps-seen : KeepsPast (seenSize K) seen seen′
+  pub refused : 1 < answer → (desk′ ≡ desk) × (sheet′ ≡ sheet) × (seen′ ≡ seen)
+  pub unreported : (answer ≡ 1 → ⊥) → slip′ ≡ slip
+  pub reported : answer ≡ 1 → Reported K (o .state .graph) (o .state .journal .seen) slip slip′

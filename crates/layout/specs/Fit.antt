@@ -8,7 +8,7 @@ use Rattle.rules.specs.Limits.{coreCount, maxClasses, maxDepth, heldModes}
 use Rattle.rules.specs.Context.{hardOverSoft, soft, hard, mayHoldSoft, mayHoldHard}
 use Rattle.rules.specs.HeldLocks.{First, E, S}
 use Rattle.rules.specs.Marks.{Level, hardIrq, softIrq, unsafe, markBit}
-use Rattle.layout.specs.Layout.{frameCount, placeCount, deskSize, sheetSize, seenSize, slipSize, frameNumber, classesOf, closedOf, stateOf, depthOf, markOf, heldOf, originBit, acceptedOf, pairNumber}
+use Rattle.layout.specs.Layout.{frameCount, placeCount, deskSize, sheetSize, seenSize, slipSize, frameNumber, classesOf, closedOf, stateOf, depthOf, markOf, heldOf, originBit, pairNumber}
 
 -- The test holds of every number below n.
 unfoldable pub allBelow : ℕ → (ℕ → Bool) → Bool
@@ -66,15 +66,15 @@ graphFits desk sheet =
     && (allBelow maxClasses (markFits (classesOf desk) desk)
     && allBelow (sheetSize (classesOf desk)) (kindsFit sheet))))))))
 
--- "a pair with kinds but number 0, or the reverse, or a number above the count, is unfit"
-unfoldable pub numberFits : (accepted : ℕ) (sheet seen : List ℕ) → ℕ → Bool
-numberFits accepted sheet seen j = leb (pairNumber seen j) accepted && Bool·beq (eqb (pairNumber seen j) 0) (eqb (getD sheet j 0) 0)
+-- "a pair with kinds but number 0, or the reverse" (02, i: "The fit test no longer ties first-seen numbers to the record count.")
+unfoldable pub numberFits : (sheet seen : List ℕ) → ℕ → Bool
+numberFits sheet seen j = Bool·beq (eqb (pairNumber seen j) 0) (eqb (getD sheet j 0) 0)
 
 -- The second sheet: long enough, and each of its pairs
 unfoldable pub numbersFit : (desk sheet seen : List ℕ) → Bool
 numbersFit desk sheet seen =
     leb (seenSize (classesOf desk)) (length seen)
-    && allBelow (sheetSize (classesOf desk)) (numberFits (acceptedOf desk) sheet seen)
+    && allBelow (sheetSize (classesOf desk)) (numberFits sheet seen)
 
 -- Desk and both sheets, as the question takes them.
 unfoldable pub fits : (desk sheet seen : List ℕ) → Bool

@@ -48,6 +48,10 @@ lineEnd = 10 ∷ []
 unfoldable pub refusedText : (answer at : ℕ) → List ℕ
 refusedText answer at = (((refusedWord ++ digits answer) ++ atRecordWord) ++ digits at) ++ lineEnd
 
+-- "refused A", of what has no record: a piece, a join
+unfoldable pub refusedLine : (answer : ℕ) → List ℕ
+refusedLine answer = (refusedWord ++ digits answer) ++ lineEnd
+
 -- "fault at record I"
 abbrev pub faultWord : List ℕ
 faultWord = 102 ∷ 97 ∷ 117 ∷ 108 ∷ 116 ∷ 32 ∷ 97 ∷ 116 ∷ 32 ∷ 114 ∷ 101 ∷ 99 ∷ 111 ∷ 114 ∷ 100 ∷ 32 ∷ []

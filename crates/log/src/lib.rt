@@ -12,7 +12,7 @@ ghost use Rattle.rules.specs.Limits.{maxClasses};
 ghost use Rattle.layout.specs.Layout.{slipSize, entriesAt, entrySize, countOf};
 ghost use Rattle.rules.specs.Ranks.{kindOfByte, sourceOfByte};
 ghost use Rattle.layout.specs.Slip.{entriesOf, nextPlace};
-ghost use Rattle.log.specs.Text.{digits, kindText, sourceText, cycleText, cleanText, refusedText, faultText, lineSize, entryLineSize, cycleSize, Appended, EntryPut, Showable, textOf};
+ghost use Rattle.log.specs.Text.{digits, kindText, sourceText, cycleText, cleanText, refusedText, refusedLine, faultText, lineSize, entryLineSize, cycleSize, Appended, EntryPut, Showable, textOf};
 
 // Room for the longest text: a line, and a line for each entry of a cycle.
 pub const TEXT_SIZE: usize = 64 + 16 * MAX_CLASSES;
@@ -58,34 +58,44 @@ pub fn put_number(out: &mut [u8], at: usize, n: u64) -> usize
 }
 
 // "clean, N records"
-fn put_clean(out: &mut [u8], records: u64) -> usize
-    requires { ⌜ lineSize ≤ length (now out) ⌝ }
-    ensures { λ r. ⌜ Appended (now (out .entry)) 0 (cleanText records) (now (out .exit)) r ⌝ }
+fn put_clean(out: &mut [u8], at: usize, records: u64) -> usize
+    requires { ⌜ at + lineSize ≤ length (now out) ⌝ }
+    ensures { λ r. ⌜ Appended (now (out .entry)) at (cleanText records) (now (out .exit)) r ⌝ }
 {
-    let a = put_word(out, 0, b"clean, ");
+    let a = put_word(out, at, b"clean, ");
     let b = put_number(out, a, records);
     put_word(out, b, b" records\n")
 }
 
 // "refused A at record I"
-fn put_refused(out: &mut [u8], answer: u8, at: u64) -> usize
-    requires { ⌜ lineSize ≤ length (now out) ⌝ }
-    ensures { λ r. ⌜ Appended (now (out .entry)) 0 (refusedText answer at) (now (out .exit)) r ⌝ }
+fn put_refused(out: &mut [u8], at: usize, answer: u8, number: u64) -> usize
+    requires { ⌜ at + lineSize ≤ length (now out) ⌝ }
+    ensures { λ r. ⌜ Appended (now (out .entry)) at (refusedText answer number) (now (out .exit)) r ⌝ }
 {
-    let a = put_word(out, 0, b"refused ");
+    let a = put_word(out, at, b"refused ");
     let b = put_number(out, a, wide(answer));
     let c = put_word(out, b, b" at record ");
-    let d = put_number(out, c, at);
+    let d = put_number(out, c, number);
     put_word(out, d, b"\n")
 }
 
-// "fault at record I"
-fn put_fault(out: &mut [u8], at: u64) -> usize
-    requires { ⌜ lineSize ≤ length (now out) ⌝ }
-    ensures { λ r. ⌜ Appended (now (out .entry)) 0 (faultText at) (now (out .exit)) r ⌝ }
+// "refused A"
+pub fn put_refusal(out: &mut [u8], answer: u8) -> usize
+    requires { ⌜ 32 ≤ length (now out) ⌝ }
+    ensures { λ r. ⌜ Appended (now (out .entry)) 0 (refusedLine answer) (now (out .exit)) r ⌝ }
 {
-    let a = put_word(out, 0, b"fault at record ");
-    let b = put_number(out, a, at);
+    let word = put_word(out, 0, b"refused ");
+    let end = put_number(out, word, wide(answer));
+    put_word(out, end, b"\n")
+}
+
+// "fault at record I"
+fn put_fault(out: &mut [u8], at: usize, number: u64) -> usize
+    requires { ⌜ at + lineSize ≤ length (now out) ⌝ }
+    ensures { λ r. ⌜ Appended (now (out .entry)) at (faultText number) (now (out .exit)) r ⌝ }
+{
+    let a = put_word(out, at, b"fault at record ");
+    let b = put_number(out, a, number);
     put_word(out, b, b"\n")
 }
 
@@ -143,7 +153,7 @@ fn next_entry(n: usize, i: usize) -> usize
 }
 
 // The cycle of a slip, a line for each entry.
-fn put_cycle(out: &mut [u8], at: usize, slip: &[u8]) -> usize
+pub fn put_cycle(out: &mut [u8], at: usize, slip: &[u8]) -> usize
     requires { ⌜ (at + cycleSize ≤ length (now out)) × (countOf (now slip) ≤ maxClasses) × (slipSize maxClasses ≤ length (now slip)) ⌝ }
     ensures { λ r. ⌜ Appended (now (out .entry)) at (cycleText (entriesOf (now (slip .entry)))) (now (out .exit)) r ⌝ }
 {
@@ -167,23 +177,23 @@ fn put_cycle(out: &mut [u8], at: usize, slip: &[u8]) -> usize
 }
 
 // "fault at record I", and the cycle of the slip.
-fn put_fault_cycle(out: &mut [u8], at: u64, slip: &[u8]) -> usize
-    requires { ⌜ (lineSize + cycleSize ≤ length (now out)) × (countOf (now slip) ≤ maxClasses) × (slipSize maxClasses ≤ length (now slip)) ⌝ }
-    ensures { λ r. ⌜ Appended (now (out .entry)) 0 (faultText at ++ cycleText (entriesOf (now (slip .entry)))) (now (out .exit)) r ⌝ }
+fn put_fault_cycle(out: &mut [u8], at: usize, number: u64, slip: &[u8]) -> usize
+    requires { ⌜ (at + (lineSize + cycleSize) ≤ length (now out)) × (countOf (now slip) ≤ maxClasses) × (slipSize maxClasses ≤ length (now slip)) ⌝ }
+    ensures { λ r. ⌜ Appended (now (out .entry)) at (faultText number ++ cycleText (entriesOf (now (slip .entry)))) (now (out .exit)) r ⌝ }
 {
-    let end = put_fault(out, at);
+    let end = put_fault(out, at, number);
     put_cycle(out, end, slip)
 }
 
 // The text of what came of a log.
-pub fn put_text(out: &mut [u8], outcome: Outcome, slip: &[u8]) -> usize
-    requires { ⌜ (lineSize + cycleSize ≤ length (now out)) × (slipSize maxClasses ≤ length (now slip)) × Showable outcome (now slip) ⌝ }
-    ensures { λ r. ⌜ Appended (now (out .entry)) 0 (textOf outcome (now (slip .entry))) (now (out .exit)) r ⌝ }
+pub fn put_text(out: &mut [u8], at: usize, outcome: Outcome, slip: &[u8]) -> usize
+    requires { ⌜ (at + (lineSize + cycleSize) ≤ length (now out)) × (slipSize maxClasses ≤ length (now slip)) × Showable outcome (now slip) ⌝ }
+    ensures { λ r. ⌜ Appended (now (out .entry)) at (textOf outcome (now (slip .entry))) (now (out .exit)) r ⌝ }
 {
     match outcome {
-        Outcome::Clean(records) => put_clean(out, records),
-        Outcome::Refused(answer, at) => put_refused(out, answer, at),
-        Outcome::Fault(at) => put_fault_cycle(out, at, slip),
-        Outcome::Unread => put_word(out, 0, b"read failed\n"),
+        Outcome::Clean(records) => put_clean(out, at, records),
+        Outcome::Refused(answer, number) => put_refused(out, at, answer, number),
+        Outcome::Fault(number) => put_fault_cycle(out, at, number, slip),
+        Outcome::Unread => put_word(out, at, b"read failed\n"),
     }
 }

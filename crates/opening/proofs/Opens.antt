@@ -1,12 +1,12 @@
 -- What opening leaves encodes the state in which every run starts, and no byte past the stated sizes is changed. Assumes nothing.
 use mathlib.Core.Path.{_≡_, refl, sym, _∙_}
 use mathlib.Core.Bool.{true}
-use mathlib.Core.List.{List}
+use mathlib.Core.List.{List, _++_}
 use Prim.Native.Nat.{ℕ, zero, suc, _+_, _-_, _*_, _/_, _≤_, _<_}
 use native.Mathlib.Omega.{arith}
 use lib.Dec.{leb}
-use lib.ListN.{length, getD, drop, replicate, length-append, length-drop, length-replicate, length-set, getD-replicate, List·getD-append}
-use lib.Seq.{getD-append-add, getD-drop, getD-set-same, getD-set-other}
+use lib.ListN.{length, getD, take, drop, replicate, length-append, length-drop, length-replicate, length-set, getD-replicate, List·getD-append}
+use lib.Seq.{length-take-le, getD-append-add, getD-drop, getD-set-same, getD-set-other}
 use borrow.Author.Tests.{leb-true}
 use Rattle.rules.specs.Limits.{maxDepth}
 use Rattle.rules.specs.Run.{start}
@@ -34,7 +34,22 @@ module _ (n : ℕ) (bytes : List ℕ) (long : n ≤ length bytes) where
   zeroed-past : (j : ℕ) → n ≤ j → getD (zeroed n bytes) j 0 ≡ getD bytes j 0
   zeroed-past j l = let e : n + (j - n) ≡ j = omega arith in rw e at (zeroed-add (j - n))
 
+  -- A front that was filled as a part, and has come back.
+  pub zeroed-front : (m : ℕ) (part : List ℕ) → m ≡ n → part ≡ replicate (length (take m bytes)) 0 → part ++ drop m bytes ≡ zeroed n bytes
+  zeroed-front m part e q = rw (q, e, length-take-le n bytes long)
+
+-- All bytes of the number 0 are 0.
+zero-number : (j : ℕ) → j < numberSize → getD (bytesOf numberSize 0) j 0 ≡ 0
+zero-number zero l = refl
+zero-number (suc zero) l = refl
+zero-number (suc (suc zero)) l = refl
+zero-number (suc (suc (suc zero))) l = refl
+zero-number (suc (suc (suc (suc j)))) l = absurd (omega arith)
+
 module _ (K : ℕ) (desk : List ℕ) (long : deskSize ≤ length desk) where
+  pub desk-length : length (openedDesk K desk) ≡ length desk
+  desk-length = length-set (zeroed deskSize desk) classesAt K ∙ zeroed-length deskSize desk long
+
   desk-first : getD (openedDesk K desk) classesAt 0 ≡ K
   desk-first = getD-set-same (zeroed deskSize desk) classesAt K 0 (rw (zeroed-length deskSize desk long) (omega arith))
 
@@ -42,14 +57,14 @@ module _ (K : ℕ) (desk : List ℕ) (long : deskSize ≤ length desk) where
   desk-below j p l =
       getD-set-other (zeroed deskSize desk) classesAt j K 0 (λ e. omega arith) ∙ zeroed-below deskSize desk long j l
 
-  desk-keeps : KeepsPast deskSize desk (openedDesk K desk)
+  pub desk-keeps : KeepsPast deskSize desk (openedDesk K desk)
   desk-keeps =
       record {
-        long = length-set (zeroed deskSize desk) classesAt K ∙ zeroed-length deskSize desk long;
+        long = desk-length;
         past = λ j l. getD-set-other (zeroed deskSize desk) classesAt j K 0 (λ e. omega arith) ∙ zeroed-past deskSize desk long j l;
       }
 
-  opened-desk : DeskBytes K (start .is-closed) (start .cores) (start .graph .marks) (openedDesk K desk)
+  pub opened-desk : DeskBytes K (start .is-closed) (start .cores) (start .graph .marks) (openedDesk K desk)
   unfolding markByte
   opened-desk =
       record {
@@ -65,6 +80,9 @@ module _ (K : ℕ) (desk : List ℕ) (long : deskSize ≤ length desk) where
             zero-bit (openedDesk K desk) k (desk-below (originsAt + k / 8) (omega arith) (omega arith));
         eight = λ b l. rw (desk-below (originsAt + b) (omega arith) (omega arith)) (omega arith);
       }
+
+  pub opened-count : NumberBytes (start .journal .accepted) (openedDesk K desk) acceptedAt
+  opened-count j l = desk-below (acceptedAt + j) (omega arith) (omega arith) ∙ sym (zero-number j l)
 
 module _ (K : ℕ) (sheet : List ℕ) (square : sheetSize K ≤ length sheet) where
   sheet-keeps : KeepsPast (sheetSize K) sheet (openedSheet K sheet)
@@ -83,14 +101,6 @@ module _ (K : ℕ) (seen : List ℕ) (room : seenSize K ≤ length seen) where
   seen-keeps : KeepsPast (seenSize K) seen (openedSeen K seen)
   seen-keeps = record { long = zeroed-length (seenSize K) seen room; past = zeroed-past (seenSize K) seen room }
 
-  -- All bytes of the number 0 are 0.
-  zero-number : (j : ℕ) → j < numberSize → getD (bytesOf numberSize 0) j 0 ≡ 0
-  zero-number zero l = refl
-  zero-number (suc zero) l = refl
-  zero-number (suc (suc zero)) l = refl
-  zero-number (suc (suc (suc zero))) l = refl
-  zero-number (suc (suc (suc (suc j)))) l = absurd (omega arith)
-
   opened-seen : SeenBytes K (start .journal .seen) (openedSeen K seen)
   opened-seen =
       record {
@@ -99,9 +109,6 @@ module _ (K : ℕ) (seen : List ℕ) (room : seenSize K ≤ length seen) where
             let c = cell-inside K from to l h in
             zeroed-below (seenSize K) seen room (numberSize * (from * K + to) + j) (omega arith) ∙ sym (zero-number j k);
       }
-
-  opened-count : (desk : List ℕ) → deskSize ≤ length desk → NumberBytes (start .journal .accepted) (openedDesk K desk) acceptedAt
-  opened-count desk long j l = desk-below K desk long (acceptedAt + j) (omega arith) (omega arith) ∙ sym (zero-number j l)
 
 pub record FreshBuffers (K : ℕ) (desk sheet seen : List ℕ) : Type 0 where
   pub encodes : Encodes K start (openedDesk K desk) (openedSheet K sheet) (openedSeen K seen)
@@ -121,7 +128,7 @@ open-encodes K desk sheet seen e =
     record {
       encodes = record {
         in-desk = opened-desk K desk long;
-        in-count = opened-count K seen room desk long;
+        in-count = opened-count K desk long;
         in-sheet = opened-sheet K sheet square;
         in-seen = opened-seen K seen room;
       };

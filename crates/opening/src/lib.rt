@@ -5,7 +5,7 @@ ghost use lib.ListN.{length, replicate};
 ghost use Rattle.rules.specs.Limits.{coreCount};
 ghost use Rattle.rules.specs.Context.{taskBothOn};
 ghost use Rattle.layout.specs.Layout.{deskSize, stateOf};
-ghost use Rattle.opening.specs.Open.{Opened};
+ghost use Rattle.opening.specs.Open.{openedDesk, Opened};
 use answers::BAD_OPENING;
 use answers::OK;
 use context::CoreState;
@@ -38,6 +38,16 @@ fn seat_cores(desk: &mut [u8])
     }
 }
 
+// A fresh desk for so many classes.
+pub fn fresh_desk(classes: u8, desk: &mut [u8])
+    requires { ⌜ deskSize ≤ length (now desk) ⌝ }
+    ensures { λ _. ⌜ now (desk .exit) ≡ openedDesk classes (now (desk .entry)) ⌝ }
+{
+    fill(&mut desk[0..DESK_SIZE], 0);
+    seat_cores(desk);
+    desk[CLASSES_AT] = classes;
+}
+
 // The number of classes is wide, so that one past 255 is refused and not cut.
 pub fn open(classes: u64, desk: &mut [u8], sheet: &mut [u8], seen: &mut [u8]) -> u8
     ensures { λ r. ⌜ Opened classes (now (desk .entry)) (now (sheet .entry)) (now (seen .entry)) r (now (desk .exit)) (now (sheet .exit)) (now (seen .exit)) ⌝ }
@@ -61,9 +71,7 @@ pub fn open(classes: u64, desk: &mut [u8], sheet: &mut [u8], seen: &mut [u8]) ->
     if seen.len() < numbers {
         return BAD_OPENING;
     }
-    fill(&mut desk[0..DESK_SIZE], 0);
-    seat_cores(desk);
-    desk[CLASSES_AT] = k as u8;
+    fresh_desk(k as u8, desk);
     fill(&mut sheet[0..size], 0);
     fill(&mut seen[0..numbers], 0);
     OK

@@ -3,7 +3,7 @@ use mathlib.Core.Path.{_≡_, refl, sym, ap, _∙_, subst, subst₂, fun-ext}
 use mathlib.Core.Bool.{Bool, true, false}
 use mathlib.Core.List.{List, [], _∷_, _++_}
 use mathlib.Core.Logic.{_⊎_, _↔_}
-use Prim.Native.Nat.{ℕ, suc, _+_, _*_, _<_}
+use Prim.Native.Nat.{ℕ, suc, _+_, _*_, _<_, _≤_}
 use native.Mathlib.Decide.{ℕ-discrete, decLt}
 use native.Mathlib.Omega.{arith}
 use lib.Dec.{eqb}
@@ -13,18 +13,18 @@ use borrow.Author.Tests.{leb-true, le-leb, lt-ltb, eqb-true, eq-eqb}
 use Rattle.words.specs.Bits.{bit, flag}
 use Rattle.words.proofs.Words.{bit-two, bits-same}
 use Rattle.rules.specs.Record.{Bytes}
-use Rattle.rules.specs.Graph.{Graph, emptyGraph}
+use Rattle.rules.specs.Graph.{Graph}
 use Rattle.rules.specs.StrongPath.{ClosedStrongPath}
 use Rattle.rules.specs.Verdict.{number}
-use Rattle.rules.specs.Run.{State, Result, start, step, run, graphAt}
+use Rattle.rules.specs.Run.{State, Result, step, run, graphAt}
 use Rattle.rules.specs.Balance.{acquires, releases, tally, standing}
 use Rattle.rules.proofs.Booleans.{and-cases, and-both}
 use Rattle.rules.proofs.Steps.{StepCases, was-refused, was-clean, was-fault, stepped, refused-number, step-exactly}
-use Rattle.rules.specs.FirstSeen.{drawings, firstDrawn}
+use Rattle.rules.specs.FirstSeen.{numberAfter}
 use Rattle.rules.proofs.Balanced.{balanced}
 use Rattle.rules.proofs.Journals.{accepted-counted, first-seen}
 use Rattle.layout.specs.Layout.{slipSize, classesOf, closedOf, kindsOf, numberOf}
-use Rattle.layout.specs.Decoding.{view}
+use Rattle.layout.specs.Decoding.{view, CarriedOut}
 use Rattle.layout.specs.Fit.{fits, fitsAll}
 use Rattle.fit.proofs.Facts.{facts, number-facts}
 use Rattle.layout.proofs.Buffers.{cell-inside}
@@ -33,42 +33,43 @@ use Rattle.fit.proofs.Settled.{settled-desk-after, settled-sheet-after, settled
 use Rattle.validator.specs.Step.{Validated}
 use Rattle.question.specs.Question.{Asked}
 use Rattle.validator.specs.Calls.{Buffers, Called}
-use Rattle.plungerowl.specs.Runs.{Ran, Opening}
+use Rattle.plungerowl.specs.Runs.{Ran, Start}
 use Rattle.validator.proofs.Reports.{reported-one}
 use Rattle.plungerowl.specs.Demands.{SameStep, ClosedByFault, FaultExactly, DrawnFromRecords, NumberedFromRecords, Balanced}
-use Rattle.plungerowl.proofs.Runs.{held-fit, validated-by, slip-long, run-holds, opening-holds}
+use Rattle.plungerowl.proofs.Runs.{held-fit, validated-by, carried-slip, run-holds, start-holds, start-uncounted, start-unheld}
 
 -- ---- The contracts settle the number and every byte, for every input.
 
-module _ {b b₁ b₂ : Buffers} {r : Bytes} {x y : ℕ} (p : Called b r x b₁) (q : Called b r y b₂) where
-  both-validated : fits (b .desk) (b .sheet) (b .seen) ≡ true → fitsAll (b .desk) (b .sheet) (b .seen) (b .slip) ≡ true → SameStep x y b₁ b₂
-  both-validated f e =
-      let K = classesOf (b .desk) in
-      let u = p .validated e in
-      let v = q .validated e in
-      let o = step K (view (b .desk) (b .sheet) (b .seen)) r .state in
-      let n : x ≡ y = u .number-is ∙ sym (v .number-is) in
-      record {
-        number-is = n;
-        desk-is = settled-desk-after K (o .is-closed) (o .cores) (o .graph .marks) (o .journal .accepted) (b₁ .desk) (b₂ .desk)
-            (stand-encodes (u .stands) .in-desk) (stand-encodes (v .stands) .in-desk) (stand-encodes (u .stands) .in-count) (stand-encodes (v .stands) .in-count)
-            (b .desk) (u .keeps-desk) (v .keeps-desk);
-        sheet-is = settled-sheet-after K (facts (b .desk) (b .sheet) (b .seen) f .some) (o .graph .locks) (b₁ .sheet) (b₂ .sheet) (stand-encodes (u .stands) .in-sheet)
-            (stand-encodes (v .stands) .in-sheet) (b .sheet) (u .keeps-sheet) (v .keeps-sheet);
-        seen-is = settled-seen-after K (facts (b .desk) (b .sheet) (b .seen) f .some) (o .journal .seen) (b₁ .seen) (b₂ .seen) (stand-encodes (u .stands) .in-seen)
-            (stand-encodes (v .stands) .in-seen) (b .seen) (u .keeps-seen) (v .keeps-seen);
-        slip-is = elim (ℕ-discrete x 1) [
-          | yes z ↦ reported-one (u .reported z) (v .reported (sym n ∙ z))
-          | no h ↦ u .unreported h ∙ sym (v .unreported (λ z. h (n ∙ z)))
-        ];
-      }
+-- One result of the rules, carried out in the same buffers.
+pub carried-settles : {K : ℕ} {o : Result} {b b₁ b₂ : Buffers} {x y : ℕ} → 1 ≤ K
+    → CarriedOut K o (b .desk) (b .sheet) (b .seen) (b .slip) x (b₁ .desk) (b₁ .sheet) (b₁ .seen) (b₁ .slip)
+    → CarriedOut K o (b .desk) (b .sheet) (b .seen) (b .slip) y (b₂ .desk) (b₂ .sheet) (b₂ .seen) (b₂ .slip) → SameStep x y b₁ b₂
+carried-settles {K} {o} {b} {b₁} {b₂} {x} some u v =
+    let s = o .state in
+    let n = u .number-is ∙ sym (v .number-is) in
+    record {
+      number-is = n;
+      desk-is = settled-desk-after K (s .is-closed) (s .cores) (s .graph .marks) (s .journal .accepted) (b₁ .desk) (b₂ .desk)
+          (stand-encodes (u .stands) .in-desk) (stand-encodes (v .stands) .in-desk) (stand-encodes (u .stands) .in-count) (stand-encodes (v .stands) .in-count)
+          (b .desk) (u .keeps-desk) (v .keeps-desk);
+      sheet-is = settled-sheet-after K some (s .graph .locks) (b₁ .sheet) (b₂ .sheet) (stand-encodes (u .stands) .in-sheet) (stand-encodes (v .stands) .in-sheet)
+          (b .sheet) (u .keeps-sheet) (v .keeps-sheet);
+      seen-is = settled-seen-after K some (s .journal .seen) (b₁ .seen) (b₂ .seen) (stand-encodes (u .stands) .in-seen) (stand-encodes (v .stands) .in-seen) (b .seen)
+          (u .keeps-seen) (v .keeps-seen);
+      slip-is = elim (ℕ-discrete x 1) [
+        | yes z ↦ reported-one (u .reported z) (v .reported (sym n ∙ z))
+        | no h ↦ u .unreported h ∙ sym (v .unreported (λ z. h (n ∙ z)))
+      ];
+    }
 
+module _ {b b₁ b₂ : Buffers} {r : Bytes} {x y : ℕ} (p : Called b r x b₁) (q : Called b r y b₂) where
   pub step-settles : SameStep x y b₁ b₂
   unfolding fitsAll
   step-settles = by (fitsAll (b .desk) (b .sheet) (b .seen) (b .slip)) refl
     where
       by : (t : Bool) → fitsAll (b .desk) (b .sheet) (b .seen) (b .slip) ≡ t → SameStep x y b₁ b₂
-      by true e = both-validated (and-cases (fits (b .desk) (b .sheet) (b .seen)) _ e .0) e
+      by true e =
+          carried-settles {b = b} {b₁ = b₁} {b₂ = b₂} (facts (b .desk) (b .sheet) (b .seen) (and-cases (fits (b .desk) (b .sheet) (b .seen)) _ e .0) .some) (p .validated e) (q .validated e)
       by false e =
           let u = p .is-unfit e in
           let v = q .is-unfit e in
@@ -106,10 +107,10 @@ ask-settles {desk} {sheet} {seen} {class} {a} {word} {count} {a′} {word′} {c
     ]
 
 -- Demand 2, of a validated record.
-validated-verdict : {K : ℕ} {s : State} {r desk sheet seen slip desk′ sheet′ seen′ slip′ : List ℕ} {answer : ℕ}
+validated-verdict : (K : ℕ) (s : State) (r : Bytes) {desk sheet seen slip desk′ sheet′ seen′ slip′ : List ℕ} {answer : ℕ}
     → Validated K s r desk sheet seen slip answer desk′ sheet′ seen′ slip′
     → FaultExactly K (step K s r .state .graph) (step K s r .state .journal .seen) answer slip slip′
-validated-verdict {K} {s} {r} j =
+validated-verdict K s r j =
     record {
       exactly = subst (λ (n : ℕ). (n ≡ 0) ⊎ (n ≡ 1) → (n ≡ 1) ↔ ClosedStrongPath K (step K s r .state .graph)) (sym (j .number-is)) (step-exactly K s r);
       cycle = j .reported;
@@ -125,13 +126,13 @@ module _ {b b′ : Buffers} {r : Bytes} {answer : ℕ} (e : fitsAll (b .desk) (b
       let p = and-cases (fits (b .desk) (b .sheet) (b .seen)) _ e in
       let j = t .validated e in
       let room = leb-true (slipSize (classesOf (b .desk))) (length (b .slip)) (p .1) in
-      let l = slip-long j in
+      let l = carried-slip j in
       and-both (j .stands .fit) (rw (j .stands .classes) (le-leb (slipSize (classesOf (b .desk))) (length (b′ .slip)) (omega arith)))
 
   -- Demand 2: a fault exactly when the graph then has a closed strong path.
   pub step-verdict : FaultExactly (classesOf (b .desk)) (step (classesOf (b .desk)) (view (b .desk) (b .sheet) (b .seen)) r .state .graph)
       (step (classesOf (b .desk)) (view (b .desk) (b .sheet) (b .seen)) r .state .journal .seen) answer (b .slip) (b′ .slip)
-  step-verdict = validated-verdict (t .validated e)
+  step-verdict = validated-verdict (classesOf (b .desk)) (view (b .desk) (b .sheet) (b .seen)) r (t .validated e)
 
 -- ---- Demand 1.
 
@@ -156,10 +157,10 @@ closed-by-fault {b} {b′} {r} {answer} t = record { exactly = λ z. by z (fitsA
         let same : closedOf (b′ .desk) ≡ 0 = ap closedOf (u .1) ∙ z in
         (λ q. absurd (omega arith), λ q. absurd (let n = u .0 in omega arith))
 
--- ---- Demand 2, of runs from opening.
+-- ---- Demand 2, of runs from opening or from a join.
 
-pub run-drawn : {K : ℕ} {b b′ : Buffers} {rs : List Bytes} {given : List ℕ} → Opening K b → Ran b rs given b′ → DrawnFromRecords K rs b′
-run-drawn o w = let h = run-holds (opening-holds o) w in record { stands = h .stands; stays-fit = held-fit h }
+pub run-drawn : {K : ℕ} {s : State} {b b′ : Buffers} {rs : List Bytes} {given : List ℕ} → Start K s b → Ran b rs given b′ → DrawnFromRecords K s rs b′
+run-drawn o w = let h = run-holds (start-holds o) w in record { stands = h .stands; stays-fit = held-fit h }
 
 -- The last record of a list, in the rules.
 take-all : (rs : List Bytes) (r : Bytes) → take (suc (length rs)) (rs ++ (r ∷ [])) ≡ rs ++ (r ∷ [])
@@ -171,29 +172,28 @@ run-last K s [] r = refl
 run-last K s (x ∷ rs) r = run-last K (step K s x .state) rs r
 
 -- The graph and the numbers with what the last record draws, from the records alone.
-pub run-verdict : {K : ℕ} {b b′ b″ : Buffers} {rs : List Bytes} {given : List ℕ} {r : Bytes} {answer : ℕ} → Opening K b → Ran b rs given b′
-    → Called b′ r answer b″
-    → FaultExactly K (graphAt K start (rs ++ (r ∷ [])) (length rs)) (λ f t. firstDrawn f t (drawings K start (rs ++ (r ∷ [])))) answer (b′ .slip) (b″ .slip)
-run-verdict {K} {b′} {b″} {rs} {r} {answer} o w t =
-    let v = validated-verdict (validated-by (run-holds (opening-holds o) w) {b′ = b″} t) in
+pub run-verdict : {K : ℕ} {s : State} {b b′ b″ : Buffers} {rs : List Bytes} {given : List ℕ} {r : Bytes} {answer : ℕ} → Start K s b → Ran b rs given b′
+    → Called b′ r answer b″ → FaultExactly K (graphAt K s (rs ++ (r ∷ [])) (length rs)) (numberAfter K s (rs ++ (r ∷ []))) answer (b′ .slip) (b″ .slip)
+run-verdict {K} {s} {b′ = b′} {b″} {rs} {r = r} {answer} o w t =
+    let v = validated-verdict K (run K s rs) r (validated-by (run-holds (start-holds o) w) {b′ = b″} t) in
     subst₂ (λ (g : Graph) (n : ℕ → ℕ → ℕ). FaultExactly K g n answer (b′ .slip) (b″ .slip))
-    (ap (λ (s : State). s .graph) (sym (run-last K start rs r)) ∙ ap (λ (l : List Bytes). run K start l .graph) (sym (take-all rs r)))
-    (ap (λ (s : State). s .journal .seen) (sym (run-last K start rs r)) ∙ fun-ext (λ f. fun-ext (λ t. first-seen K (rs ++ (r ∷ [])) f t))) v
+    (ap (λ (s : State). s .graph) (sym (run-last K s rs r)) ∙ ap (λ (l : List Bytes). run K s l .graph) (sym (take-all rs r)))
+    (ap (λ (s : State). s .journal .seen) (sym (run-last K s rs r)) ∙ fun-ext (λ f. fun-ext (λ t. first-seen K s (start-uncounted o) (rs ++ (r ∷ [])) f t))) v
 
--- ---- Request e, of runs from opening.
+-- ---- Request e, of such runs.
 
-pub run-numbered : {K : ℕ} {b b′ : Buffers} {rs : List Bytes} {given : List ℕ} → Opening K b → Ran b rs given b′ → NumberedFromRecords K rs b′
-run-numbered {K} {b′ = b′} {rs} o w =
-    let h = run-holds (opening-holds o) w .stands in
+pub run-numbered : {K : ℕ} {s : State} {b b′ : Buffers} {rs : List Bytes} {given : List ℕ} → Start K s b → Ran b rs given b′ → NumberedFromRecords K s rs b′
+run-numbered {K} {s} {b′ = b′} {rs} o w =
+    let h = run-holds (start-holds o) w .stands in
     let n = number-facts (b′ .desk) (b′ .sheet) (b′ .seen) (h .fit) in
     let k : classesOf (b′ .desk) ≡ K = h .classes in
     let same : (f t : ℕ) → f < K → t < K → eqb (numberOf (b′ .seen) K f t) 0 ≡ eqb (kindsOf (b′ .sheet) K f t) 0 =
     λ f t l m. n .numbered (f * K + t) (rw k (cell-inside K f t l m)) in
     record {
-      counted = ap (λ (s : State). s .journal .accepted) (h .is-view) ∙ accepted-counted K rs;
+      counted = ap (λ (s : State). s .journal .accepted) (h .is-view) ∙ accepted-counted K s (start-uncounted o) rs;
       numbered = λ f t l m.
           let e : view (b′ .desk) (b′ .sheet) (b′ .seen) .journal .seen f t ≡ numberOf (b′ .seen) K f t = rw (k, lt-ltb f K l, lt-ltb t K m) refl in
-          sym e ∙ ap (λ (s : State). s .journal .seen f t) (h .is-view) ∙ first-seen K rs f t;
+          sym e ∙ ap (λ (s : State). s .journal .seen f t) (h .is-view) ∙ first-seen K s (start-uncounted o) rs f t;
       none = λ f t l m. (
         λ z. eqb-true (kindsOf (b′ .sheet) K f t) 0 (sym (same f t l m) ∙ eq-eqb (numberOf (b′ .seen) K f t) 0 z),
         λ z. eqb-true (numberOf (b′ .seen) K f t) 0 (same f t l m ∙ eq-eqb (kindsOf (b′ .sheet) K f t) 0 z),
@@ -202,10 +202,10 @@ run-numbered {K} {b′ = b′} {rs} o w =
 
 -- ---- The balance law.
 
-pub run-balanced : {K : ℕ} {b b′ : Buffers} {rs : List Bytes} {given : List ℕ} → Opening K b → Ran b rs given b′ → Balanced K rs b′
-run-balanced {K} {b′ = b′} {rs} o w =
+pub run-balanced : {K : ℕ} {s : State} {b b′ : Buffers} {rs : List Bytes} {given : List ℕ} → Start K s b → Ran b rs given b′ → Balanced K s rs b′
+run-balanced {K} {s} {b′ = b′} {rs} o w =
     record {
       balance = λ core f class.
-          subst (λ (s : State). standing class (s .cores core .held f) + tally K core f (releases class) start rs ≡ tally K core f (acquires class) start rs)
-          (sym (run-holds (opening-holds o) w .stands .is-view)) (balanced K emptyGraph rs core f class .balance);
+          subst (λ (u : State). standing class (u .cores core .held f) + tally K core f (releases class) s rs ≡ tally K core f (acquires class) s rs)
+          (sym (run-holds (start-holds o) w .stands .is-view)) (balanced K s (start-unheld o) rs core f class .balance);
     }

@@ -1,5 +1,6 @@
 pub mod Runs
 pub mod Demands
+pub mod Joins
 pub mod Records
 pub mod Logs
 pub mod Wholes

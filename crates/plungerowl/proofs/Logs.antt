@@ -12,14 +12,13 @@ use lib.Seq.{take-at, drop-at, take-all, take-nil}
 use borrow.Author.Tests.{lt-ltb, le-leb, lt-leb, leb-true, leb-false}
 use Rattle.rules.specs.Record.{Bytes, recordSize}
 use Rattle.rules.specs.Verdict.{number, badOpening, unfit}
-use Rattle.rules.specs.Run.{State, start, step}
+use Rattle.rules.specs.Run.{State, Result, start, step}
 use Rattle.rules.specs.Log.{headerSize, unitSize, headerClasses, recordsOf, looseOf, shortRecord, Outcome, validate}
 use Rattle.rules.proofs.Booleans.{and-cases}
 use Rattle.layout.specs.Layout.{deskSize, sheetSize, seenSize, slipSize, KeepsPast, classesOf}
-use Rattle.layout.specs.Decoding.{StandFor, Reported}
+use Rattle.layout.specs.Decoding.{StandFor, Reported, CarriedOut}
 use Rattle.layout.specs.Fit.{fits, fitsAll}
 use Rattle.opening.specs.Open.{Opened, opens, openedDesk, openedSheet}
-use Rattle.validator.specs.Step.{Validated}
 use Rattle.validator.specs.Calls.{Buffers, Called}
 use Rattle.progress.specs.Feed.{Feed, fresh, unitBegun, withPart}
 use Rattle.unit.specs.Units.{more, UnitValidated, header, a-record}
@@ -40,9 +39,9 @@ keeps-all : (n : ℕ) (x : List ℕ) → KeepsPast n x x
 keeps-all n x = record { long = refl; past = λ j h. refl }
 
 -- A step.
-left-by-step : {K : ℕ} {s : State} {r : Bytes} {b b′ : Buffers} {answer : ℕ} (n : ℕ)
-    → Validated K s r (b .desk) (b .sheet) (b .seen) (b .slip) answer (b′ .desk) (b′ .sheet) (b′ .seen) (b′ .slip)
-    → LeftBy K (record { answer = number (step K s r .answer); at = n; state = step K s r .state }) b b′
+left-by-step : {K : ℕ} {o : Result} {b b′ : Buffers} {answer : ℕ} (n : ℕ)
+    → CarriedOut K o (b .desk) (b .sheet) (b .seen) (b .slip) answer (b′ .desk) (b′ .sheet) (b′ .seen) (b′ .slip)
+    → LeftBy K (record { answer = number (o .answer); at = n; state = o .state }) b b′
 left-by-step n v =
     record {
       stands = v .stands;

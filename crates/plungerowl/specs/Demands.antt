@@ -9,9 +9,9 @@ use Rattle.rules.specs.Record.{Bytes}
 use Rattle.rules.specs.Context.{Frame}
 use Rattle.rules.specs.Graph.{Graph}
 use Rattle.rules.specs.StrongPath.{ClosedStrongPath}
-use Rattle.rules.specs.Run.{start, run}
+use Rattle.rules.specs.Run.{State, run}
 use Rattle.rules.specs.Balance.{acquires, releases, standing, tally}
-use Rattle.rules.specs.FirstSeen.{drawings, firstDrawn}
+use Rattle.rules.specs.FirstSeen.{drawings, numberAfter}
 use Rattle.layout.specs.Layout.{closedOf, kindsOf, acceptedOf, numberOf}
 use Rattle.layout.specs.Fit.{fitsAll}
 use Rattle.layout.specs.Decoding.{view, StandFor, Reported}
@@ -35,19 +35,19 @@ pub record FaultExactly (K : ℕ) (g : Graph) (numbers : ℕ → ℕ → ℕ) (a
   pub exactly : (answer ≡ 0) ⊎ (answer ≡ 1) → (answer ≡ 1) ↔ ClosedStrongPath K g
   pub cycle : answer ≡ 1 → Reported K g numbers slip slip′
 
--- Demand 2, of a run from opening: the bytes stand for what the rules draw from the records alone.
-pub record DrawnFromRecords (K : ℕ) (rs : List Bytes) (b : Buffers) : Type 0 where
-  pub stands : StandFor K (run K start rs) (b .desk) (b .sheet) (b .seen)
+-- Demand 2, of a run from a state s of the rules (Start of Runs.antt): the bytes stand for what the rules draw from the records alone.
+pub record DrawnFromRecords (K : ℕ) (s : State) (rs : List Bytes) (b : Buffers) : Type 0 where
+  pub stands : StandFor K (run K s rs) (b .desk) (b .sheet) (b .seen)
   pub stays-fit : fitsAll (b .desk) (b .sheet) (b .seen) (b .slip) ≡ true
 
--- Request e, of a run from opening: the count, and the number of each pair in the second sheet, worked out from the records alone; 0 exactly where no lock
--- dependency was drawn.
-pub record NumberedFromRecords (K : ℕ) (rs : List Bytes) (b : Buffers) : Type 0 where
-  pub counted : acceptedOf (b .desk) ≡ length (drawings K start rs)
-  pub numbered : (from to : ℕ) → from < K → to < K → numberOf (b .seen) K from to ≡ firstDrawn from to (drawings K start rs)
+-- Request e, of such a run: the count, and the number of each pair in the second sheet, worked out from the records alone and from the numbers at the start,
+-- of which opening gives none; 0 exactly where there is no lock dependency.
+pub record NumberedFromRecords (K : ℕ) (s : State) (rs : List Bytes) (b : Buffers) : Type 0 where
+  pub counted : acceptedOf (b .desk) ≡ length (drawings K s rs)
+  pub numbered : (from to : ℕ) → from < K → to < K → numberOf (b .seen) K from to ≡ numberAfter K s rs from to
   pub none : (from to : ℕ) → from < K → to < K → (numberOf (b .seen) K from to ≡ 0) ↔ (kindsOf (b .sheet) K from to ≡ 0)
 
--- The balance law, of a run from opening: the locks that stand in the desk's frames.
-pub record Balanced (K : ℕ) (rs : List Bytes) (b : Buffers) : Type 0 where
+-- The balance law, of such a run: the locks that stand in the desk's frames.
+pub record Balanced (K : ℕ) (s : State) (rs : List Bytes) (b : Buffers) : Type 0 where
   pub balance : (core : ℕ) (f : Frame) (class : ℕ)
-      → standing class (view (b .desk) (b .sheet) (b .seen) .cores core .held f) + tally K core f (releases class) start rs ≡ tally K core f (acquires class) start rs
+      → standing class (view (b .desk) (b .sheet) (b .seen) .cores core .held f) + tally K core f (releases class) s rs ≡ tally K core f (acquires class) s rs

@@ -1,4 +1,5 @@
 pub mod Runs
 pub mod Demands
+pub mod Joins
 pub mod Logs
 pub mod LogExamples

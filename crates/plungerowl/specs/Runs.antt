@@ -1,11 +1,16 @@
 -- Runs of the calls, over their contracts.
+use mathlib.Core.Path.{_≡_}
 use mathlib.Core.List.{List, [], _∷_}
 use Prim.Native.Nat.{ℕ, _≤_}
 use lib.ListN.{length}
 use Rattle.rules.specs.Record.{Bytes}
+use Rattle.rules.specs.Run.{State, start}
+use Rattle.rules.specs.Join.{join}
 use Rattle.layout.specs.Layout.{slipSize}
 use Rattle.opening.specs.Open.{Opened}
 use Rattle.validator.specs.Calls.{Buffers, Called}
+use Rattle.benches.specs.Benches.{Bench, benchClasses, benchState}
+use Rattle.joiner.specs.Joining.{Joined}
 
 -- Calls of the step, one record a call, each handed the buffers as the last left them: the buffers, the records, the answers, the buffers left.
 pub data Ran : Buffers → List Bytes → List ℕ → Buffers → Type 0 where
@@ -20,3 +25,23 @@ pub record Opening (K : ℕ) (b : Buffers) : Type 0 where
   pub seen-before : List ℕ
   pub opened : Opened K desk-before sheet-before seen-before 0 (b .desk) (b .sheet) (b .seen)
   pub room : slipSize K ≤ length (b .slip)
+
+-- The buffers as a join that was not refused leaves them, of two benches that stand for the states s and t; with a slip that is long enough and holds
+-- anything.
+pub record Joining (K : ℕ) (s t : State) (b : Buffers) : Type 0 where
+  pub one : Bench
+  pub two : Bench
+  pub before : Buffers
+  pub answer : ℕ
+  pub slip-left : List ℕ
+  pub joined : Joined one two (before .desk) (before .sheet) (before .seen) (before .slip) answer (b .desk) (b .sheet) (b .seen) slip-left
+  pub not-refused : answer ≤ 1
+  pub classes : benchClasses one ≡ K
+  pub first : benchState one ≡ s
+  pub second : benchState two ≡ t
+  pub room : slipSize K ≤ length (b .slip)
+
+-- Where a run may start, and in which state of the rules: as opening leaves the buffers, or as a join does.
+pub data Start (K : ℕ) : State → Buffers → Type 0 where
+  opened : {b : Buffers} → Opening K b → Start K start b
+  joined : {b : Buffers} {s t : State} → Joining K s t b → Start K (join K s t .state) b

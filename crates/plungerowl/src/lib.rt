@@ -1,11 +1,14 @@
 // The library's calls for a host in C: a slice is a pointer and then a length.
 use balance::balance_of;
+use joiner::join;
 use layout::MAX_CLASSES;
 use opening::open;
 use question::ask;
 use validator::step;
 ghost use Rattle.balance.specs.Piece.{PieceBalanced};
 ghost use Rattle.feed.specs.Calls.{Started, FedPiece, FedEnd};
+ghost use Rattle.benches.specs.Benches.{bench};
+ghost use Rattle.joiner.specs.Joining.{Joined};
 ghost use Rattle.opening.specs.Open.{Opened};
 ghost use Rattle.question.specs.Question.{Asked};
 ghost use Rattle.validator.specs.Calls.{buffers};
@@ -54,6 +57,36 @@ pub extern "C" fn plungerowl_ask(
     *word = found.word;
     *count = found.count;
     found.answer
+}
+
+// Joins two benches: two open desks of one number of classes, with their sheets, into a third. With a fault the cycle stands in the slip.
+#[no_mangle]
+pub extern "C" fn plungerowl_join(
+    desk1: &[u8],
+    sheet1: &[u8],
+    seen1: &[u8],
+    desk2: &[u8],
+    sheet2: &[u8],
+    seen2: &[u8],
+    desk: &mut [u8],
+    sheet: &mut [u8],
+    seen: &mut [u8],
+    slip: &mut [u8],
+) -> u8
+    ensures { λ r. ⌜ Joined (bench (now (desk1 .entry)) (now (sheet1 .entry)) (now (seen1 .entry))) (bench (now (desk2 .entry)) (now (sheet2 .entry)) (now (seen2 .entry))) (now (desk .entry)) (now (sheet .entry)) (now (seen .entry)) (now (slip .entry)) r (now (desk .exit)) (now (sheet .exit)) (now (seen .exit)) (now (slip .exit)) ⌝ }
+{
+    join(
+        desk1,
+        sheet1,
+        seen1,
+        desk2,
+        sheet2,
+        seen2,
+        desk,
+        sheet,
+        seen,
+        slip,
+    )
 }
 
 // A fresh feed, for a log in pieces.

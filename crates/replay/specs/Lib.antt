@@ -1,1 +1,1 @@
-pub mod Replayed
+pub mod Texts

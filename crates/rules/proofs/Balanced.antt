@@ -1,6 +1,6 @@
 -- The balance law: each accepted acquire adds one held lock of its class to its frame, each accepted release takes one away, and nothing else
 -- changes a frame. Assumes nothing.
-use mathlib.Core.Path.{_≡_, refl, _∙_}
+use mathlib.Core.Path.{_≡_, refl, ap, _∙_}
 use mathlib.Core.Bool.{Bool, true, false, cond, _&&_, _||_, false≢true, or-true}
 use mathlib.Core.List.{List, [], _∷_, _++_}
 use mathlib.Core.Option.{none}
@@ -11,9 +11,8 @@ use borrow.Author.Tests.{eqb-true, not-false}
 use Rattle.rules.specs.Record.{Bytes, Event, acquire, release, interrupt, coreOf, eventOf}
 use Rattle.rules.specs.Context.{Frame, frameOf}
 use Rattle.rules.specs.HeldLocks.{HeldLock, isHeld, newestIs, releaseNewest, Core, current, afterEvent}
-use Rattle.rules.specs.Graph.{Graph}
 use Rattle.rules.specs.Verdict.{notHeld, refusal, releaseMissing}
-use Rattle.rules.specs.Run.{State, startingFrom, situation, accept, Result, step, run}
+use Rattle.rules.specs.Run.{State, situation, accept, Result, step, run}
 use Rattle.rules.specs.Balance.{acquires, releases, isAccepted, countIf, concerns, tally, standing, Balance}
 use Rattle.rules.proofs.Booleans.{and-cases}
 use Rattle.rules.proofs.Steps.{StepCases, was-refused, was-clean, was-fault, stepped, accepted-passes}
@@ -112,5 +111,7 @@ module _ (K : ℕ) (i : ℕ) (f : Frame) (c : ℕ) where
       let q = count-add (isAccepted (o .answer) && concerns i f (acquires c) s r) (tally K i f (acquires c) (o .state) rs) in
       omega arith
 
-pub balanced : (K : ℕ) (g : Graph) (rs : List Bytes) (i : ℕ) (f : Frame) (c : ℕ) → Balance K g rs i f c
-balanced K g rs i f c = record { balance = run-balance K i f c (startingFrom g) rs ∙ (omega arith) }
+pub balanced : (K : ℕ) (s : State) → ((i : ℕ) (f : Frame) → s .cores i .held f ≡ []) → (rs : List Bytes) (i : ℕ) (f : Frame) (c : ℕ) → Balance K s rs i f c
+balanced K s fresh rs i f c =
+    let e : standing c (s .cores i .held f) ≡ 0 = ap (standing c) (fresh i f) in
+    record { balance = run-balance K i f c s rs ∙ (omega arith) }

@@ -8,18 +8,19 @@ use lib.Dec.{T, eqb}
 use lib.ListN.{length}
 use borrow.Author.Tests.{eqb-true, lt-leb}
 use Rattle.rules.specs.Limits.{coreCount, modeCount}
-use Rattle.rules.specs.Record.{isMalformed, Names}
+use Rattle.rules.specs.Record.{Bytes, isMalformed, Names}
 use Rattle.rules.specs.Decision.{cyclic, reaches}
-use Rattle.rules.specs.Verdict.{refusal}
+use Rattle.rules.specs.Verdict.{number, refusal}
 use Rattle.rules.specs.HeldLocks.{releaseNewest}
 use Rattle.rules.specs.Graph.{dependency}
 use Rattle.rules.specs.KindNames.{EN}
 use Rattle.rules.specs.CycleDecision.{isCycle, leastCycle}
+use Rattle.rules.specs.Join.{join}
 use Rattle.rules.specs.Run.{State, start, answers, run, graphAt}
 use Rattle.rules.proofs.Booleans.{and-cases}
 use Rattle.rules.proofs.Quick.{quickly, quickly-same, quickState, quick-state}
 use Rattle.rules.proofs.FewClasses.{classesNamed, allNamed, few-answers}
-use Rattle.rules.specs.Examples.{exclusive, read, recursive, tryExclusive, lockOf, NumberCase, numberCase, numberCases, LimitCase, limitCase, limitCases, DrawnCase, drawnCase, drawnCases, MarkCase, markCase, markCases, Example, cycleCases, CycleCase, cycleCase, table, tries, releaseCases, example, p2, p6, allClean, endsWith, faultAt, takes, frees, does, says}
+use Rattle.rules.specs.Examples.{exclusive, read, recursive, tryExclusive, lockOf, NumberCase, numberCase, numberCases, LimitCase, limitCase, limitCases, JoinCase, joinCase, joinCases, DrawnCase, drawnCase, drawnCases, MarkCase, markCase, markCases, Example, cycleCases, CycleCase, cycleCase, table, tries, releaseCases, example, p2, p6, allClean, endsWith, faultAt, takes, frees, does, says}
 
 abbrev sameNumbers : List ℕ → List ℕ → Bool
 sameNumbers [] [] = true
@@ -142,3 +143,19 @@ quick-limits = refl
 pub limits-hold : map (λ (e : LimitCase). answers 3 (withAccepted (e .accepted) (run 3 start (e .before))) (e .log)) limitCases
     ≡ map (λ (e : LimitCase). e .given) limitCases
 limits-hold = of-each limitCases (λ e. ap (λ (s : State). answers 3 (withAccepted (e .accepted) s) (e .log)) (sym (quick-state 3 start (e .before)))) ∙ quick-limits
+
+-- Request i.
+abbrev joinGiven : (ℕ → State → List Bytes → State) → JoinCase → List ℕ
+joinGiven runs e =
+    let o = join 3 (runs 3 start (e .first)) (runs 3 start (e .second)) in
+    number (o .answer) ∷ runs 3 (o .state) (e .after) .journal .seen (e .from) (e .to) ∷ answers 3 (o .state) (e .after)
+
+quick-joins : map (joinGiven quickState) joinCases ≡ map (λ (e : JoinCase). e .answer ∷ e .number ∷ e .given) joinCases
+unfolding joinCases joinCase takes frees does says isMalformed refusal dependency cyclic
+quick-joins = refl
+
+pub joins-hold : map (joinGiven run) joinCases ≡ map (λ (e : JoinCase). e .answer ∷ e .number ∷ e .given) joinCases
+joins-hold = ap (λ (runs : ℕ → State → List Bytes → State). map (joinGiven runs) joinCases) (sym quick-runs) ∙ quick-joins
+  where
+    quick-runs : quickState ≡ run
+    quick-runs = fun-ext (λ K. fun-ext (λ s. fun-ext (λ rs. quick-state K s rs)))

@@ -1,6 +1,6 @@
 -- What a number means over a run: that of the accepted record that first drew a lock dependency at its pair. Assumes nothing.
 use mathlib.Core.Path.{_≡_, refl, sym, ap, _∙_}
-use mathlib.Core.Bool.{Bool, true, false, cond, not, _&&_, _||_}
+use mathlib.Core.Bool.{Bool, true, false, cond, not, _&&_, _||_, false≢true}
 use mathlib.Core.List.{List, [], _∷_}
 use Prim.Native.Nat.{ℕ, zero, suc, _+_}
 use native.Mathlib.Omega.{arith}
@@ -10,9 +10,10 @@ use borrow.Author.Tests.{ne-eqb}
 use Rattle.rules.specs.Record.{Bytes, coreOf}
 use Rattle.rules.specs.Graph.{Kind, Dependencies}
 use Rattle.rules.specs.KindNames.{ER, EN, SR, SN, someKind}
-use Rattle.rules.specs.Run.{Journal, emptyJournal, withRecord, State, start, drawnWith, Result, step, run}
+use Rattle.rules.specs.Run.{Journal, withRecord, State, drawnWith, Result, step, run}
 use Rattle.rules.specs.Balance.{isAccepted}
-use Rattle.rules.specs.FirstSeen.{drawings, oneLater, firstDrawn}
+use Rattle.rules.specs.FirstSeen.{drawings, oneLater, firstDrawn, numberAfter}
+use Rattle.rules.specs.Join.{firstOr}
 use Rattle.rules.proofs.Steps.{StepCases, was-refused, was-clean, was-fault, stepped}
 
 -- A journal with several records more.
@@ -68,21 +69,27 @@ number-first j f t (d ∷ ds) h = by (someKind (d f t)) refl (number-first (with
     by true e ih = number-kept (withRecord d j) f t (j .accepted) ds (rw (h, e) refl) ∙ omega arith
     by false e ih = ih (rw (h, e) refl) ∙ behind-later (j .accepted) (firstDrawn f t ds)
 
--- ---- From opening.
+-- ---- From a state with no record counted.
 
--- The count is the number of accepted records.
-pub accepted-counted : (K : ℕ) (rs : List Bytes) → run K start rs .journal .accepted ≡ length (drawings K start rs)
-accepted-counted K rs =
-    let e = ap (λ (j : Journal). j .accepted) (run-journal K start rs) in
-    let h = count-drawn emptyJournal (drawings K start rs) in
-    omega arith
+module _ (K : ℕ) (s : State) (fresh : s .journal .accepted ≡ 0) (rs : List Bytes) where
+  -- The count is the number of accepted records.
+  pub accepted-counted : run K s rs .journal .accepted ≡ length (drawings K s rs)
+  accepted-counted =
+      let e = ap (λ (j : Journal). j .accepted) (run-journal K s rs) in
+      let h = count-drawn (s .journal) (drawings K s rs) in
+      omega arith
 
--- A pair's number is that of the accepted record that first drew a lock dependency there, counted among the accepted ones from 1.
-pub first-seen : (K : ℕ) (rs : List Bytes) (f t : ℕ) → run K start rs .journal .seen f t ≡ firstDrawn f t (drawings K start rs)
-first-seen K rs f t =
-    ap (λ (j : Journal). j .seen f t) (run-journal K start rs)
-    ∙ number-first emptyJournal f t (drawings K start rs) refl
-    ∙ behind-none (firstDrawn f t (drawings K start rs))
+  -- A pair that has no number at the start gets that of the accepted record that first drew a lock dependency there, counted among the accepted ones
+  -- from 1; one that has a number keeps it.
+  pub first-seen : (f t : ℕ) → run K s rs .journal .seen f t ≡ numberAfter K s rs f t
+  first-seen f t = ap (λ (j : Journal). j .seen f t) (run-journal K s rs) ∙ by (s .journal .seen f t) refl
+    where
+      by : (n : ℕ) → s .journal .seen f t ≡ n → withRecords (s .journal) (drawings K s rs) .seen f t ≡ firstOr n (firstDrawn f t (drawings K s rs))
+      by zero e =
+          number-first (s .journal) f t (drawings K s rs) e
+          ∙ ap (λ (a : ℕ). behind a (firstDrawn f t (drawings K s rs))) fresh
+          ∙ behind-none (firstDrawn f t (drawings K s rs))
+      by (suc n) e = number-kept (s .journal) f t n (drawings K s rs) e ∙ rw (suc-not-zero n) refl
 
 -- ---- A number stands exactly where a lock dependency was drawn.
 
@@ -114,3 +121,14 @@ numbered-kept j locks d f t h = by (eqb (j .seen f t) 0) refl (someKind (d f t))
     by false e drawn true q = e
     by true e drawn true q = cc
     by false e drawn false q = cc
+
+-- And of two joined benches.
+pub numbered-joined : (n m : ℕ) (d e : Kind → Bool) → eqb n 0 ≡ not (someKind d) → eqb m 0 ≡ not (someKind e)
+    → eqb (firstOr n m) 0 ≡ not (someKind (λ k. d k || e k))
+numbered-joined n m d e p q = by (eqb n 0) refl (someKind d) (someKind e) p q ∙ ap not (sym (either-kind d e))
+  where
+    by : (z : Bool) → eqb n 0 ≡ z → (x y : Bool) → z ≡ not x → eqb m 0 ≡ not y → eqb (cond z m n) 0 ≡ not (x || y)
+    by true h false y a b = b
+    by false h true y a b = h
+    by true h true y a b = absurd (false≢true (sym a))
+    by false h false y a b = absurd (false≢true a)

@@ -5,6 +5,7 @@ pub mod Decided
 pub mod Monotone
 pub mod Steps
 pub mod MoreEvidence
+pub mod Joined
 pub mod Balanced
 pub mod Journals
 pub mod Cutting

@@ -9,7 +9,7 @@ use Prim.Native.Nat.{ℕ, zero, suc, _<_, _≤_, zero-le, suc-le-suc}
 use native.Mathlib.Nat.{le-of-suc-le-suc, not-suc-le-zero, le-refl}
 use native.Mathlib.Omega.{arith}
 use lib.Dec.{leb, eqb}
-use lib.ListN.{length, getD}
+use lib.ListN.{length, getD, getD-replicate}
 use borrow.Author.Tests.{ne-eqb, leb-true, le-leb}
 use Rattle.rules.specs.Limits.{maxAccepted}
 use Rattle.rules.specs.Record.{Bytes, coreOf, eventOf, isMalformed, Names}
@@ -20,7 +20,7 @@ use Rattle.rules.specs.Run.{State, situation, acceptOn, accept, Result, 
 use Rattle.rules.specs.TwoRuns.{NamedIn, Foreign, Interleaved, done, keep, insert, place, Never, FaultBy, MoreEvidence}
 use Rattle.rules.proofs.Decided.{cyclic-sound}
 use Rattle.rules.proofs.Monotone.{Within, within-self, within-more, within-both, cyclic-mono}
-use Rattle.rules.proofs.Steps.{closed-no-fault, shut-after, fault-cycle, Alike, refused-alike}
+use Rattle.rules.proofs.Steps.{closed-answers, closed-no-fault, shut-after, fault-cycle, Alike, refused-alike}
 
 names-its-core : (r : Bytes) → isMalformed r ≡ false → Names r (coreOf r)
 names-its-core r h = record { formed = h; is-core = refl }
@@ -241,10 +241,10 @@ place-order (keep e) zero (suc j) l = suc-le-suc zero-le
 place-order (keep e) (suc i) (suc j) l = suc-le-suc (place-order e i j (le-of-suc-le-suc l))
 place-order (insert f e) i j l = suc-le-suc (place-order e i j l)
 
--- Demand 3, from any open state, "if neither run meets 9": where the second does not, the first does not either, so that is all that is asked.
-pub more-evidence : (K : ℕ) (s : State) → s .is-closed ≡ false → {xs ys : List Bytes} (e : Interleaved xs xs ys) → Never 9 (answers K s ys)
+-- From an open state.
+more-evidence-open : (K : ℕ) (s : State) → s .is-closed ≡ false → {xs ys : List Bytes} (e : Interleaved xs xs ys) → Never 9 (answers K s ys)
     → MoreEvidence K s e (answers K s xs) (answers K s ys)
-more-evidence K s o {xs} {ys} e n =
+more-evidence-open K s o {xs} {ys} e n =
     let a : Along K xs s s = record { open₁ = o; open₂ = o; agree = λ i n. refl; within = within-self (s .graph); fewer = le-refl (s .journal .accepted) } in
     let p = pairs K xs e (λ r m. m) s s a n in
     record {
@@ -254,3 +254,25 @@ more-evidence K s o {xs} {ys} e n =
       shut = shut-after K s ys;
       sooner = λ i l h. fault-kept (getD (answers K s xs) i 0) (place e i) h (p .same i l);
     }
+
+-- From a closed one, where every answer is 10.
+more-evidence-closed : (K : ℕ) (s : State) → s .is-closed ≡ true → {xs ys : List Bytes} (e : Interleaved xs xs ys)
+    → MoreEvidence K s e (answers K s xs) (answers K s ys)
+more-evidence-closed K s c {xs} {ys} e =
+    record {
+      same = λ i l. inl (rw (closed-answers K s xs c, closed-answers K s ys c)
+          (getD-replicate (length ys) (place e i) 10 0 (place-inside e i l) ∙ sym (getD-replicate (length xs) i 10 0 l)));
+      true-fault = λ j h. absurd (closed-no-fault K s ys j c h);
+      old = λ i l h. absurd (closed-no-fault K s ys (place e i) c h);
+      shut = shut-after K s ys;
+      sooner = λ i l h. absurd (closed-no-fault K s xs i c h);
+    }
+
+-- Demand 3, from any state, "if neither run meets 9": where the second does not, the first does not either, so that is all that is asked.
+pub more-evidence : (K : ℕ) (s : State) {xs ys : List Bytes} (e : Interleaved xs xs ys) → Never 9 (answers K s ys)
+    → MoreEvidence K s e (answers K s xs) (answers K s ys)
+more-evidence K s {xs} {ys} e n = by (s .is-closed) refl
+  where
+    by : (b : Bool) → s .is-closed ≡ b → MoreEvidence K s e (answers K s xs) (answers K s ys)
+    by false o = more-evidence-open K s o e n
+    by true c = more-evidence-closed K s c e

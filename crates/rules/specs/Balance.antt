@@ -7,9 +7,8 @@ use lib.Dec.{eqb}
 use Rattle.rules.specs.Record.{Bytes, Event, acquire, release, interrupt, coreOf, eventOf}
 use Rattle.rules.specs.Context.{Frame, frameOf}
 use Rattle.rules.specs.HeldLocks.{HeldLock}
-use Rattle.rules.specs.Graph.{Graph}
 use Rattle.rules.specs.Verdict.{Answer, clean, fault, refused}
-use Rattle.rules.specs.Run.{State, startingFrom, step, run}
+use Rattle.rules.specs.Run.{State, step, run}
 
 abbrev pub acquires : ℕ → Event → Bool
 acquires c (acquire x m) = eqb c x
@@ -46,6 +45,7 @@ abbrev pub standing : ℕ → List HeldLock → ℕ
 standing c [] = 0
 standing c (h ∷ hs) = countIf (eqb c (h .class)) (standing c hs)
 
-pub record Balance (K : ℕ) (g : Graph) (rs : List Bytes) (i : ℕ) (f : Frame) (c : ℕ) : Type 0 where
-  pub balance : standing c (run K (startingFrom g) rs .cores i .held f) + tally K i f (releases c) (startingFrom g) rs
-      ≡ tally K i f (acquires c) (startingFrom g) rs
+-- From a state in which no lock is held.
+pub record Balance (K : ℕ) (s : State) (rs : List Bytes) (i : ℕ) (f : Frame) (c : ℕ) : Type 0 where
+  pub balance : standing c (run K s rs .cores i .held f) + tally K i f (releases c) s rs
+      ≡ tally K i f (acquires c) s rs

@@ -1,4 +1,4 @@
--- Document 01, "Logs for the bench": P1 to P12 with their variants and the refusal logs, as one table under one claim; requests a, c, e and h in tables of their own.
+-- Document 01, "Logs for the bench": P1 to P12 with their variants and the refusal logs, as one table under one claim; requests a, c, e, h and i in tables of their own.
 use mathlib.Core.Bool.{Bool, true, false}
 use mathlib.Core.List.{List, [], _∷_, _++_}
 use Prim.Native.Nat.{ℕ, _+_, pred}
@@ -313,6 +313,42 @@ limitCases =
     ∷ limitCase (replicate 48 (takes 0 0 tryRecursive)) 4294967295 (takes 0 0 recursive ∷ []) (8 ∷ [])
     -- the last one may be a fault, and then all get 10
     ∷ limitCase (takes 0 0 exclusive ∷ []) 4294967294 (takes 0 0 exclusive ∷ takes 0 1 exclusive ∷ []) (1 ∷ 10 ∷ [])
+    ∷ []
+
+-- Request i: two logs of three classes, each run from opening, and their join: its answer, then those of the records stepped on the joined desk, and the number
+-- that a pair has at the end.
+pub record JoinCase : Type 0 where
+  pub first : List Bytes
+  pub second : List Bytes
+  pub answer : ℕ
+  pub after : List Bytes
+  pub given : List ℕ
+  pub from : ℕ
+  pub to : ℕ
+  pub number : ℕ
+
+unfoldable pub joinCase : (first second : List Bytes) → ℕ → (after : List Bytes) → List ℕ → (from to number : ℕ) → JoinCase
+joinCase first second answer after given from to number =
+    record { first = first; second = second; answer = answer; after = after; given = given; from = from; to = to; number = number }
+
+unfoldable pub joinCases : List JoinCase
+joinCases =
+    -- opposite orders, each clean by itself: a fault, and the joined desk is closed
+    joinCase (takes 0 1 exclusive ∷ takes 0 2 exclusive ∷ []) (takes 0 2 exclusive ∷ takes 0 1 exclusive ∷ []) 1 (takes 0 0 exclusive ∷ []) (10 ∷ []) 2 1 2
+    -- the marks of both: unsafe on one bench, safe on the other
+    ∷ joinCase (takes 0 0 exclusive ∷ []) (does 0 enterHard ∷ takes 0 0 exclusive ∷ []) 1 [] [] 0 0 0
+    -- opposite orders that are not strong
+    ∷ joinCase (takes 0 0 exclusive ∷ takes 0 1 recursive ∷ []) (takes 0 1 recursive ∷ takes 0 0 exclusive ∷ []) 0 [] [] 1 0 2
+    -- a pair of both: the kind that makes the fault later is the second bench's, the number the first's
+    ∷ joinCase (takes 0 0 exclusive ∷ takes 0 1 recursive ∷ []) (takes 0 2 exclusive ∷ takes 0 0 exclusive ∷ takes 0 1 exclusive ∷ []) 0
+    (takes 1 1 recursive ∷ takes 1 0 exclusive ∷ []) (0 ∷ 1 ∷ []) 0 1 2
+    -- the second bench's number where the first has none; it stays
+    ∷ joinCase [] (takes 0 2 exclusive ∷ takes 0 0 exclusive ∷ takes 0 1 exclusive ∷ []) 0 (takes 0 0 exclusive ∷ takes 0 1 exclusive ∷ []) (0 ∷ 0 ∷ []) 0 1 3
+    -- a new pair is numbered from the joined desk's count, which is 0
+    ∷ joinCase (takes 0 0 exclusive ∷ takes 0 1 exclusive ∷ []) (takes 0 0 exclusive ∷ []) 0 (takes 0 1 exclusive ∷ takes 0 2 exclusive ∷ []) (0 ∷ 0 ∷ []) 1 2 2
+    -- the cores are fresh: no lock is held, and no handler runs
+    ∷ joinCase (takes 0 0 exclusive ∷ does 0 enterHard ∷ takes 0 1 exclusive ∷ []) (takes 0 0 exclusive ∷ []) 0
+    (frees 0 0 exclusive ∷ does 0 exitHard ∷ takes 0 2 exclusive ∷ []) (5 ∷ 6 ∷ 0 ∷ []) 0 2 0
     ∷ []
 
 abbrev pub lockOf : ℕ → ℕ → HeldLock

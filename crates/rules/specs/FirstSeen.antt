@@ -7,6 +7,7 @@ use Rattle.rules.specs.Graph.{Dependencies}
 use Rattle.rules.specs.KindNames.{someKind}
 use Rattle.rules.specs.Run.{State, drawnWith, step}
 use Rattle.rules.specs.Balance.{isAccepted}
+use Rattle.rules.specs.Join.{firstOr}
 
 -- The lock dependencies that each accepted record draws, in the order of the records.
 abbrev pub drawings : ℕ → State → List Bytes → List Dependencies
@@ -24,3 +25,8 @@ oneLater (suc n) = suc (suc n)
 abbrev pub firstDrawn : (from to : ℕ) → List Dependencies → ℕ
 firstDrawn f t [] = 0
 firstDrawn f t (d ∷ ds) = cond (someKind (d f t)) 1 (oneLater (firstDrawn f t ds))
+
+-- The number of a pair after a list of records from a state with no record counted: the one it has at the start, which stays, or the one that the list
+-- gives it. At opening no pair has one.
+abbrev pub numberAfter : ℕ → State → List Bytes → (from to : ℕ) → ℕ
+numberAfter K s rs f t = firstOr (s .journal .seen f t) (firstDrawn f t (drawings K s rs))

@@ -17,6 +17,7 @@ pub mod Verdict
 pub mod Run
 pub mod TwoRuns
 pub mod Balance
+pub mod Join
 pub mod FirstSeen
 pub mod Examples
 pub mod Log

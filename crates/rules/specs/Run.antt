@@ -35,13 +35,13 @@ pub record State : Type 0 where
   pub graph : Graph
   pub journal : Journal
 
--- Every core fresh, over the graph with which the run starts.
-abbrev pub startingFrom : Graph → State
-startingFrom g = record { is-closed = false; cores = λ i. freshCore; graph = g; journal = emptyJournal }
+-- Every core fresh, over the graph and the journal with which the run starts.
+abbrev pub startingFrom : Graph → Journal → State
+startingFrom g j = record { is-closed = false; cores = λ i. freshCore; graph = g; journal = j }
 
 -- What opening gives: the empty graph.
 abbrev pub start : State
-start = startingFrom emptyGraph
+start = startingFrom emptyGraph emptyJournal
 
 abbrev pub situation : ℕ → State → Bytes → Situation
 situation K s r =

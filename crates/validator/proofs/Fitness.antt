@@ -19,5 +19,5 @@ fit-cored desk sheet seen f bytes numbers =
       cores = s .cores;
       marks = s .graph .marks;
       encodes = fit-encodes desk sheet seen f bytes numbers .in-desk;
-      valid = fit-valid desk sheet seen f bytes .cores;
+      valid = fit-valid desk sheet seen f bytes numbers .cores;
     }

@@ -1,3 +1,4 @@
 pub mod Fitness
+pub mod Carried
 pub mod Outcomes
 pub mod Reports

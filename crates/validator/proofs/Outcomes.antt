@@ -12,19 +12,17 @@ use Rattle.words.specs.Bits.{flag}
 use Rattle.rules.specs.Limits.{maxAccepted}
 use Rattle.rules.specs.Record.{isMalformed, coreOf, eventOf}
 use Rattle.rules.specs.HeldLocks.{Core, afterEvent}
-use Rattle.rules.specs.Marks.{Marks}
-use Rattle.rules.specs.Graph.{Dependencies, Graph}
-use Rattle.rules.specs.Decision.{cyclic}
-use Rattle.rules.specs.Verdict.{Refusal, closed, malformed, countFull, clean, fault, refused, refusalNumber, number, refusal}
-use Rattle.rules.specs.Run.{State, situation, accept, close, Result, step}
+use Rattle.rules.specs.Graph.{Graph}
+use Rattle.rules.specs.Verdict.{Refusal, closed, malformed, countFull, refused, refusalNumber, number, refusal}
+use Rattle.rules.specs.Run.{State, situation, accept, Result, settled, step}
 use Rattle.rules.proofs.Steps.{closed-step, refused-number, accepted-passes}
 use Rattle.validity.specs.Valid.{ValidCore, Valid}
-use Rattle.validity.proofs.Kept.{valid-accept, valid-close}
+use Rattle.validity.proofs.Kept.{valid-accept}
 use Rattle.layout.specs.Layout.{acceptedAt, numberSize, deskSize, sheetSize, seenSize, slipSize, classesOf, closedOf, acceptedOf, AreBytes, KeepsPast}
 use Rattle.layout.specs.Encoding.{DeskBytes, SheetBytes, NumberBytes, SeenBytes, Encodes}
-use Rattle.layout.specs.Decoding.{view, StandFor, Reported}
+use Rattle.layout.specs.Decoding.{view, StandFor, CarriedOut}
 use Rattle.layout.specs.Fit.{fits, fitsAll}
-use Rattle.layout.proofs.Buffers.{keeps-self, keeps-both, keeps-more}
+use Rattle.layout.proofs.Buffers.{keeps-self}
 use Rattle.layout.proofs.Numbers.{number-is, same-value}
 use Rattle.numbers.specs.Numbers.{NumberPut}
 use Rattle.update.proofs.Cores.{count-changed}
@@ -33,7 +31,8 @@ use Rattle.fit.proofs.Fitting.{fit-encodes, fit-valid, encodes-stand}
 use Rattle.cores.specs.Cores.{Cored}
 use Rattle.action.specs.Action.{ActedOn, refuses, accepts, Acted}
 use Rattle.validator.specs.Step.{Validated, Stepped}
-use Rattle.conclusion.specs.Conclude.{withMarks, Sheeted, ConcludedOn, is-clean, is-fault, Concluded}
+use Rattle.conclusion.specs.Conclude.{withMarks, Sheeted, Concluded}
+use Rattle.validator.proofs.Carried.{carried-out}
 
 -- ---- Unfit.
 
@@ -63,7 +62,7 @@ module _ (desk sheet seen slip bytes : List ℕ) where
         let all : fitsAll desk sheet seen slip ≡ true = rw (f, le-leb (slipSize (classesOf desk)) (length slip) room) refl in
         record {
           is-unfit = λ h. absurd (true≢false (sym all ∙ h));
-          validated = λ h. j (view desk sheet seen) (fit-valid desk sheet seen f small) (fit-encodes desk sheet seen f small numbers);
+          validated = λ h. j (view desk sheet seen) (fit-valid desk sheet seen f small numbers) (fit-encodes desk sheet seen f small numbers);
         }
 
     -- What encodes a valid state stands for it.
@@ -189,17 +188,6 @@ module _ (desk sheet seen slip bytes : List ℕ) where
 
       -- ---- What follows an accepted record.
 
-      concluded-at : {desk′ sheet′ seen′ desk″ slip″ : List ℕ} {answer : ℕ} → classesOf desk′ ≡ K
-          → Concluded desk′ sheet′ seen′ slip (coreOf bytes) answer desk″ slip″ → (cores : ℕ → Core) (marks : Marks) (locks : Dependencies) (n : ℕ → ℕ → ℕ)
-          → DeskBytes K false cores marks desk′ → ((i : ℕ) → ValidCore K (cores i)) → SheetBytes K locks sheet′ → ((f t : ℕ) → n f t ≤ maxAccepted)
-          → SeenBytes K n seen′ → ConcludedOn K cores marks locks n (coreOf bytes) desk′ slip answer desk″ slip″
-      concluded-at {desk′} {sheet′} {seen′} {desk″} {slip″} {answer} e c cores marks locks n =
-          subst
-          (λ (k : ℕ).
-          DeskBytes k false cores marks desk′ → ((i : ℕ) → ValidCore k (cores i)) → SheetBytes k locks sheet′ → ((f t : ℕ) → n f t ≤ maxAccepted)
-          → SeenBytes k n seen′ → ConcludedOn k cores marks locks n (coreOf bytes) desk′ slip answer desk″ slip″)
-          e (c .concluded cores marks locks n)
-
       -- The core that the record names, after it.
       named-core : (s : State) → accept s bytes .cores (coreOf bytes) ≡ afterEvent (eventOf bytes) (s .cores (coreOf bytes))
       named-core s = rw (eq-eqb (coreOf bytes) (coreOf bytes) refl) refl
@@ -210,90 +198,25 @@ module _ (desk sheet seen slip bytes : List ℕ) where
       same-graph s =
           ap (λ (c : Core). record { locks = accept s bytes .graph .locks; marks = withMarks (s .graph .marks) c }) (named-core s)
 
-      step-clean : (s : State) → refusal (situation K s bytes) ≡ none → cyclic K (accept s bytes .graph) ≡ false
-          → step K s bytes ≡ record { answer = clean; state = accept s bytes }
-      step-clean s e c = rw (e, c) refl
-
-      step-fault : (s : State) → refusal (situation K s bytes) ≡ none → cyclic K (accept s bytes .graph) ≡ true
-          → step K s bytes ≡ record { answer = fault; state = close (accept s bytes) }
-      step-fault s e c = rw (e, c) refl
-
-      module _ (s : State) {desk′ sheet′ seen′ counted : List ℕ} (v : Valid K s) (enc : Encodes K s desk sheet seen) (o : s .is-closed ≡ false)
-          (p : Accepted s desk′ sheet′ seen′) (P : NumberPut desk′ acceptedAt (suc (acceptedOf desk′)) counted) where
-        abbrev marks′ : Marks
-        marks′ = withMarks (s .graph .marks) (accept s bytes .cores (coreOf bytes))
-
-        abbrev closedAs : Bool → State
-        closedAs b = record { is-closed = b; cores = accept s bytes .cores; graph = accept s bytes .graph; journal = accept s bytes .journal }
-
-        encoded : (b : Bool) {desk″ : List ℕ} → DeskBytes K b (accept s bytes .cores) marks′ desk″ → KeepsPast acceptedAt counted desk″
-            → Encodes K (closedAs b) desk″ sheet′ seen′
-        encoded b {desk″} sb ks =
-            record {
-              in-desk = subst (λ (g : Graph). DeskBytes K b (accept s bytes .cores) (g .marks) desk″) (same-graph s) sb;
-              in-count = λ j l. ks .past (acceptedAt + j) (omega arith) ∙ in-count s v enc p P j l;
-              in-sheet = p .in-sheet;
-              in-seen = p .in-seen;
-            }
-
-        keeps-all : {desk″ : List ℕ} → KeepsPast acceptedAt counted desk″ → KeepsPast deskSize desk desk″
-        keeps-all ks = keeps-both (keeps-counted s v enc p P) (keeps-more (omega arith) ks)
-
-        validate : {answer : ℕ} {desk″ slip″ : List ℕ}
-            → ConcludedOn K (accept s bytes .cores) (s .graph .marks) (accept s bytes .graph .locks) (accept s bytes .journal .seen) (coreOf bytes) counted slip
-            answer desk″ slip″
-            → Validated K s bytes desk sheet seen slip answer desk″ sheet′ seen′ slip″
-        validate {desk″} (is-clean c sb ks) =
-            let e = step-clean s (p .is) (sym (ap (cyclic K) (same-graph s)) ∙ c) in
-            record {
-              number-is = sym (ap (λ (t : Result). number (t .answer)) e);
-              stands = subst (λ (t : Result). StandFor K (t .state) desk″ sheet′ seen′) (sym e)
-                  (stands (valid-accept K s bytes v (p .is))
-                  (subst (λ (b : Bool). Encodes K (closedAs b) desk″ sheet′ seen′) (sym o) (encoded false sb ks)));
-              keeps-desk = keeps-all ks;
-              keeps-sheet = p .keeps-sheet;
-              keeps-seen = p .keeps-seen;
-              refused = λ h. absurd (omega arith);
-              unreported = λ h. refl;
-              reported = λ h. absurd (omega arith);
-            }
-        validate {desk″} {slip″} (is-fault c sb ks r) =
-            let e = step-fault s (p .is) (sym (ap (cyclic K) (same-graph s)) ∙ c) in
-            record {
-              number-is = sym (ap (λ (t : Result). number (t .answer)) e);
-              stands = subst (λ (t : Result). StandFor K (t .state) desk″ sheet′ seen′) (sym e)
-                  (stands (valid-close (valid-accept K s bytes v (p .is))) (encoded true sb ks));
-              keeps-desk = keeps-all ks;
-              keeps-sheet = p .keeps-sheet;
-              keeps-seen = p .keeps-seen;
-              refused = λ h. absurd (omega arith);
-              unreported = λ h. absurd (h refl);
-              reported = λ h.
-                  subst (λ (t : Result). Reported K (t .state .graph) (t .state .journal .seen) slip slip″) (sym e)
-                  (subst (λ (g : Graph). Reported K g (accept s bytes .journal .seen) slip slip″) (same-graph s) r);
-            }
-
       pub is-validated : {desk′ sheet′ seen′ counted desk″ slip″ : List ℕ} {before answer : ℕ} → Acted desk sheet seen bytes before desk′ sheet′ seen′ → before ≡ 0
           → NumberPut desk′ acceptedAt (suc (acceptedOf desk′)) counted → Concluded counted sheet′ seen′ slip (coreOf bytes) answer desk″ slip″
           → Stepped desk sheet seen slip bytes answer desk″ sheet′ seen′ slip″
-      is-validated {counted = counted} a z P c =
+      is-validated {sheet′ = sheet′} {seen′} {counted} {desk″} {slip″} {answer = answer} a z P c =
           fit-law
           (λ s v enc.
           let o = opened s enc in
           let p = accepted-as (a .acted s o v enc) z in
-          let valid = valid-accept K s bytes v (p .is) in
-          let sb = counted-bytes s v enc p P in
-          validate s v enc o p P
-          (concluded-at (sb .classes) c (accept s bytes .cores) (s .graph .marks) (accept s bytes .graph .locks) (accept s bytes .journal .seen)
-          (subst (λ (b : Bool). DeskBytes K b (accept s bytes .cores) (s .graph .marks) counted) o sb) (valid .cores) (p .in-sheet)
-          (λ f t. let x = valid .journal .at-most f t in let y = valid .journal .limit in omega arith) (p .in-seen)))
+          subst (λ (o : Result). CarriedOut K o desk sheet seen slip answer desk″ sheet′ seen′ slip″) (sym (ap (settled K s bytes) (p .is)))
+          (carried-out K (coreOf bytes) (accept s bytes) (s .graph .marks) desk sheet seen slip counted sheet′ seen′ (facts desk sheet seen f .some) (facts desk sheet seen f .few) (valid-accept K s bytes v (p .is)) o
+          (same-graph s) (subst (λ (b : Bool). DeskBytes K b (accept s bytes .cores) (s .graph .marks) counted) o (counted-bytes s v enc p P))
+          (in-count s v enc p P) (p .in-sheet) (p .in-seen) (keeps-counted s v enc p P) (p .keeps-sheet) (p .keeps-seen) c))
 
       -- The count is given what it asks for: it was not full.
       pub count-ready : {desk′ sheet′ seen′ : List ℕ} {answer : ℕ} → Acted desk sheet seen bytes answer desk′ sheet′ seen′ → answer ≡ 0
           → (deskSize ≤ length desk′) × (acceptedOf desk′ < maxAccepted)
       count-ready {desk′} a z =
           let s = view desk sheet seen in
-          let v = fit-valid desk sheet seen f small in
+          let v = fit-valid desk sheet seen f small numbers in
           let enc = fit-encodes desk sheet seen f small numbers in
           let p = accepted-as (a .acted s (opened s enc) v enc) z in
           let e : acceptedOf desk′ ≡ acceptedOf desk = same-value numberSize desk′ desk acceptedAt (λ j l. p .keeps-desk .past (acceptedAt + j) (omega arith)) in
@@ -306,7 +229,7 @@ module _ (desk sheet seen slip bytes : List ℕ) where
           → Cored counted × Sheeted (classesOf counted) sheet′ × (seenSize (classesOf counted) ≤ length seen′) × (slipSize (classesOf counted) ≤ length slip)
       conclude-ready {sheet′ = sheet′} a z P =
           let s = view desk sheet seen in
-          let v = fit-valid desk sheet seen f small in
+          let v = fit-valid desk sheet seen f small numbers in
           let enc = fit-encodes desk sheet seen f small numbers in
           let p = accepted-as (a .acted s (opened s enc) v enc) z in
           let e = counted-bytes s v enc p P .classes in (

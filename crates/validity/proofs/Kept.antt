@@ -19,10 +19,11 @@ use Rattle.rules.specs.Marks.{Level, hardIrq, softIrq, Usage, unsafe, setIn, le
 use Rattle.rules.specs.Graph.{Kind, Dependencies, Graph, emptyGraph, addTo, drawnBy}
 use Rattle.rules.specs.KindNames.{someKind}
 use Rattle.rules.specs.Verdict.{Refusal, applies, malformed, noClass, noTransition, stillHeld, tooDeep, countFull, classMissing, transitionMissing, someLock, leavesLocked, frameFull, refusal}
+use Rattle.rules.specs.Join.{joinedGraph, joinedJournal, joinedState}
 use Rattle.rules.specs.Run.{Journal, emptyJournal, withRecord, State, startingFrom, start, situation, drawnWith, accept, close, Result, step, run}
 use Rattle.rules.proofs.Booleans.{or-cases, or-left, or-mono, and-cases, and-mono}
 use Rattle.rules.proofs.Formed.{well-formed}
-use Rattle.rules.proofs.Journals.{numbered-kept}
+use Rattle.rules.proofs.Journals.{numbered-kept, numbered-joined}
 use Rattle.rules.proofs.Steps.{StepCases, was-refused, was-clean, was-fault, stepped, accepted-passes}
 use Rattle.validity.specs.Valid.{ValidLock, ValidLocks, ValidCore, ValidGraph, ValidJournal, Valid}
 use Rattle.validity.proofs.Contexts.{eventCount, FrameStates, soft-states, hard-states, current-may, next-in-range, next-may, frame-last}
@@ -196,8 +197,8 @@ graph-kept K g ev c w v after n =
 
 -- ---- States.
 
-pub valid-startingFrom : (K : ℕ) (g : Graph) → ValidGraph K g → ValidJournal (g .locks) emptyJournal → Valid K (startingFrom g)
-valid-startingFrom K g w j =
+pub valid-startingFrom : (K : ℕ) (g : Graph) (j : Journal) → ValidGraph K g → ValidJournal (g .locks) j → Valid K (startingFrom g j)
+valid-startingFrom K g j w v =
     record {
       cores = λ i. record {
         states = zero-le;
@@ -209,18 +210,47 @@ valid-startingFrom K g w j =
       };
       no-more = λ i l. refl;
       graph = w;
-      journal = j;
+      journal = v;
     }
 
 pub valid-start : (K : ℕ) → Valid K start
 valid-start K =
-    valid-startingFrom K emptyGraph
+    valid-startingFrom K emptyGraph emptyJournal
     (record {
       marks-in-range = λ c l u h. absurd (false≢true h);
       soft-unsafe = λ c a h. absurd (false≢true h);
       locks-in-range = λ f t k h. absurd (false≢true h);
     })
     (record { limit = zero-le; at-most = λ f t. zero-le; numbered = λ f t. refl })
+
+-- ---- Two benches joined.
+
+graphs-joined : (K : ℕ) (g h : Graph) → ValidGraph K g → ValidGraph K h → ValidGraph K (joinedGraph g h)
+graphs-joined K g h v w =
+    record {
+      marks-in-range = λ a l u e. ⊎-elim (v .marks-in-range a l u) (w .marks-in-range a l u) (or-cases (g .marks a l u) _ e);
+      soft-unsafe = λ a i. or-mono (g .marks a softIrq (unsafe i)) _ (v .soft-unsafe a i) (w .soft-unsafe a i);
+      locks-in-range = λ f t k e. ⊎-elim (v .locks-in-range f t k) (w .locks-in-range f t k) (or-cases (g .locks f t k) _ e);
+    }
+
+journals-joined : (d e : Dependencies) (i j : Journal) → ValidJournal d i → ValidJournal e j
+    → ValidJournal (λ f t k. d f t k || e f t k) (joinedJournal i j)
+journals-joined d e i j v w =
+    record {
+      limit = zero-le;
+      at-most = λ f t. by (eqb (i .seen f t) 0) f t;
+      numbered = λ f t. numbered-joined (i .seen f t) (j .seen f t) (d f t) (e f t) (v .numbered f t) (w .numbered f t);
+    }
+  where
+    by : (b : Bool) (f t : ℕ) → cond b (j .seen f t) (i .seen f t) ≤ maxAccepted
+    by true f t = w .at-most f t
+    by false f t = v .at-most f t
+
+pub valid-joined : {K : ℕ} {s t : State} → Valid K s → Valid K t → Valid K (joinedState s t)
+valid-joined {K} {s} {t} v w =
+    valid-startingFrom K (joinedGraph (s .graph) (t .graph)) (joinedJournal (s .journal) (t .journal))
+    (graphs-joined K (s .graph) (t .graph) (v .graph) (w .graph))
+    (journals-joined (s .graph .locks) (t .graph .locks) (s .journal) (t .journal) (v .journal) (w .journal))
 
 -- An accepted record's number is one more than the count, which is below its limit.
 journal-kept : (locks drawn : Dependencies) (j : Journal) → ValidJournal locks j → leb maxAccepted (j .accepted) ≡ false
@@ -232,9 +262,9 @@ journal-kept locks drawn j v h =
       numbered = λ f t. numbered-kept j locks drawn f t (v .numbered f t);
     }
   where
-    by : (b : Bool) (f t : ℕ) → cond b (suc (j .accepted)) (j .seen f t) ≤ suc (j .accepted)
-    by true f t = omega arith
-    by false f t = let l = v .at-most f t in omega arith
+    by : (b : Bool) (f t : ℕ) → cond b (suc (j .accepted)) (j .seen f t) ≤ maxAccepted
+    by true f t = let l = leb-false maxAccepted (j .accepted) h in omega arith
+    by false f t = v .at-most f t
 
 pub valid-accept : (K : ℕ) (s : State) (r : Bytes) → Valid K s → refusal (situation K s r) ≡ none → Valid K (accept s r)
 valid-accept K s r v h =

@@ -36,10 +36,10 @@ pub record ValidGraph (K : ℕ) (g : Graph) : Type 0 where
   pub soft-unsafe : (c : ℕ) (a : First) → g .marks c softIrq (unsafe a) ≡ true → g .marks c hardIrq (unsafe a) ≡ true
   pub locks-in-range : (f t : ℕ) (k : Kind) → g .locks f t k ≡ true → (f < K) × (t < K)
 
--- The count is in its limit, no number is above it, and a pair has one exactly where it has a lock dependency.
+-- The count and the numbers are in their limit, and a pair has a number exactly where it has a lock dependency. (02, i: a number may be above the count.)
 pub record ValidJournal (locks : Dependencies) (j : Journal) : Type 0 where
   pub limit : j .accepted ≤ maxAccepted
-  pub at-most : (f t : ℕ) → j .seen f t ≤ j .accepted
+  pub at-most : (f t : ℕ) → j .seen f t ≤ maxAccepted
   pub numbered : (f t : ℕ) → eqb (j .seen f t) 0 ≡ not (someKind (locks f t))
 
 pub record Valid (K : ℕ) (s : State) : Type 0 where

@@ -8,15 +8,15 @@ use Rattle.balance_text.proofs.put_text.Tie as tie
 balance-of-requires : tie.Need-balance-of-requires
 balance-of-requires c κs = search needs
 
-put-refused-requires : tie.Need-put-refused-requires
-put-refused-requires c κs = search needs
+put-refusal-requires : tie.Need-put-refusal-requires
+put-refusal-requires c κs = search needs
 
 same-length : tie.Need-same-length
 same-length c = search needs
 
 returns : tie.Need-returns
 returns c =
-    as-text (text-refused (c .before .before .before .before .before .before .before .before .before .args .piece .now) (c .before .before .before .before .before .balance-of .ensures) (c .before .before .before .before .if1 .taken)) (c .before .before .put-refused .ensures)
+    as-text (text-refused (c .before .before .before .before .before .before .before .before .before .args .piece .now) (c .before .before .before .before .before .balance-of .ensures) (c .before .before .before .before .if1 .taken)) (c .before .before .put-refusal .ensures)
 
 put-balances-requires : tie.Need-put-balances-requires
 put-balances-requires c κs =
@@ -35,7 +35,7 @@ put-text-spec =
     tie.close
     (tie.spec
     balance-of-requires
-    put-refused-requires
+    put-refusal-requires
     same-length
     returns
     put-balances-requires

@@ -1,5 +1,5 @@
 -- The code's tests are those of the definition, in its order.
-use mathlib.Core.Path.{_≡_, sym, _∙_, ap}
+use mathlib.Core.Path.{_≡_, sym, _∙_}
 use mathlib.Core.Bool.{true, false}
 use mathlib.Core.List.{List}
 use Prim.Native.Nat.{ℕ, _≤_, _<_}
@@ -7,7 +7,7 @@ use native.Mathlib.Nat.{mul-le-mul}
 use native.Mathlib.Omega.{arith}
 use lib.ListN.{length}
 use borrow.Author.Tests.{le-leb, lt-leb, not-true, not-false}
-use Rattle.layout.specs.Layout.{classesAt, sheetSize, seenSize, classesOf, acceptedOf}
+use Rattle.layout.specs.Layout.{classesAt, sheetSize, seenSize, classesOf}
 use Rattle.layout.specs.Fit.{allBelow, graphFits, numberFits, numbersFit, fits}
 use Rattle.fit.proofs.Facts.{graph-facts}
 use Rattle.fit.proofs.fits.Statement.{statement}
@@ -16,7 +16,6 @@ use Rattle.fit.proofs.fits.Reads as reads
 use Rattle.fit.proofs.fits.Lts as lts
 use Rattle.fit.proofs.graph_fits.Reads as graph-fits-reads
 use Rattle.fit.proofs.numbers_fit.Reads as numbers-fit-reads
-use Rattle.numbers.proofs.number_at.Reads as number-at-reads
 
 module _ (desk sheet seen : List ℕ) where
   bad-graph : graphFits desk sheet ≡ false → false ≡ fits desk sheet seen
@@ -29,7 +28,7 @@ module _ (desk sheet seen : List ℕ) where
     short-seen h = rw (graph, lt-leb _ _ h)
 
     all-but : seenSize (classesOf desk) ≤ length seen
-        → allBelow (sheetSize (classesOf desk)) (numberFits (acceptedOf desk) sheet seen) ≡ fits desk sheet seen
+        → allBelow (sheetSize (classesOf desk)) (numberFits sheet seen) ≡ fits desk sheet seen
     unfolding fits numbersFit
     all-but h = rw (graph, le-leb _ _ h)
 
@@ -60,20 +59,15 @@ returns-2 : tie.Need-returns-2
 returns-2 c =
     short-seen _ _ _ (sym (c .before .before .before .graph-fits .ensures) ∙ not-false _ (c .before .before .if1 .left)) (c .if2 .taken)
 
-number-at-requires : tie.Need-number-at-requires
-number-at-requires c κs =
-    omega (arith, graph-facts _ _ (sym (c .before .before .before .graph-fits .ensures) ∙ not-false _ (c .before .before .if1 .left)) .long)
-
 numbers-fit-requires : tie.Need-numbers-fit-requires
 numbers-fit-requires c κs =
-    let f = graph-facts _ _ (sym (c .before .before .before .before .graph-fits .ensures) ∙ not-false _ (c .before .before .before .if1 .left)) in
-    (f .square, c .before .if2 .left, mul-le-mul (f .few) (f .few))
+    let f = graph-facts _ _ (sym (c .before .before .before .graph-fits .ensures) ∙ not-false _ (c .before .before .if1 .left)) in
+    (f .square, c .if2 .left, mul-le-mul (f .few) (f .few))
 
 returns-3 : tie.Need-returns-3
 returns-3 c =
     c .numbers-fit .ensures
-    ∙ ap (λ (a : ℕ). allBelow (sheetSize (classesOf (c .before .before .before .before .before .before .before .before .before .args .desk .now))) (numberFits a (c .before .before .before .before .before .before .before .before .before .args .sheet .now) (c .before .before .before .before .before .before .before .before .before .args .seen .now))) (c .before .number-at .ensures)
-    ∙ all-but _ _ _ (sym (c .before .before .before .before .before .graph-fits .ensures) ∙ not-false _ (c .before .before .before .before .if1 .left)) (c .before .before .if2 .left)
+    ∙ all-but _ _ _ (sym (c .before .before .before .before .graph-fits .ensures) ∙ not-false _ (c .before .before .before .if1 .left)) (c .before .if2 .left)
 
 pub fits-spec : {M : Type 1} → statement M
 fits-spec =
@@ -86,6 +80,5 @@ fits-spec =
     mul-size
     mul-if2
     returns-2
-    number-at-requires
     numbers-fit-requires
     returns-3)

@@ -14,13 +14,13 @@ put-word-requires : tie.Need-put-word-requires
 put-word-requires c κs = search needs
 
 put-number-requires : tie.Need-put-number-requires
-put-number-requires c κs = let s = c .before .before .before .before .before .before .before in omega (arith, places-of-word (s .args .at) (omega arith))
+put-number-requires c κs = let s = c .before .before .before .before .before .before .before in omega (arith, places-of-word (s .args .number) (omega arith))
 
 slice-aggregate-put-word-2 : tie.Need-slice-aggregate-put-word-2
 slice-aggregate-put-word-2 c = search needs
 
 put-word-requires-2 : tie.Need-put-word-requires-2
-put-word-requires-2 c κs = let s = c .before .before .before .before .before .before .before .before .before .before .before .before in omega (arith, places-of-word (s .args .at) (omega arith))
+put-word-requires-2 c κs = let s = c .before .before .before .before .before .before .before .before .before .before .before .before in omega (arith, places-of-word (s .args .number) (omega arith))
 
 same-length : tie.Need-same-length
 same-length c = search needs

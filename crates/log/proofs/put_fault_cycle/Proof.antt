@@ -12,7 +12,7 @@ put-fault-requires c κs = search needs
 put-cycle-requires : tie.Need-put-cycle-requires
 put-cycle-requires c κs =
     let s = c .before .before .before .before .before .before .before in
-    (omega (arith, fault-short (s .args .at) (omega arith), c .before .before .before .put-fault .ensures .end-is, c .before .before .before .put-fault .kept .0), s .pre .1, s .pre .2)
+    (omega (arith, fault-short (s .args .number) (omega arith), c .before .before .before .put-fault .ensures .end-is, c .before .before .before .put-fault .kept .0), s .pre .1, s .pre .2)
 
 same-length : tie.Need-same-length
 same-length c = search needs

@@ -27,13 +27,13 @@ put-word-requires-2 : tie.Need-put-word-requires-2
 put-word-requires-2 c κs = omega (arith, places-of-byte (c .before .before .before .before .before .wide .result) (omega arith))
 
 put-number-requires-2 : tie.Need-put-number-requires-2
-put-number-requires-2 c κs = omega (arith, places-of-byte (c .before .before .before .before .before .before .before .before .before .wide .result) (omega arith), places-of-word (c .before .before .before .before .before .before .before .before .before .before .before .before .before .before .before .before .before .args .at) (omega arith))
+put-number-requires-2 c κs = omega (arith, places-of-byte (c .before .before .before .before .before .before .before .before .before .wide .result) (omega arith), places-of-word (c .before .before .before .before .before .before .before .before .before .before .before .before .before .before .before .before .before .args .number) (omega arith))
 
 slice-aggregate-put-word-3 : tie.Need-slice-aggregate-put-word-3
 slice-aggregate-put-word-3 c = search needs
 
 put-word-requires-3 : tie.Need-put-word-requires-3
-put-word-requires-3 c κs = omega (arith, places-of-byte (c .before .before .before .before .before .before .before .before .before .before .before .before .before .before .wide .result) (omega arith), places-of-word (c .before .before .before .before .before .before .before .before .before .before .before .before .before .before .before .before .before .before .before .before .before .before .args .at) (omega arith))
+put-word-requires-3 c κs = omega (arith, places-of-byte (c .before .before .before .before .before .before .before .before .before .before .before .before .before .before .wide .result) (omega arith), places-of-word (c .before .before .before .before .before .before .before .before .before .before .before .before .before .before .before .before .before .before .before .before .before .before .args .number) (omega arith))
 
 same-length : tie.Need-same-length
 same-length c = search needs

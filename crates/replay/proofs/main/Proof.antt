@@ -6,7 +6,7 @@ use Rattle.replay.proofs.main.Statement.{statement}
 use Rattle.replay.proofs.main.Tie as tie
 use Rattle.replay.proofs.main.Reads as reads
 use Rattle.replay.proofs.main.Lts as lts
-use Rattle.replay.proofs.print.Reads as print-reads
+use Rattle.files.proofs.print.Reads as print-reads
 use Rattle.replay.proofs.text_of_input.Reads as text-of-input-reads
 
 slice-aggregate-text-of-input : tie.Need-slice-aggregate-text-of-input

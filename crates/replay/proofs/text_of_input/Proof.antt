@@ -1,5 +1,5 @@
 -- `replay::text_of_input` meets its contract. Assumes nothing.
-use Rattle.replay.proofs.Reading.{shown}
+use Rattle.files.proofs.Reading.{shown}
 use borrow.Author.Needs.{needs}
 use Rattle.replay.proofs.text_of_input.Statement.{statement}
 use Rattle.replay.proofs.text_of_input.Tie as tie
@@ -7,7 +7,7 @@ use Rattle.replay.proofs.text_of_input.Reads as reads
 use Rattle.replay.proofs.text_of_input.Lts as lts
 use Rattle.outcome.proofs.is_answer.Reads as is-answer-reads
 use Rattle.log.proofs.put_text.Reads as put-text-reads
-use Rattle.replay.proofs.replay.Reads as replay-reads
+use Rattle.files.proofs.replay.Reads as replay-reads
 
 replay-requires : tie.Need-replay-requires
 replay-requires c κs = search needs
