@@ -1,11 +1,10 @@
 -- The text of a join of two logs, in ASCII: the words of a log's own text, without the number of a record.
-use mathlib.Core.Bool.{cond}
+use mathlib.Core.Bool.{Bool, true, false, cond}
 use mathlib.Core.List.{List, [], _∷_, _++_}
 use Prim.Native.Nat.{ℕ, zero, suc}
 use Rattle.layout.specs.Slip.{entriesOf}
 use Rattle.benches.specs.Benches.{Bench}
 use Rattle.joiner.specs.Joining.{Joined}
-use Rattle.outcome.specs.Outcomes.{isClean}
 use Rattle.outcome.specs.declared.Outcome.{Outcome}
 use Rattle.log.specs.Text.{refusedLine, cycleText, Appended, textOf}
 
@@ -22,6 +21,13 @@ abbrev pub joinedText : (answer : ℕ) (slip : List ℕ) → List ℕ
 joinedText zero slip = cleanLine
 joinedText (suc zero) slip = faultLine ++ cycleText (entriesOf slip)
 joinedText (suc (suc a)) slip = refusedLine (suc (suc a))
+
+-- Each record was accepted and clean, up to the end of the log.
+abbrev pub isClean : Outcome → Bool
+isClean (Outcome.Clean n) = true
+isClean (Outcome.Refused answer i) = false
+isClean (Outcome.Fault i) = false
+isClean Outcome.Unread = false
 
 -- What a log says by itself where it is not clean: its name, as "log 1: ", and its own text.
 abbrev pub ownText : (name : List ℕ) → Outcome → (slip : List ℕ) → List ℕ

@@ -7,7 +7,6 @@ use log::put_refusal;
 use log::put_text;
 use log::put_word;
 use outcome::Outcome;
-use outcome::is_clean;
 ghost use mathlib.Core.Path.{_≡_};
 ghost use mathlib.Core.List.{_++_};
 ghost use Prim.Native.Nat.{_+_, _≤_};
@@ -17,7 +16,7 @@ ghost use Rattle.layout.specs.Layout.{slipSize, countOf};
 ghost use Rattle.layout.specs.Slip.{entriesOf};
 ghost use Rattle.benches.specs.Benches.{bench};
 ghost use Rattle.log.specs.Text.{cycleText, lineSize, cycleSize, Appended, Showable};
-ghost use Rattle.join_text.specs.JoinText.{faultLine, joinedText, ownText, JoinTold};
+ghost use Rattle.join_text.specs.JoinText.{faultLine, joinedText, isClean, ownText, JoinTold};
 
 // "fault", and the cycle of the slip.
 fn put_fault(out: &mut [u8], slip: &[u8]) -> usize
@@ -72,6 +71,18 @@ pub fn tell_join(
         slip,
     );
     put_joined(out, answer, slip)
+}
+
+// Whether each record was accepted and clean, up to the end of the log.
+pub fn is_clean(outcome: Outcome) -> bool
+    ensures { λ r. ⌜ r ≡ isClean outcome ⌝ }
+{
+    match outcome {
+        Outcome::Clean(_records) => true,
+        Outcome::Refused(_answer, _at) => false,
+        Outcome::Fault(_at) => false,
+        Outcome::Unread => false,
+    }
 }
 
 // What a log says by itself where it is not clean, behind its name.

@@ -9,12 +9,6 @@ outcomeOf zero n = Outcome.Clean n
 outcomeOf (suc zero) n = Outcome.Fault n
 outcomeOf (suc (suc a)) n = Outcome.Refused (suc (suc a)) n
 
-abbrev pub isClean : Outcome → Bool
-isClean (Outcome.Clean n) = true
-isClean (Outcome.Refused answer i) = false
-isClean (Outcome.Fault i) = false
-isClean Outcome.Unread = false
-
 abbrev pub isAnswer : Outcome → Bool
 isAnswer (Outcome.Clean n) = true
 isAnswer (Outcome.Refused answer i) = true

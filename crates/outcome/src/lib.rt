@@ -2,7 +2,7 @@
 use answers::FAULT;
 use answers::OK;
 ghost use mathlib.Core.Path.{_≡_};
-ghost use Rattle.outcome.specs.Outcomes.{outcomeOf, isClean, isAnswer};
+ghost use Rattle.outcome.specs.Outcomes.{outcomeOf, isAnswer};
 
 // What came of a log.
 pub enum Outcome {
@@ -26,18 +26,6 @@ pub fn outcome_of(answer: u8, number: u64) -> Outcome
         return Outcome::Fault(number);
     }
     Outcome::Refused(answer, number)
-}
-
-// Whether each record was accepted and clean, up to the end of the log.
-pub fn is_clean(outcome: Outcome) -> bool
-    ensures { λ r. ⌜ r ≡ isClean outcome ⌝ }
-{
-    match outcome {
-        Outcome::Clean(_records) => true,
-        Outcome::Refused(_answer, _at) => false,
-        Outcome::Fault(_at) => false,
-        Outcome::Unread => false,
-    }
 }
 
 // Whether the text is an answer, for standard output, or a complaint, for standard error.

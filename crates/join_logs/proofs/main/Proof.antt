@@ -13,7 +13,7 @@ use Rattle.join_logs.proofs.open_log.Reads as open-log-reads
 use Rattle.join_logs.proofs.tell_own.Reads as tell-own-reads
 use Rattle.join_text.proofs.tell_join.Reads as tell-join-reads
 use Rattle.outcome.proofs.is_answer.Reads as is-answer-reads
-use Rattle.outcome.proofs.is_clean.Reads as is-clean-reads
+use Rattle.join_text.proofs.is_clean.Reads as is-clean-reads
 
 open-log-requires : tie.Need-open-log-requires
 open-log-requires c κs = search needs

@@ -3,11 +3,10 @@ use mathlib.Core.Bool.{Bool, true, false, cond}
 use mathlib.Core.List.{List, [], _++_}
 use Prim.Native.Nat.{ℕ}
 use native.Mathlib.Omega.{arith}
-use Rattle.outcome.specs.Outcomes.{isClean}
 use Rattle.outcome.specs.declared.Outcome.{Outcome}
 use Rattle.log.specs.Text.{Appended, textOf}
 use Rattle.log.proofs.Writing.{appended-both, as-text}
-use Rattle.join_text.specs.JoinText.{ownText}
+use Rattle.join_text.specs.JoinText.{isClean, ownText}
 use borrow.Author.Needs.{needs}
 use Rattle.join_text.proofs.put_own.Statement.{statement}
 use Rattle.join_text.proofs.put_own.Tie as tie
@@ -15,7 +14,7 @@ use Rattle.join_text.proofs.put_own.Reads as reads
 use Rattle.join_text.proofs.put_own.Lts as lts
 use Rattle.log.proofs.put_text.Reads as put-text-reads
 use Rattle.log.proofs.put_word.Reads as put-word-reads
-use Rattle.outcome.proofs.is_clean.Reads as is-clean-reads
+use Rattle.join_text.proofs.is_clean.Reads as is-clean-reads
 
 nothing : (out : List ℕ) → Appended out 0 [] out 0
 nothing out = record { end-is = refl; bytes = refl; inside = omega arith }
