@@ -32,7 +32,7 @@ use Rattle.validator.proofs.Carried.{carried-out}
 use Rattle.benches.specs.Benches.{Bench, benchFits, benchState, benchClasses, isClosed, larger, hasRoom, joinUnfit, joinRefusal}
 use Rattle.benches.proofs.Refusals.{refusal-high}
 use Rattle.joiner.specs.Joining.{Joined}
-use Rattle.joiner.specs.Parts.{Ready, Drawn}
+use Rattle.joiner.specs.Parts.{Ready, DrawnOfBoth}
 
 -- A fresh core marks nothing.
 fresh-marks : (marks : Marks) → withMarks marks freshCore ≡ marks
@@ -127,7 +127,7 @@ module _ (one two : Bench) (desk sheet seen slip : List ℕ) where
     -- ---- What is drawn. The four facts are that the bytes of the benches are bytes.
 
     module _ (small₁ : AreBytes deskSize (one .desk)) (numbers₁ : AreBytes (seenSize K) (one .seen)) (small₂ : AreBytes deskSize (two .desk))
-        (numbers₂ : AreBytes (seenSize (benchClasses two)) (two .seen)) {desk′ sheet′ seen′ : List ℕ} (D : Drawn one two desk sheet seen desk′ sheet′ seen′) where
+        (numbers₂ : AreBytes (seenSize (benchClasses two)) (two .seen)) {desk′ sheet′ seen′ : List ℕ} (D : DrawnOfBoth one two desk sheet seen desk′ sheet′ seen′) where
       abbrev t : State
       t = joinedState (benchState one) (benchState two)
 

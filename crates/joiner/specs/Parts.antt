@@ -22,7 +22,7 @@ pub record Ready (one two : Bench) (desk sheet seen : List ℕ) : Type 0 where
   pub seen-room : seenSize (classesOf (one .desk)) ≤ length seen
 
 -- Desk and sheets as the join writes them, before the search: a fresh desk with the marks, the kinds, the numbers.
-pub record Drawn (one two : Bench) (desk sheet seen desk′ sheet′ seen′ : List ℕ) : Type 0 where
+pub record DrawnOfBoth (one two : Bench) (desk sheet seen desk′ sheet′ seen′ : List ℕ) : Type 0 where
   pub marks : United (one .desk) (two .desk) marksAt (marksAt + maxClasses) (openedDesk (classesOf (one .desk)) desk) desk′
   pub kinds : United (one .sheet) (two .sheet) 0 (sheetSize (classesOf (one .desk))) sheet sheet′
   pub numbers : NumbersJoined (one .seen) (two .seen) (sheetSize (classesOf (one .desk))) seen seen′

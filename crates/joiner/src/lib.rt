@@ -10,7 +10,7 @@ use uniting::join_numbers;
 use uniting::unite;
 ghost use Rattle.benches.specs.Benches.{bench};
 ghost use Rattle.joiner.specs.Joining.{Joined};
-ghost use Rattle.joiner.specs.Parts.{Ready, Drawn};
+ghost use Rattle.joiner.specs.Parts.{Ready, DrawnOfBoth};
 
 // A fresh desk with the marks of both benches, and their kinds and numbers.
 fn draw(
@@ -25,7 +25,7 @@ fn draw(
     seen: &mut [u8],
 )
     requires { ⌜ Ready (bench (now desk1) (now sheet1) (now seen1)) (bench (now desk2) (now sheet2) (now seen2)) (now desk) (now sheet) (now seen) ⌝ }
-    ensures { λ _. ⌜ Drawn (bench (now (desk1 .entry)) (now (sheet1 .entry)) (now (seen1 .entry))) (bench (now (desk2 .entry)) (now (sheet2 .entry)) (now (seen2 .entry))) (now (desk .entry)) (now (sheet .entry)) (now (seen .entry)) (now (desk .exit)) (now (sheet .exit)) (now (seen .exit)) ⌝ }
+    ensures { λ _. ⌜ DrawnOfBoth (bench (now (desk1 .entry)) (now (sheet1 .entry)) (now (seen1 .entry))) (bench (now (desk2 .entry)) (now (sheet2 .entry)) (now (seen2 .entry))) (now (desk .entry)) (now (sheet .entry)) (now (seen .entry)) (now (desk .exit)) (now (sheet .exit)) (now (seen .exit)) ⌝ }
 {
     let classes = desk1[CLASSES_AT];
     let k = classes as usize;

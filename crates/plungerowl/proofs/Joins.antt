@@ -19,7 +19,7 @@ use Rattle.rules.specs.Run.{State, run}
 use Rattle.rules.specs.Join.{join}
 use Rattle.rules.specs.Log.{Outcome}
 use Rattle.rules.proofs.LeastCycles.{least-one}
-use Rattle.rules.proofs.Joined.{join-either-way, join-exactly, joined-as}
+use Rattle.rules.proofs.Joined.{or-swap, join-either-way, join-exactly, joined-as}
 use Rattle.layout.specs.Layout.{acceptedAt, numberSize, entriesAt, entrySize, entryNumberAt, slipSize, KeepsPast}
 use Rattle.layout.specs.Number.{bytesOf}
 use Rattle.layout.specs.Encoding.{DeskBytes, SheetBytes, NumberBytes}
@@ -94,12 +94,6 @@ or-swap₂ true true c = refl
 or-swap₂ true false c = refl
 or-swap₂ false true c = refl
 or-swap₂ false false c = refl
-
-or-swap : (a b : Bool) → (a || b) ≡ (b || a)
-or-swap true true = refl
-or-swap true false = refl
-or-swap false true = refl
-or-swap false false = refl
 
 larger-swap : (k k′ : ℕ) → larger k k′ ≡ larger k′ k
 larger-swap k k′ =
@@ -228,11 +222,11 @@ join-either-order {one} {two} {b} {b₁} {b₂} {x} {y} p q =
 -- ---- Two logs.
 
 -- The state that a whole log leaves, from its bytes alone.
-abbrev pub stateOf : Buffers → (log : List ℕ) → State
-stateOf b log = outcomeFor (classesIn log) (leb (slipSize (classesIn log)) (length (b .slip))) (recordsIn log true) .state
+abbrev pub stateAfter : Buffers → (log : List ℕ) → State
+stateAfter b log = outcomeFor (classesIn log) (leb (slipSize (classesIn log)) (length (b .slip))) (recordsIn log true) .state
 
 clean-stands : {b b′ : Buffers} {log : List ℕ} {answer number : ℕ} → WholeLog b log true answer number b′ → answer ≡ 0
-    → StandFor (classesIn log) (stateOf b log) (b′ .desk) (b′ .sheet) (b′ .seen)
+    → StandFor (classesIn log) (stateAfter b log) (b′ .desk) (b′ .sheet) (b′ .seen)
 clean-stands (short-header l) z = absurd (omega arith)
 clean-stands (bad-header l e) z = absurd (omega arith)
 clean-stands {log = log} (by-rules {b′ = b′} o l e q left) z =
@@ -240,9 +234,9 @@ clean-stands {log = log} (by-rules {b′ = b′} o l e q left) z =
 
 -- Clean logs whose benches are joined, as the command does: what is joined are the graphs of their records, and nothing else.
 pub logs-joined : {b₁ c₁ b₂ c₂ b b′ : Buffers} {log₁ log₂ : List ℕ} {n₁ n₂ answer : ℕ} → WholeLog b₁ log₁ true 0 n₁ c₁ → WholeLog b₂ log₂ true 0 n₂ c₂
-    → CalledJoin (benchOf c₁) (benchOf c₂) b answer b′ → answer ≤ 1 → JoinedFrom (classesIn log₁) (stateOf b₁ log₁) (stateOf b₂ log₂) answer b b′
+    → CalledJoin (benchOf c₁) (benchOf c₂) b answer b′ → answer ≤ 1 → JoinedFrom (classesIn log₁) (stateAfter b₁ log₁) (stateAfter b₂ log₂) answer b b′
 logs-joined {b₁} {c₁} {b₂} {b = b} {b′} {log₁} {log₂} {answer = answer} w₁ w₂ p l =
     let h = clean-stands w₁ refl in
     let g = clean-stands w₂ refl in
-    subst (λ (k : ℕ). JoinedFrom k (stateOf b₁ log₁) (stateOf b₂ log₂) answer b b′) (h .classes)
+    subst (λ (k : ℕ). JoinedFrom k (stateAfter b₁ log₁) (stateAfter b₂ log₂) answer b b′) (h .classes)
     (subst₂ (λ (x y : State). JoinedFrom (benchClasses (benchOf c₁)) x y answer b b′) (h .is-view) (g .is-view) (join-from {b = b} {b′ = b′} p l))

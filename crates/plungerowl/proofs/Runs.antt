@@ -33,7 +33,7 @@ use Rattle.validator.specs.Calls.{Buffers, buffers, Called}
 use Rattle.benches.specs.Benches.{Bench, benchClasses, benchState, joinRefusal}
 use Rattle.joiner.specs.Joining.{Joined}
 use Rattle.benches.proofs.Refusals.{refusal-high}
-use Rattle.plungerowl.specs.Runs.{Ran, no-call, call, Opening, Joining, Start, opened, joined}
+use Rattle.plungerowl.specs.Runs.{Ran, no-call, call, Opening, Joining, Start, from-opening, from-join}
 
 -- The buffers encode a state of the rules, and the step will not find them unfit.
 pub record Holds (K : ℕ) (s : State) (b : Buffers) : Type 0 where
@@ -153,17 +153,17 @@ joining-holds {K} {s} {t} {b} j =
     (j .room)
 
 pub start-holds : {K : ℕ} {s : State} {b : Buffers} → Start K s b → Holds K s b
-start-holds (opened o) = opening-holds o
-start-holds (joined j) = joining-holds j
+start-holds (from-opening o) = opening-holds o
+start-holds (from-join j) = joining-holds j
 
 -- No record is counted there, and no lock is held.
 pub start-uncounted : {K : ℕ} {s : State} {b : Buffers} → Start K s b → s .journal .accepted ≡ 0
-start-uncounted (opened o) = refl
-start-uncounted {K} (joined {s = s} {t} j) = joined-as K s t .uncounted
+start-uncounted (from-opening o) = refl
+start-uncounted {K} (from-join {s = s} {t} j) = joined-as K s t .uncounted
 
 pub start-unheld : {K : ℕ} {s : State} {b : Buffers} → Start K s b → (i : ℕ) (f : Frame) → s .cores i .held f ≡ []
-start-unheld (opened o) = λ i f. refl
-start-unheld {K} (joined {s = s} {t} j) = λ i f. ap (λ (c : Core). c .held f) (joined-as K s t .cores i)
+start-unheld (from-opening o) = λ i f. refl
+start-unheld {K} (from-join {s = s} {t} j) = λ i f. ap (λ (c : Core). c .held f) (joined-as K s t .cores i)
 
 -- Demand 3, of two runs of the exported calls from one state, each in buffers of its own, where no record of the second gets 9 (then none of the first does): both
 -- from openings with the same K, or "both its desks start as the same joined one".

@@ -43,5 +43,5 @@ pub record Joining (K : ℕ) (s t : State) (b : Buffers) : Type 0 where
 
 -- Where a run may start, and in which state of the rules: as opening leaves the buffers, or as a join does.
 pub data Start (K : ℕ) : State → Buffers → Type 0 where
-  opened : {b : Buffers} → Opening K b → Start K start b
-  joined : {b : Buffers} {s t : State} → Joining K s t b → Start K (join K s t .state) b
+  from-opening : {b : Buffers} → Opening K b → Start K start b
+  from-join : {b : Buffers} {s t : State} → Joining K s t b → Start K (join K s t .state) b

@@ -16,7 +16,7 @@ use Rattle.rules.proofs.Booleans.{or-left, or-right}
 use Rattle.rules.proofs.Decided.{cyclic-sound, cyclic-complete}
 use Rattle.rules.proofs.Monotone.{Within, closed-mono}
 
-or-swap : (a b : Bool) → (a || b) ≡ (b || a)
+pub or-swap : (a b : Bool) → (a || b) ≡ (b || a)
 or-swap true true = refl
 or-swap true false = refl
 or-swap false true = refl
