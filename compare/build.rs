@@ -146,7 +146,7 @@ const CALLS: [(&str, &str); 9] = [
     ("feed_end", "feed_end"),
     ("balance", "balance_into"),
     ("join", "join"),
-    ("whole_log", "whole_log"),
+    ("whole_log", "whole_log_kept"),
 ];
 
 /// A module with the items of this source that are not the reference's: those edited, and those that call them. But a join calls
@@ -189,7 +189,7 @@ fn plant(out: &Path) {
     let (mut modules, mut table, mut well) = (String::new(), String::new(), true);
     // By place: whether it is the join's, the judges that put another expression there, and the expressions.
     let mut shared: Vec<(&str, bool, Vec<(String, &str)>)> = Vec::new();
-    for plants::Plant { name, wrong, sights, breaks, of_clash, of_numbers, of_depth, of_release, from_join, edits, shares } in plants::PLANTS {
+    for plants::Plant { name, wrong, sights, breaks, of_clash, of_numbers, of_depth, of_release, of_crosslock, only_fixed, from_join, edits, shares } in plants::PLANTS {
         assert!(!edits.is_empty(), "planted {name}: no edit");
         let source = edits.iter().fold(reference.to_string(), |source, (old, new)| edit(&source, name, old, new));
         well &= !source.is_empty();
@@ -207,7 +207,7 @@ fn plant(out: &Path) {
         }
         let calls = CALLS.map(|(call, function)| format!("{call}: judge::{own}::{function}")).join(", ");
         table += &format!(
-            "    Plant {{ name: {name:?}, wrong: {wrong:?}, sights: &{sights:?}, breaks: {breaks:?}, of_feed: {of_feed}, of_balance: {of_balance}, of_join: {of_join}, of_clash: {of_clash}, of_numbers: {of_numbers}, of_depth: {of_depth}, of_release: {of_release}, from_join: {from_join}, judge: Judge {{ {calls} }} }},\n"
+            "    Plant {{ name: {name:?}, wrong: {wrong:?}, sights: &{sights:?}, breaks: {breaks:?}, of_feed: {of_feed}, of_balance: {of_balance}, of_join: {of_join}, of_clash: {of_clash}, of_numbers: {of_numbers}, of_depth: {of_depth}, of_release: {of_release}, of_crosslock: {of_crosslock}, only_fixed: {only_fixed}, from_join: {from_join}, judge: Judge {{ {calls} }} }},\n"
         );
     }
     assert!(well, "a planted judge has no place to be planted at");

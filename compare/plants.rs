@@ -21,6 +21,10 @@ pub struct Plant {
     pub of_depth: bool,
     /// Whether it is wrong about the modes of releases (see src/releases.rs), and the cases about these come first.
     pub of_release: bool,
+    /// Whether it is wrong about crosslocks (see src/crosslocks.rs), and the cases about these come first.
+    pub of_crosslock: bool,
+    /// Whether no random case is to show it, as so long a case is made once.
+    pub only_fixed: bool,
     /// Whether of the pairs of lists those from a join are to show what it breaks.
     pub from_join: bool,
     /// Text of reference/src/lib.rs, and what stands there instead.
@@ -31,9 +35,9 @@ pub struct Plant {
 }
 
 const fn plant(name: &'static str, wrong: &'static str, edits: &'static [(&'static str, &'static str)]) -> Plant {
-    let (of_clash, of_numbers, of_depth, of_release) = (false, false, false, false);
-    let (from_join, shares) = (false, false);
-    Plant { name, wrong, sights: &[], breaks: None, of_clash, of_numbers, of_depth, of_release, from_join, edits, shares }
+    let (of_clash, of_numbers, of_depth, of_release, of_crosslock) = (false, false, false, false, false);
+    let (only_fixed, from_join, shares) = (false, false, false);
+    Plant { name, wrong, sights: &[], breaks: None, of_clash, of_numbers, of_depth, of_release, of_crosslock, only_fixed, from_join, edits, shares }
 }
 
 const fn sharing(name: &'static str, wrong: &'static str, edits: &'static [(&'static str, &'static str)]) -> Plant {
@@ -66,6 +70,14 @@ const fn of_depth(sights: &'static [&'static str], plant: Plant) -> Plant {
 
 const fn of_release(sights: &'static [&'static str], plant: Plant) -> Plant {
     Plant { sights, of_release: true, ..plant }
+}
+
+const fn of_crosslock(sights: &'static [&'static str], plant: Plant) -> Plant {
+    Plant { sights, of_crosslock: true, ..plant }
+}
+
+const fn only_fixed(plant: Plant) -> Plant {
+    Plant { only_fixed: true, ..plant }
 }
 
 const ONLY_WITH_PATH: &str = "a fault only with a closed strong path";
@@ -173,7 +185,7 @@ const SEARCH: &str = "    let drawing = Arrivals::of(desk, sheet);
     desk[1] = 1;
     let circle = drawing.least_cycle(left, desk, sheet);
     show(slip, &circle.expect(\"where something remains, a cycle exists\"), k, seen);";
-const STEP: &str = "pub fn step(desk: &mut [u8], sheet: &mut [u8], seen: &mut [u8], slip: &mut [u8], record: &[u8]) -> u8 {";
+const STEP: &str = "pub fn step(desk: &mut [u8], sheet: &mut [u8], seen: &mut [u8], history: &mut [u8], slip: &mut [u8], record: &[u8]) -> u8 {";
 
 /// A judge that reads from a list whether one class's marks clash: this list, for these classes; what is shown where one's
 /// do, and what is searched where none's do (see lists.rs). With "clashing(m)", "(0..k)" and the last two left out it would
@@ -205,13 +217,15 @@ macro_rules! by_list {
 const PIECE: &str = "    for &byte in piece {";
 const END: &str = "    if held.answer == 0 && (!held.opened || !held.loose.is_empty()) {";
 const PUSH: &str = "        held.loose.push(byte);";
-const AFTER_PIECE: &str = "            held.judge(desk, sheet, seen, slip);
+const AFTER_PIECE: &str = "            held.judge(desk, sheet, seen, history, slip);
         }
     }
     held.write(feed);";
-const AFTER_END: &str = "        held.judge(desk, sheet, seen, slip);
+const AFTER_END: &str = "        held.judge(desk, sheet, seen, history, slip);
     }
     held.write(feed);";
+/// The answers of a step that a feed may stand at.
+const STANDS_AT: &str = "matches!(answer, 0 | 1 | 3..=11 | 15..=19)";
 const HEADER_JUDGED: &str = "self.opened = self.answer == 0;";
 const STOPS: &str = "        if held.answer != 0 {
             break;";
@@ -324,7 +338,7 @@ const REFUSED_12: &str = "        return 12;";
 const CLOSED: &str = "desk1[1] == 1 || desk2[1] == 1";
 const REFUSED_13: &str = "        return 13;";
 /// Where the joined desk is made, its marks, the kinds and the numbers; where it is judged, closed and shown, and the answer.
-const FRESH: &str = "open(k1 as u64, desk, sheet, seen)";
+const FRESH: &str = "fresh(k1, declared[0], desk, sheet, seen)";
 const MARKED: &str = "desk1[MARKS + class] | desk2[MARKS + class]";
 const KINDS: &str = "sheet1[pair] | sheet2[pair]";
 const NUMBER: &str = "match word_at(seen1, WORD * pair) {
@@ -339,7 +353,7 @@ const ANSWERED: &str = "    fault
 }";
 /// For joins into buffers that are too short: nothing is shown, and nothing made.
 const SHOW_IF_ROOM: (&str, &str) = (SHOWN_BY_JOIN, "        if slip.len() >= slip_len(k1) {\n            show(slip, &circle, k1, seen);\n        }");
-const MADE_IF_ROOM: (&str, &str) = ("    open(k1 as u64, desk, sheet, seen);", "    if open(k1 as u64, desk, sheet, seen) != 0 {\n        return 0;\n    }");
+const MADE_IF_ROOM: (&str, &str) = ("    fresh(k1, declared[0], desk, sheet, seen);", "    if !fresh(k1, declared[0], desk, sheet, seen) {\n        return 0;\n    }");
 
 /// What is said of joins.
 const IN_ORDER: &str = "joins are the same in either order";
@@ -357,7 +371,7 @@ macro_rules! in_place {
 /// The joined desk is fresh, and then this is done.
 macro_rules! fresh_but {
     ($done:literal) => {
-        &[(FRESH, concat!("open(k1 as u64, desk, sheet, seen); ", $done, " 0"))]
+        &[(FRESH, concat!("fresh(k1, declared[0], desk, sheet, seen); ", $done, " true"))]
     };
 }
 
@@ -398,13 +412,13 @@ macro_rules! around_step {
         (
             STEP,
             concat!(
-                "pub fn step(desk: &mut [u8], sheet: &mut [u8], seen: &mut [u8], slip: &mut [u8], record: &[u8]) -> u8 {
+                "pub fn step(desk: &mut [u8], sheet: &mut [u8], seen: &mut [u8], history: &mut [u8], slip: &mut [u8], record: &[u8]) -> u8 {
 ",
                 $with,
                 "
 }
 
-fn judge_record(desk: &mut [u8], sheet: &mut [u8], seen: &mut [u8], slip: &mut [u8], record: &[u8]) -> u8 {"
+fn judge_record(desk: &mut [u8], sheet: &mut [u8], seen: &mut [u8], history: &mut [u8], slip: &mut [u8], record: &[u8]) -> u8 {"
             ),
         )
     };
@@ -559,7 +573,15 @@ const FIRST_MARKED: &str = "    let first = HOLDS + DEEPEST * here;
 const HELD_FIT: &str = "holds[..usize::from(depth)].iter().any(|&h| test(h, k))";
 const UNUSED_FIT: &str = "holds[usize::from(depth)..] != empty[usize::from(depth)..]";
 const STRAY: &str = "is_try(desk, HOLDS + place) && !stands(place)";
-const OLDER: &str = "let (older, older_mode) = (usize::from(desk[at] % 64), desk[at] / 64);";
+const OLDER: &str = "let pair = usize::from(from) * k + usize::from(to);";
+/// Where an acquire that waits draws from the held locks, and where each is drawn.
+const DRAWS: &str = "            if !by_try {
+                for (older, older_mode) in older_holds {
+                    draw(older, hold_arrow(older_mode, mode), class);
+                }
+            }";
+const EACH_DRAWN: &str = "for (older, older_mode) in older_holds {
+                    draw(older, hold_arrow(older_mode, mode), class);";
 /// A depth over the limit does not stop the fit test.
 const HELD_OVER: (&str, &str) = (HELD_FIT, "holds[..usize::from(depth).min(DEEPEST)].iter().any(|&h| test(h, k))");
 const UNUSED_OVER: (&str, &str) = (UNUSED_FIT, "holds.iter().skip(usize::from(depth)).any(|&h| h != 0)");
@@ -592,7 +614,7 @@ macro_rules! desk_unless {
     if unfit(desk, sheet, seen, Some(slip)).is_some() {
         return 11;
     }
-    let answer = judge_record(&mut whole, sheet, seen, slip, record);
+    let answer = judge_record(&mut whole, sheet, seen, history, slip, record);
     desk.copy_from_slice(&whole[..desk.len()]);
     answer"
             ),
@@ -606,9 +628,17 @@ macro_rules! opening_of {
         &[
             ("if desk.len() < DESK || ", concat!("if desk.len() < DESK && desk.len() != ", $length, " || ")),
             ("desk[..DESK].fill(0);", "let end = desk.len().min(DESK);\n    desk[..end].fill(0);"),
+            DECLARED_IF_ROOM,
         ]
     };
 }
+/// On a short desk nothing is declared.
+const DECLARED_IF_ROOM: (&str, &str) = (
+    "    desk[DECLARED..PROGRESS].copy_from_slice(&declared.to_le_bytes());",
+    "    if desk.len() >= PROGRESS {
+        desk[DECLARED..PROGRESS].copy_from_slice(&declared.to_le_bytes());
+    }",
+);
 
 /// The origin bits of a frame begin so many bits behind those of the last.
 macro_rules! origin_stride {
@@ -645,12 +675,29 @@ macro_rules! origin_stride {
 /// Some work on a frame's locks is done up to this place, and not there and behind it.
 macro_rules! draws_up_to {
     ($place:literal) => {
-        &[("for at in older_holds {", concat!("for at in older_holds.take(", $place, ") {"))]
+        &[(
+            EACH_DRAWN,
+            concat!(
+                "for (older, older_mode) in older_holds.into_iter().take(", $place, ") {
+                    draw(older, hold_arrow(older_mode, mode), class);"
+            ),
+        )]
     };
 }
 macro_rules! numbers_up_to {
     ($place:literal) => {
-        &[("if sheet[pair] == 0 {", concat!("if sheet[pair] == 0 && at < first + ", $place, " {"))]
+        &[
+            ("    let mut draw = ", "    let numbers = std::cell::Cell::new(true);\n    let mut draw = "),
+            ("if sheet[pair] == 0 {", "if sheet[pair] == 0 && numbers.get() {"),
+            (
+                EACH_DRAWN,
+                concat!(
+                    "for (place, (older, older_mode)) in older_holds.into_iter().enumerate() {
+                    numbers.set(place < ", $place, ");
+                    draw(older, hold_arrow(older_mode, mode), class);"
+                ),
+            ),
+        ]
     };
 }
 macro_rules! marks_up_to {
@@ -689,7 +736,7 @@ macro_rules! held_fit_up_to {
         &[
             (HELD_FIT, concat!("holds[..usize::from(depth)].iter().take(", $place, ").any(|&h| test(h, k))")),
             // A class of K or more draws nothing.
-            (OLDER, "let (older, older_mode) = (usize::from(desk[at] % 64), desk[at] / 64);\n                if older >= k {\n                    continue;\n                }"),
+            (OLDER, "if usize::from(from) >= k {\n            return;\n        }\n        let pair = usize::from(from) * k + usize::from(to);"),
         ]
     };
 }
@@ -731,7 +778,7 @@ fn from_old(desk: &[u8]) -> Option<Vec<u8>> {
         new[at] = desk[HOLDS + place];
         set_origin(&mut new, at, desk[578 + place / 8] >> (place % 8) & 1 == 1);
     }
-    new[COUNT..DESK].copy_from_slice(&desk[638..642]);
+    new[COUNT..DECLARED].copy_from_slice(&desk[638..642]);
     Some(new)
 }
 
@@ -741,16 +788,16 @@ fn unfit_now(desk: &[u8], sheet: &[u8], seen: &[u8], slip: Option<&[u8]>) -> Opt
             around_step!(
                 "    if unfit_now(desk, sheet, seen, Some(slip)).is_some() {
         if let Some(mut new) = from_old(desk) {
-            let answer = judge_record(&mut new, sheet, seen, slip, record);
+            let answer = judge_record(&mut new, sheet, seen, history, slip, record);
             if answer < 2 {
                 desk.copy_from_slice(&new[..desk.len()]);
             }
             return answer;
         }
     }
-    judge_record(desk, sheet, seen, slip, record)"
+    judge_record(desk, sheet, seen, history, slip, record)"
             ),
-            ("    if unfit(desk, sheet, seen, Some(slip)).is_some() {", "    if unfit_now(desk, sheet, seen, Some(slip)).is_some() {"),
+            ("unfit(desk, sheet, seen, Some(slip)).is_some() || unfit_history", "unfit_now(desk, sheet, seen, Some(slip)).is_some() || unfit_history"),
         ]
     };
 }
@@ -762,7 +809,7 @@ const ACQUIRED: &str = "desk[at] / 64 + if is_try(desk, at) { TRY } else { 0 }";
 const UNFITTED: &str = "newest.map(taken) != Some(mode)";
 const REFUSED: &str = "return 5";
 const MOVED: &str = "at..last";
-const NO_MODE: &str = "kind >= 2 && (class != 0 || mode != 0)";
+const NO_MODE: &str = "(class != 0 && !names_a_class) || (mode != 0 && !has_a_mode)";
 
 /// A release finds this lock, of the places of its frame; `acquired` is the mode of a place.
 macro_rules! finds {
@@ -824,18 +871,104 @@ const BY_STRIDE: [&str; 2] = ["try in a frame but the first", "call on a fit des
 const IN_FULL_FRAME: [&str; 2] = ["wait in a full frame", "try in a full frame"];
 const OVER_20: [&str; 3] = ["acquire over 20 held locks", "acquire over 21 to 46 held locks", "acquire that fills a frame"];
 
+/// Where a record is of the wrong sort of class; what the take of a crosslock draws, and since when it is; what a commit draws, from
+/// which entry on, and of which frame; where a visit ends, whether an acquire is kept, when the history is emptied, and where a
+/// crosslock is released; where the list and the history are full.
+const MALFORMED: &str = "core > 7 || kind > RELEASE_CROSSLOCK || mode > LAST_MODE";
+const NOT_LISTED: &str = "(kind == COMMIT || kind == RELEASE_CROSSLOCK) && !in_progress";
+const LISTED: &str = "kind == TAKE_CROSSLOCK && in_progress";
+const MARKED_NOW: &str = "mark(desk, core)";
+const FIT_PLACE: &str = "usize::from(entry[0]) > FRAMES";
+const FIT_MODE: &str = "entry[1] / 64 == 3";
+const WORD_READ: &str = "Some((u64::from(*k), word))";
+const WORD_WRITTEN: &str = "declared.to_le_bytes()";
+const WORD_FITS: &str = "u64::from(c) >= k";
+const WRONG_SORT: &str = "(of_a_lock && is_crosslock) || (of_a_crosslock && !is_crosslock)";
+const TC: &str = "for (older, older_mode) in older_holds {
+                draw(older, hold_arrow(older_mode, EXCLUSIVE), class);
+            }";
+const SINCE_NOW: &str = "crosslocks.in_progress.insert(class, kept_so_far)";
+const CT: &str = "for kept in crosslocks.since(class, here) {
+                draw(class, hold_arrow(EXCLUSIVE, kept.mode), kept.class);
+            }";
+const SINCE_ON: &str = "self.history.iter().skip(since).flatten()";
+const KEPT_HERE: &str = "later.filter(|kept| kept.frame == frame).copied().collect()";
+const VISIT_ENDS: &str = "crosslocks.end_visit(here);";
+const KEEPS: &str = "crosslocks.keeps(kind, mode)";
+const RELEASES: &str = "crosslocks.release(class)";
+const LIST_FULL: &str = "crosslocks.in_progress.len() == MOST_IN_PROGRESS";
+const HISTORY_FULL: &str = "to_be_kept && crosslocks.history.len() == MOST_KEPT";
+/// What the fit test asks of crosslocks.
+const FIT_DECLARED: &str = "usize::from(c) >= k";
+const FIT_LIST: &str = "in_progress.len() > MOST_IN_PROGRESS";
+const FIT_KEPT: &str = "word_at(desk, KEPT_COUNT) > MOST_KEPT as u32";
+const FIT_ENTRIES: &str = "let entries = || history.chunks_exact(KEPT_ENTRY).take(kept);";
+const OTHER_WORD: &str = "declared[0] != declared[1]";
+
+/// A commit draws to what was acquired so many visits before too: books are kept of what is struck out, each with the number of its
+/// visit modulo this. They begin anew with each opening.
+macro_rules! by_visit {
+    ($modulus:literal) => {
+        &[
+            (
+                BEFORE_MARK,
+                "struct Visits {
+    now: [u64; FRAMES],
+    old: Vec<(usize, Kept, u64)>,
+}
+
+static VISITS: std::sync::Mutex<Visits> = std::sync::Mutex::new(Visits { now: [0; FRAMES], old: Vec::new() });
+
+/// \"After each accepted record, every hold",
+            ),
+            (
+                "    history[..HISTORY].fill(0);\n    0",
+                "    history[..HISTORY].fill(0);
+    *VISITS.lock().unwrap() = Visits { now: [0; FRAMES], old: Vec::new() };
+    0",
+            ),
+            (
+                VISIT_ENDS,
+                "let mut visits = VISITS.lock().unwrap();
+                let now = visits.now[here];
+                for (at, entry) in crosslocks.history.iter().enumerate() {
+                    if let Some(kept) = entry.filter(|kept| kept.frame == here) {
+                        visits.old.push((at, kept, now));
+                    }
+                }
+                visits.now[here] += 1;
+                crosslocks.end_visit(here);",
+            ),
+            (
+                CT,
+                concat!(
+                    "let visits = VISITS.lock().unwrap();
+            let since = crosslocks.in_progress[&class];
+            let again = |&(at, kept, visit): &(usize, Kept, u64)| {
+                (at >= since && kept.frame == here && (visits.now[here] - visit) % ", $modulus, " == 0).then_some(kept)
+            };
+            for kept in crosslocks.since(class, here).into_iter().chain(visits.old.iter().filter_map(again)) {
+                draw(class, hold_arrow(EXCLUSIVE, kept.mode), kept.class);
+            }"
+                ),
+            ),
+        ]
+    };
+}
+
 pub const PLANTS: &[Plant] = &[
     // What a record draws.
     plant(
         "cross-frames",
         "an acquire draws from every held lock of the core, in whichever frame",
         &[(
-            "let older_holds = if by_try { first..first } else { first..first + depth };
-            for at in older_holds {",
+            DRAWS,
             "let frames = if by_try { 0..0 } else { 3 * usize::from(core)..3 * usize::from(core) + 3 };
             let places = frames.flat_map(|f| (0..DEEPEST).map(move |i| (f, i)));
             let standing: Vec<(usize, usize)> = places.filter(|&(f, i)| i < usize::from(desk[DEPTHS + f])).collect();
-            for at in standing.into_iter().map(|(f, i)| HOLDS + DEEPEST * f + i) {",
+            for at in standing.into_iter().map(|(f, i)| HOLDS + DEEPEST * f + i) {
+                draw(desk[at] % 64, hold_arrow(desk[at] / 64, mode), class);
+            }",
         )],
     ),
     breaks(
@@ -844,11 +977,13 @@ pub const PLANTS: &[Plant] = &[
             "cross-cores",
             "an acquire draws from the held locks of another core's frame too, that of the core four away",
             &[(
-                "for at in older_holds {",
+                EACH_DRAWN,
                 "let far = (here + 12) % FRAMES;
-            let far_depth = if by_try { 0 } else { usize::from(desk[DEPTHS + far]) };
-            let far = HOLDS + DEEPEST * far;
-            for at in older_holds.chain(far..far + far_depth) {",
+                let far_depth = usize::from(desk[DEPTHS + far]);
+                let far = HOLDS + DEEPEST * far;
+                let far_holds = desk[far..far + far_depth].iter().map(|hold| (hold % 64, hold / 64));
+                for (older, older_mode) in older_holds.into_iter().chain(far_holds) {
+                    draw(older, hold_arrow(older_mode, mode), class);",
             )],
         ),
     ),
@@ -857,7 +992,8 @@ pub const PLANTS: &[Plant] = &[
         plant(
             "newest-only",
             "an acquire draws from the newest held lock only",
-            &[("for at in older_holds {", "for at in older_holds.rev().take(1) {")],
+            &[(EACH_DRAWN, "for (older, older_mode) in older_holds.into_iter().rev().take(1) {
+                    draw(older, hold_arrow(older_mode, mode), class);")],
         ),
     ),
     plant(
@@ -919,7 +1055,7 @@ pub const PLANTS: &[Plant] = &[
             plant(
                 "dependency-to-try",
                 "a try draws dependencies from the held locks",
-                &[("if by_try { first..first } else { first..first + depth }", "first..first + depth")],
+                &[("if !by_try {", "if by_try || !by_try {")],
             ),
         ),
     ),
@@ -929,9 +1065,12 @@ pub const PLANTS: &[Plant] = &[
             "dependency-try-to-try",
             "a try draws dependencies from the tries before it",
             &[(
-                "let older_holds = if by_try { first..first } else { first..first + depth };
-            for at in older_holds {",
-                "for at in (first..first + depth).filter(|&at| !by_try || is_try(desk, at)) {",
+                DRAWS,
+                "for (place, (older, older_mode)) in older_holds.into_iter().enumerate() {
+                if !by_try || is_try(desk, first + place) {
+                    draw(older, hold_arrow(older_mode, mode), class);
+                }
+            }",
             )],
         ),
     ),
@@ -942,7 +1081,11 @@ pub const PLANTS: &[Plant] = &[
             plant(
                 "no-dependency-from-try",
                 "an acquire draws no dependency from a try",
-                &[("for at in older_holds {", "for at in older_holds.filter(|&at| !is_try(desk, at)) {")],
+                &[(
+                    EACH_DRAWN,
+                    "for (_, (older, older_mode)) in older_holds.into_iter().enumerate().filter(|(place, _)| !is_try(desk, first + place)) {
+                    draw(older, hold_arrow(older_mode, mode), class);",
+                )],
             ),
         ),
     ),
@@ -951,7 +1094,12 @@ pub const PLANTS: &[Plant] = &[
         plant(
             "try-first-letter",
             "a dependency from an exclusive try begins with S, as its mode of 3 is not 0",
-            &[("match (older_mode == EXCLUSIVE, ", "match (older_mode == EXCLUSIVE && !is_try(desk, at), ")],
+            &[(
+                EACH_DRAWN,
+                "for (place, (older, older_mode)) in older_holds.into_iter().enumerate() {
+                    let as_taken = older_mode + if is_try(desk, first + place) { TRY } else { 0 };
+                    draw(older, hold_arrow(as_taken, mode), class);",
+            )],
         ),
     ),
     shown(
@@ -1217,7 +1365,7 @@ pub const PLANTS: &[Plant] = &[
         sharing(
             "release-mode",
             "a release may have no try's mode",
-            &[(NO_MODE, "kind == RELEASE && mode >= TRY || kind >= 2 && (class != 0 || mode != 0)")],
+            &[(NO_MODE, "kind == RELEASE && mode >= TRY || (class != 0 && !names_a_class) || (mode != 0 && !has_a_mode)")],
         ),
     ),
     of_release(
@@ -1225,23 +1373,19 @@ pub const PLANTS: &[Plant] = &[
         sharing(
             "release-mode-0",
             "a release has mode 0, as before",
-            &[(NO_MODE, "kind == RELEASE && mode != 0 || kind >= 2 && (class != 0 || mode != 0)")],
+            &[(NO_MODE, "kind == RELEASE && mode != 0 || (class != 0 && !names_a_class) || (mode != 0 && !has_a_mode)")],
         ),
     ),
     of_release(
         &["release with mode 6", "release with a mode over 6", "release with a mode over 5 and class K or more"],
-        plant(
-            "release-over-5",
-            "5 for a release of a mode over 5",
-            &[("kind > 9 || mode > LAST_MODE {", "kind > 9 || mode > LAST_MODE && kind != RELEASE {")],
-        ),
+        sharing("release-over-5", "5 for a release of a mode over 5", in_place!(MALFORMED, "core > 7 || kind > RELEASE_CROSSLOCK || mode > LAST_MODE && kind != RELEASE")),
     ),
     shown(
         &["event with a try's mode"],
         plant(
             "event-mode",
             "kinds 2 to 9 may have a try's mode",
-            &[("(class != 0 || mode != 0)", "(class != 0 || (mode != 0 && mode < TRY))")],
+            &[("(mode != 0 && !has_a_mode)", "(mode != 0 && !has_a_mode && (mode < TRY || kind > EXIT_HARD))")],
         ),
     ),
     shown(
@@ -1675,8 +1819,8 @@ pub const PLANTS: &[Plant] = &[
         "order-10-11",
         "10 before 11",
         &[(
-            "    if unfit(desk, sheet, seen, Some(slip)).is_some() {\n        return 11;",
-            "    if unfit(desk, sheet, seen, Some(slip)).is_some() {\n        return if desk.get(1) == Some(&1) { 10 } else { 11 };",
+            "    if unfit(desk, sheet, seen, Some(slip)).is_some() || unfit_history(desk, history).is_some() {\n        return 11;",
+            "    if unfit(desk, sheet, seen, Some(slip)).is_some() || unfit_history(desk, history).is_some() {\n        return if desk.get(1) == Some(&1) { 10 } else { 11 };",
         )],
     ),
     breaks(
@@ -1758,7 +1902,8 @@ pub const PLANTS: &[Plant] = &[
     of_depth(
         &[
             "call on a desk without the origins", "call on a desk with part of the origins", "call on a desk without the count",
-            "call on a desk with part of the count",
+            "call on a desk with part of the count", "call on a desk without crosslocks",
+            "call on a desk with part of the crosslocks", "call on a desk a byte short",
         ],
         plant(
             "desk-without-origins",
@@ -1770,7 +1915,7 @@ pub const PLANTS: &[Plant] = &[
         &["call on a desk a byte short"],
         plant(
             "desk-a-byte-short",
-            "a desk of 1,397 bytes is fit",
+            "a desk of 1,673 bytes is fit",
             desk_unless!("desk.len() < DESK - 1"),
         ),
     ),
@@ -1944,7 +2089,7 @@ pub const PLANTS: &[Plant] = &[
             "the count is at byte 638",
             &[
                 ("pub const COUNT: usize = ORIGINS + PLACES.div_ceil(8);", "pub const COUNT: usize = 638;"),
-                ("pub const DESK: usize = COUNT + WORD;", "pub const DESK: usize = ORIGINS + PLACES.div_ceil(8) + WORD;"),
+                ("pub const DECLARED: usize = COUNT + WORD;", "pub const DECLARED: usize = ORIGINS + PLACES.div_ceil(8) + WORD;"),
             ],
         ),
     ),
@@ -2378,12 +2523,12 @@ pub const PLANTS: &[Plant] = &[
             "a refused record is answered with 1 where marks clash",
             &[(
                 STEP,
-                "pub fn step(desk: &mut [u8], sheet: &mut [u8], seen: &mut [u8], slip: &mut [u8], record: &[u8]) -> u8 {
-    let answer = judge_record(desk, sheet, seen, slip, record);
+                "pub fn step(desk: &mut [u8], sheet: &mut [u8], seen: &mut [u8], history: &mut [u8], slip: &mut [u8], record: &[u8]) -> u8 {
+    let answer = judge_record(desk, sheet, seen, history, slip, record);
     if (3..9).contains(&answer) && clashing_classes(desk).next().is_some() { 1 } else { answer }
 }
 
-fn judge_record(desk: &mut [u8], sheet: &mut [u8], seen: &mut [u8], slip: &mut [u8], record: &[u8]) -> u8 {",
+fn judge_record(desk: &mut [u8], sheet: &mut [u8], seen: &mut [u8], history: &mut [u8], slip: &mut [u8], record: &[u8]) -> u8 {",
             )],
         ),
     ),
@@ -2405,7 +2550,7 @@ fn judge_record(desk: &mut [u8], sheet: &mut [u8], seen: &mut [u8], slip: &mut [
             "count-refused",
             "refused records are counted",
             &[around_step!(
-                "    let answer = judge_record(desk, sheet, seen, slip, record);
+                "    let answer = judge_record(desk, sheet, seen, history, slip, record);
     if (3..9).contains(&answer) && word_at(desk, COUNT) < u32::MAX {
         let count = word_at(desk, COUNT) + 1;
         set_word(desk, COUNT, count);
@@ -2452,7 +2597,7 @@ fn judge_record(desk: &mut [u8], sheet: &mut [u8], seen: &mut [u8], slip: &mut [
     if count != ACCEPTED.swap(count, Relaxed) {
         REFUSED.store(0, Relaxed);
     }
-    let answer = judge_record(desk, sheet, seen, slip, record);
+    let answer = judge_record(desk, sheet, seen, history, slip, record);
     match answer {
         0 | 1 => ACCEPTED.fetch_add(1, Relaxed),
         3..9 => REFUSED.fetch_add(1, Relaxed),
@@ -2462,8 +2607,8 @@ fn judge_record(desk: &mut [u8], sheet: &mut [u8], seen: &mut [u8], slip: &mut [
                 ),
                 (NUMBERED, "set_word(seen, WORD * pair, own_number + REFUSED.load(std::sync::atomic::Ordering::Relaxed));"),
                 (
-                    "    seen[..seen_size].fill(0);\n    0",
-                    "    seen[..seen_size].fill(0);
+                    "    history[..HISTORY].fill(0);\n    0",
+                    "    history[..HISTORY].fill(0);
     ACCEPTED.store(0, std::sync::atomic::Ordering::Relaxed);
     REFUSED.store(0, std::sync::atomic::Ordering::Relaxed);
     0",
@@ -2519,7 +2664,7 @@ static REFUSED: std::sync::atomic::AtomicU32 = std::sync::atomic::AtomicU32::new
         NUMBERS,
         of_numbers(
             &["second kind of a numbered pair"],
-            plant("seen-second-kind", "a second kind overwrites a pair's number", &[("if sheet[pair] == 0 {", "if sheet[pair] & arrow == 0 {")]),
+            plant("seen-second-kind", "a second kind overwrites a pair's number", &[("if sheet[pair] == 0 {", "if sheet[pair] & kind == 0 {")]),
         ),
     ),
     breaks(
@@ -2551,7 +2696,7 @@ static REFUSED: std::sync::atomic::AtomicU32 = std::sync::atomic::AtomicU32::new
             "seen-transposed",
             "a pair's number stands at to x K + from",
             &[
-                (NUMBERED, "set_word(seen, WORD * (usize::from(class) * k + older), own_number);"),
+                (NUMBERED, "set_word(seen, WORD * (usize::from(to) * k + usize::from(from)), own_number);"),
                 (FIT_PAIRS, "    for pair in 0..k * k {\n        let (kinds, number) = (sheet[pair], word_at(seen, WORD * (pair % k * k + pair / k)));"),
                 (SHOWN_NUMBER, "    if source == 0 {\n        word_at(seen, WORD * (usize::from(to) * k + usize::from(from)))"),
             ],
@@ -2564,7 +2709,7 @@ static REFUSED: std::sync::atomic::AtomicU32 = std::sync::atomic::AtomicU32::new
             "a pair gets the number of the other way, if that has one",
             &[(
                 NUMBERED,
-                "let other = word_at(seen, WORD * (usize::from(class) * k + older));
+                "let other = word_at(seen, WORD * (usize::from(to) * k + usize::from(from)));
                     set_word(seen, WORD * pair, if other == 0 { own_number } else { other });",
             )],
         ),
@@ -2590,7 +2735,7 @@ static REFUSED: std::sync::atomic::AtomicU32 = std::sync::atomic::AtomicU32::new
         plant(
             "seen-of-oldest",
             "only the pair of the oldest held lock gets a number",
-            &[("if sheet[pair] == 0 {", "if sheet[pair] == 0 && at == first {")],
+            numbers_up_to!("1"),
         ),
     ),
     of_numbers(
@@ -2599,14 +2744,19 @@ static REFUSED: std::sync::atomic::AtomicU32 = std::sync::atomic::AtomicU32::new
             "seen-by-try",
             "a try numbers pairs though it draws no dependency",
             &[(
-                "for at in older_holds {",
-                "for at in first..first + depth {
-                let pair = usize::from(desk[at] % 64) * k + usize::from(class);
-                if by_try && sheet[pair] == 0 {
-                    set_word(seen, WORD * pair, own_number);
+                DRAWS,
+                "if !by_try {
+                for (older, older_mode) in older_holds {
+                    draw(older, hold_arrow(older_mode, mode), class);
                 }
-            }
-            for at in older_holds {",
+            } else {
+                for (older, _) in older_holds {
+                    let pair = usize::from(older) * k + usize::from(class);
+                    if sheet[pair] == 0 {
+                        set_word(seen, WORD * pair, own_number);
+                    }
+                }
+            }",
             )],
         ),
     ),
@@ -2813,8 +2963,8 @@ static REFUSED: std::sync::atomic::AtomicU32 = std::sync::atomic::AtomicU32::new
             "order-9-11",
             "9 before 11",
             &[(
-                "    if unfit(desk, sheet, seen, Some(slip)).is_some() {\n        return 11;",
-                "    if unfit(desk, sheet, seen, Some(slip)).is_some() {\n        return if desk.len() >= DESK && word_at(desk, COUNT) == u32::MAX { 9 } else { 11 };",
+                "    if unfit(desk, sheet, seen, Some(slip)).is_some() || unfit_history(desk, history).is_some() {\n        return 11;",
+                "    if unfit(desk, sheet, seen, Some(slip)).is_some() || unfit_history(desk, history).is_some() {\n        return if desk.len() >= DESK && word_at(desk, COUNT) == u32::MAX { 9 } else { 11 };",
             )],
         ),
     ),
@@ -2824,7 +2974,7 @@ static REFUSED: std::sync::atomic::AtomicU32 = std::sync::atomic::AtomicU32::new
     // Numbers that are tied to the count.
     breaks("reference", of_numbers(&ABOVE, sharing("tie-kept", "a number above the count is unfit", tied!("number > word_at(desk, COUNT)")))),
     of_numbers(
-        &["number at the count", "number above the count at the first pair"],
+        &["number at the count", ABOVE[0], ABOVE[1]],
         sharing("tie-at-count", "a number at the count or above is unfit", tied!("number != 0 && number >= word_at(desk, COUNT)")),
     ),
     of_numbers(
@@ -2879,9 +3029,9 @@ static REFUSED: std::sync::atomic::AtomicU32 = std::sync::atomic::AtomicU32::new
                 "tie-step",
                 "a step refuses a number above the count",
                 &[(
-                    "    if unfit(desk, sheet, seen, Some(slip)).is_some() {\n        return 11;",
+                    "    if unfit(desk, sheet, seen, Some(slip)).is_some() || unfit_history(desk, history).is_some() {\n        return 11;",
                     "    let above = |desk: &[u8]| (0..sheet_len(usize::from(desk[0]))).any(|pair| word_at(seen, WORD * pair) > word_at(desk, COUNT));
-    if unfit(desk, sheet, seen, Some(slip)).is_some() || above(desk) {
+    if unfit(desk, sheet, seen, Some(slip)).is_some() || unfit_history(desk, history).is_some() || above(desk) {
         return 11;",
                 )],
             ),
@@ -2906,10 +3056,10 @@ static REFUSED: std::sync::atomic::AtomicU32 = std::sync::atomic::AtomicU32::new
             "tie-feed",
             "a piece's record is refused with 11 over a number above the count",
             &[(
-                "            self.answer = step(desk, sheet, seen, slip, &self.loose);",
+                "            self.answer = step(desk, sheet, seen, history, slip, &self.loose);",
                 "            let above = |desk: &[u8]| (0..sheet_len(usize::from(desk[0]))).any(|pair| word_at(seen, WORD * pair) > word_at(desk, COUNT));
             let tied = unfit(desk, sheet, seen, None).is_none() && above(desk);
-            self.answer = if tied { 11 } else { step(desk, sheet, seen, slip, &self.loose) };",
+            self.answer = if tied { 11 } else { step(desk, sheet, seen, history, slip, &self.loose) };",
             )],
         ),
     ),
@@ -3005,7 +3155,10 @@ static REFUSED: std::sync::atomic::AtomicU32 = std::sync::atomic::AtomicU32::new
         ),
     ),
     of_depth(
-        &["call on a desk without the count", "call on a desk with part of the count"],
+        &[
+            "call on a desk without the count", "call on a desk with part of the count", "call on a desk without crosslocks",
+            "call on a desk with part of the crosslocks", "call on a desk a byte short",
+        ],
         plant(
             "desk-without-count",
             "a desk of 1,394 bytes is fit",
@@ -3017,6 +3170,7 @@ static REFUSED: std::sync::atomic::AtomicU32 = std::sync::atomic::AtomicU32::new
         &[
             "opening of a desk without the origins", "opening of a desk with part of the origins",
             "opening of a desk without the count", "opening of a desk with part of the count",
+            "opening of a desk without crosslocks", "opening of a desk with part of the crosslocks", "opening of a desk a byte short",
         ],
         plant(
             "opening-without-origins",
@@ -3024,6 +3178,7 @@ static REFUSED: std::sync::atomic::AtomicU32 = std::sync::atomic::AtomicU32::new
             &[
                 ("if desk.len() < DESK || ", "if desk.len() < ORIGINS || "),
                 ("desk[..DESK].fill(0);", "let end = desk.len().min(DESK);\n    desk[..end].fill(0);"),
+                DECLARED_IF_ROOM,
             ],
         ),
     ),
@@ -3044,19 +3199,23 @@ static REFUSED: std::sync::atomic::AtomicU32 = std::sync::atomic::AtomicU32::new
         ),
     ),
     shown(
-        &["opening of a desk without the count", "opening of a desk with part of the count"],
+        &[
+            "opening of a desk without the count", "opening of a desk with part of the count", "opening of a desk without crosslocks",
+            "opening of a desk with part of the crosslocks", "opening of a desk a byte short",
+        ],
         plant(
             "opening-without-count",
             "opening accepts a desk of 1,394 bytes",
             &[
                 ("if desk.len() < DESK || ", "if desk.len() < COUNT || "),
                 ("desk[..DESK].fill(0);", "let end = desk.len().min(DESK);\n    desk[..end].fill(0);"),
+                DECLARED_IF_ROOM,
             ],
         ),
     ),
     of_depth(
         &["opening of a desk a byte short"],
-        plant("opening-a-byte-short", "opening accepts a desk of 1,397 bytes", opening_of!("1397")),
+        plant("opening-a-byte-short", "opening accepts a desk of 1,673 bytes", opening_of!("1673")),
     ),
     of_depth(
         &["opening of a desk of 578 bytes"],
@@ -3145,7 +3304,7 @@ static REFUSED: std::sync::atomic::AtomicU32 = std::sync::atomic::AtomicU32::new
             PUSH,
             "        held.loose.push(byte);
         if !held.opened && held.loose.len() == 3 {
-            open(1, desk, sheet, seen);
+            open(1, 0, desk, sheet, seen, history);
         }",
         )],
     ),
@@ -3158,7 +3317,7 @@ static REFUSED: std::sync::atomic::AtomicU32 = std::sync::atomic::AtomicU32::new
                 PUSH,
                 "        held.loose.push(byte);
         if !held.opened && held.loose[0] != 0x4C {
-            held.judge(desk, sheet, seen, slip);
+            held.judge(desk, sheet, seen, history, slip);
             continue;
         }",
             )],
@@ -3176,12 +3335,22 @@ static REFUSED: std::sync::atomic::AtomicU32 = std::sync::atomic::AtomicU32::new
         AS_THE_WHOLE_LOG,
         shown(
             &["header with a wrong third byte"],
-            plant("header-third-byte", "the header's third byte is not looked at", &[("[0x4C, 0x48, 0x01, k] =>", "[0x4C, 0x48, _, k] =>")]),
+            plant(
+                "header-third-byte",
+                "the third byte of a header of four bytes is not looked at",
+                &[(
+                    "match read_header(&self.loose) {",
+                    "match read_header(&self.loose).or(match self.loose[..] {
+                [0x4C, 0x48, _, k] => Some((u64::from(k), 0)),
+                _ => None,
+            }) {",
+                )],
+            ),
         ),
     ),
     shown(
         &["header with K over 64", "header that opens"],
-        plant("header-k-cut", "the header's K is cut to six bits", &[("open(u64::from(k), desk, sheet, seen),", "open(u64::from(k % 64), desk, sheet, seen),")]),
+        plant("header-k-cut", "the header's K is cut to six bits", &[("open(k, declared, desk, sheet, seen, history),", "open(k % 64, declared, desk, sheet, seen, history),")]),
     ),
     shown(
         &["header with a short second sheet"],
@@ -3189,26 +3358,27 @@ static REFUSED: std::sync::atomic::AtomicU32 = std::sync::atomic::AtomicU32::new
             "header-short-seen",
             "a second sheet too short for the header is answered with 11",
             &[(
-                "[0x4C, 0x48, 0x01, k] =>",
-                "[0x4C, 0x48, 0x01, k]
-                    if seen.len() < seen_len(usize::from(k))
+                "Some((k, declared)) => open(",
+                "Some((k, declared))
+                    if seen.len() < seen_len(k as usize)
                         && k >= 1
-                        && usize::from(k) <= MAX_K
+                        && k <= MAX_K as u64
+                        && declared >> (k - 1) < 2
                         && desk.len() >= DESK
-                        && sheet.len() >= sheet_len(usize::from(k)) => 11,
-                [0x4C, 0x48, 0x01, k] =>",
+                        && sheet.len() >= sheet_len(k as usize) => 11,
+                Some((k, declared)) => open(",
             )],
         ),
     ),
     shown(
-        &["header with a short desk", "header with a short sheet", "header with a short second sheet"],
+        &["header with a short desk", "header with a short sheet", "header with a short second sheet", "header with a short history"],
         plant(
             "header-short-11",
             "a desk or sheet too short for the header is answered with 11",
             &[(
-                "=> open(u64::from(k), desk, sheet, seen),",
-                "=> match open(u64::from(k), desk, sheet, seen) {
-                    2 if k >= 1 && usize::from(k) <= MAX_K => 11,
+                "=> open(k, declared, desk, sheet, seen, history),",
+                "=> match open(k, declared, desk, sheet, seen, history) {
+                    2 if k >= 1 && k <= MAX_K as u64 && declared >> (k - 1) < 2 => 11,
                     answer => answer,
                 },",
             )],
@@ -3217,7 +3387,7 @@ static REFUSED: std::sync::atomic::AtomicU32 = std::sync::atomic::AtomicU32::new
     plant(
         "header-needs-slip",
         "a slip too short is refused with the header",
-        &[("[0x4C, 0x48, 0x01, k] =>", "[0x4C, 0x48, 0x01, k] if slip.len() < slip_len(usize::from(k)) => 2,\n                [0x4C, 0x48, 0x01, k] =>")],
+        &[("Some((k, declared)) => open(", "Some((k, _)) if slip.len() < slip_len(k as usize) => 2,\n                Some((k, declared)) => open(")],
     ),
     plant("header-refused-opened", "a refused header counts as opened", &[(HEADER_JUDGED, "self.opened = true;")]),
     plant(
@@ -3240,7 +3410,7 @@ static REFUSED: std::sync::atomic::AtomicU32 = std::sync::atomic::AtomicU32::new
                 PUSH,
                 "        held.loose.push(byte);
         if held.opened && held.loose[0] != 0x4C {
-            held.judge(desk, sheet, seen, slip);
+            held.judge(desk, sheet, seen, history, slip);
             continue;
         }",
             )],
@@ -3251,15 +3421,18 @@ static REFUSED: std::sync::atomic::AtomicU32 = std::sync::atomic::AtomicU32::new
         plant(
             "loose-dropped",
             "what is not complete at a piece's end is dropped",
-            &[(AFTER_PIECE, "            held.judge(desk, sheet, seen, slip);\n        }\n    }\n    held.loose.clear();\n    held.write(feed);")],
+            &[(AFTER_PIECE, "            held.judge(desk, sheet, seen, history, slip);\n        }\n    }\n    held.loose.clear();\n    held.write(feed);")],
         ),
     ),
     shown(
-        &["piece that leaves 5 loose bytes of a record", "empty piece over loose bytes"],
+        &[
+            "piece that leaves 5 loose bytes of a record", "piece that leaves 4 to 10 bytes of the header",
+            "piece that leaves 11 bytes of the header", "empty piece over loose bytes",
+        ],
         plant(
             "loose-four",
             "at most four loose bytes are kept",
-            &[(AFTER_PIECE, "            held.judge(desk, sheet, seen, slip);\n        }\n    }\n    held.loose.truncate(4);\n    held.write(feed);")],
+            &[(AFTER_PIECE, "            held.judge(desk, sheet, seen, history, slip);\n        }\n    }\n    held.loose.truncate(4);\n    held.write(feed);")],
         ),
     ),
     shown(
@@ -3269,7 +3442,7 @@ static REFUSED: std::sync::atomic::AtomicU32 = std::sync::atomic::AtomicU32::new
             "of what is cut twice only the last piece's bytes are kept",
             &[(
                 PIECE,
-                "    if !piece.is_empty() && held.loose.len() + piece.len() < whole_item(held.opened) {
+                "    if !piece.is_empty() && held.loose.len() + piece.len() < whole_item(held.opened, &held.loose) {
         held.loose.clear();
     }
     for &byte in piece {",
@@ -3291,7 +3464,7 @@ static REFUSED: std::sync::atomic::AtomicU32 = std::sync::atomic::AtomicU32::new
                 &[(
                     PIECE,
                     "    if piece.is_empty() && held.answer == 0 && (!held.opened || !held.loose.is_empty()) {
-        held.judge(desk, sheet, seen, slip);
+        held.judge(desk, sheet, seen, history, slip);
     }
     for &byte in piece {",
                 )],
@@ -3369,12 +3542,12 @@ static REFUSED: std::sync::atomic::AtomicU32 = std::sync::atomic::AtomicU32::new
             "stop-other-cycle",
             "a fault in a feed shows another true cycle than the step, if there is one",
             &[
-                ("self.answer = step(desk, sheet, seen, slip, &self.loose);", "self.answer = step_apart(desk, sheet, seen, slip, &self.loose);"),
-                ("let answer = step(desk, sheet, seen, slip, record);", "let answer = step_apart(desk, sheet, seen, slip, record);"),
+                ("self.answer = step(desk, sheet, seen, history, slip, &self.loose);", "self.answer = step_apart(desk, sheet, seen, history, slip, &self.loose);"),
+                ("let answer = step(desk, sheet, seen, history, slip, record);", "let answer = step_apart(desk, sheet, seen, history, slip, record);"),
                 (
-                    "/// A fresh feed, 16 zeros.",
-                    "fn step_apart(desk: &mut [u8], sheet: &mut [u8], seen: &mut [u8], slip: &mut [u8], record: &[u8]) -> u8 {
-    let answer = step(desk, sheet, seen, slip, record);
+                    "/// A fresh feed, 22 zeros.",
+                    "fn step_apart(desk: &mut [u8], sheet: &mut [u8], seen: &mut [u8], history: &mut [u8], slip: &mut [u8], record: &[u8]) -> u8 {
+    let answer = step(desk, sheet, seen, history, slip, record);
     if answer == 1 {
         let k = usize::from(desk[0]);
         let entries = slip[1..].chunks_exact(ENTRY).take(usize::from(slip[0]));
@@ -3393,7 +3566,7 @@ static REFUSED: std::sync::atomic::AtomicU32 = std::sync::atomic::AtomicU32::new
     answer
 }
 
-/// A fresh feed, 16 zeros.",
+/// A fresh feed, 22 zeros.",
                 ),
             ],
         ),
@@ -3405,8 +3578,8 @@ static REFUSED: std::sync::atomic::AtomicU32 = std::sync::atomic::AtomicU32::new
             "stop-not-9",
             "a feed goes on after a 9",
             &[(
-                "self.answer = step(desk, sheet, seen, slip, &self.loose);",
-                "self.answer = match step(desk, sheet, seen, slip, &self.loose) {
+                "self.answer = step(desk, sheet, seen, history, slip, &self.loose);",
+                "self.answer = match step(desk, sheet, seen, history, slip, &self.loose) {
                 9 => 0,
                 answer => answer,
             };",
@@ -3418,7 +3591,7 @@ static REFUSED: std::sync::atomic::AtomicU32 = std::sync::atomic::AtomicU32::new
         plant(
             "end-9",
             "an end over loose bytes at the last count is answered with 9",
-            &[(AFTER_END, "        held.judge(desk, sheet, seen, slip);\n        if held.answer == 3 && word_at(desk, COUNT) == u32::MAX {\n            held.answer = 9;\n        }\n    }\n    held.write(feed);")],
+            &[(AFTER_END, "        held.judge(desk, sheet, seen, history, slip);\n        if held.answer == 3 && word_at(desk, COUNT) == u32::MAX {\n            held.answer = 9;\n        }\n    }\n    held.write(feed);")],
         ),
     ),
     shown(
@@ -3427,9 +3600,9 @@ static REFUSED: std::sync::atomic::AtomicU32 = std::sync::atomic::AtomicU32::new
             "feed-place",
             "a pair's number is the feed's record number",
             &[(
-                "self.answer = step(desk, sheet, seen, slip, &self.loose);",
+                "self.answer = step(desk, sheet, seen, history, slip, &self.loose);",
                 "let before = seen.to_vec();
-            self.answer = step(desk, sheet, seen, slip, &self.loose);
+            self.answer = step(desk, sheet, seen, history, slip, &self.loose);
             for (old, new) in before.chunks_exact(WORD).zip(seen.chunks_exact_mut(WORD)) {
                 if old != &new[..] {
                     set_word(new, 0, self.number as u32);
@@ -3464,8 +3637,8 @@ static REFUSED: std::sync::atomic::AtomicU32 = std::sync::atomic::AtomicU32::new
         "number-before",
         "a refused record has the number of the one before",
         &[(
-            "self.answer = step(desk, sheet, seen, slip, &self.loose);",
-            "self.answer = step(desk, sheet, seen, slip, &self.loose);\n            self.number -= u64::from(self.answer > 1);",
+            "self.answer = step(desk, sheet, seen, history, slip, &self.loose);",
+            "self.answer = step(desk, sheet, seen, history, slip, &self.loose);\n            self.number -= u64::from(self.answer > 1);",
         )],
     ),
     // The feed: ends.
@@ -3484,7 +3657,7 @@ static REFUSED: std::sync::atomic::AtomicU32 = std::sync::atomic::AtomicU32::new
     plant(
         "end-header-3",
         "an end before the header is complete is answered with 3",
-        &[(AFTER_END, "        held.judge(desk, sheet, seen, slip);\n        held.answer = 3;\n    }\n    held.write(feed);")],
+        &[(AFTER_END, "        held.judge(desk, sheet, seen, history, slip);\n        held.answer = 3;\n    }\n    held.write(feed);")],
     ),
     shown(
         &ENDS_WITH_0,
@@ -3516,14 +3689,14 @@ static REFUSED: std::sync::atomic::AtomicU32 = std::sync::atomic::AtomicU32::new
     plant(
         "end-forgotten",
         "an end's refusal is not kept",
-        &[(AFTER_END, "        held.judge(desk, sheet, seen, slip);\n    }")],
+        &[(AFTER_END, "        held.judge(desk, sheet, seen, history, slip);\n    }")],
     ),
     shown(
         &ENDS_WITH_10,
         plant(
             "end-10",
             "an end over loose bytes is answered with 3 before 10",
-            &[(AFTER_END, "        held.judge(desk, sheet, seen, slip);\n        if held.answer == 10 {\n            held.answer = 3;\n        }\n    }\n    held.write(feed);")],
+            &[(AFTER_END, "        held.judge(desk, sheet, seen, history, slip);\n        if held.answer == 10 {\n            held.answer = 3;\n        }\n    }\n    held.write(feed);")],
         ),
     ),
     shown(
@@ -3531,13 +3704,13 @@ static REFUSED: std::sync::atomic::AtomicU32 = std::sync::atomic::AtomicU32::new
         plant(
             "end-11",
             "an end over loose bytes is answered with 3 before 11",
-            &[(AFTER_END, "        held.judge(desk, sheet, seen, slip);\n        if held.answer == 11 {\n            held.answer = 3;\n        }\n    }\n    held.write(feed);")],
+            &[(AFTER_END, "        held.judge(desk, sheet, seen, history, slip);\n        if held.answer == 11 {\n            held.answer = 3;\n        }\n    }\n    held.write(feed);")],
         ),
     ),
     plant(
         "end-number",
         "an end over loose bytes has the number of the last record",
-        &[(AFTER_END, "        held.judge(desk, sheet, seen, slip);\n        held.number -= u64::from(held.opened);\n    }\n    held.write(feed);")],
+        &[(AFTER_END, "        held.judge(desk, sheet, seen, history, slip);\n        held.number -= u64::from(held.opened);\n    }\n    held.write(feed);")],
     ),
     shown(
         &ENDS_WITH_3,
@@ -3613,27 +3786,27 @@ static REFUSED: std::sync::atomic::AtomicU32 = std::sync::atomic::AtomicU32::new
         "feed-loose-5",
         "five loose bytes are fit before the header too",
         &[
-            ("if kept >= whole_item(opened) {", "if kept > LOOSE {"),
-            ("if held.loose.len() == whole_item(held.opened) {", "if held.loose.len() >= whole_item(held.opened) {"),
+            ("if count >= whole_item(opened, loose) {", "if count >= whole_item(opened, loose).max(6) {"),
+            ("if held.loose.len() == whole_item(held.opened, &held.loose) {", "if held.loose.len() >= whole_item(held.opened, &held.loose) {"),
         ],
     ),
     plant(
         "feed-unused-first",
         "the first unused loose byte is not looked at",
-        &[("feed[KEEP + kept..NUMBER].iter().any(", "feed[KEEP + kept..NUMBER].iter().skip(1).any(")],
+        &[("unused.iter().any(", "unused.iter().skip(1).any(")],
     ),
     plant(
         "feed-unused-last",
         "the last unused loose byte is not looked at",
-        &[("feed[KEEP + kept..NUMBER].iter().any(", "feed[KEEP + kept..NUMBER].iter().rev().skip(1).any(")],
+        &[("unused.iter().any(", "unused.iter().rev().skip(1).any(")],
     ),
-    plant("feed-loose-standing", "loose bytes may stand beside an answer", &[("if answer != 0 && kept != 0 {", "if answer == 1 && kept != 0 {")]),
+    plant("feed-loose-standing", "loose bytes may stand beside an answer", &[("if answer != 0 && count != 0 {", "if answer == 1 && count != 0 {")]),
     plant("feed-early-10", "10 is fit before opening", &[("answer != 0 && answer != 2 {", "answer != 0 && answer != 2 && answer != 10 {")]),
     plant("feed-early-number", "a number is fit before opening", &[("if !opened && !at_0 {", "if !opened && answer != 0 && !at_0 {")]),
-    plant("feed-late-2", "2 is fit after opening", &[("![0, 1, 3, 4,", "![0, 1, 2, 3, 4,")]),
-    plant("feed-late-9", "9 is unfit after opening", &[("7, 8, 9, 10, 11].contains(&answer)", "7, 8, 10, 11].contains(&answer)")]),
-    plant("feed-late-12", "12 is fit after opening", &[("7, 8, 9, 10, 11].contains(&answer)", "7, 8, 9, 10, 11, 12].contains(&answer)")]),
-    plant("feed-late-10", "10 is unfit, which no start leads to", &[("7, 8, 9, 10, 11].contains(&answer)", "7, 8, 9, 11].contains(&answer)")]),
+    sharing("feed-late-2", "2 is fit after opening", in_place!(STANDS_AT, "matches!(answer, 0..=11 | 15..=19)")),
+    sharing("feed-late-9", "9 is unfit after opening", in_place!(STANDS_AT, "matches!(answer, 0 | 1 | 3..=8 | 10 | 11 | 15..=19)")),
+    sharing("feed-late-12", "12 is fit after opening", in_place!(STANDS_AT, "matches!(answer, 0 | 1 | 3..=12 | 15..=19)")),
+    sharing("feed-late-10", "10 is unfit, which no start leads to", in_place!(STANDS_AT, "matches!(answer, 0 | 1 | 3..=9 | 11 | 15..=19)")),
     plant(
         "feed-answer-at-0",
         "an answer but 1 is fit at record 0 after opening",
@@ -3967,7 +4140,7 @@ static REFUSED: std::sync::atomic::AtomicU32 = std::sync::atomic::AtomicU32::new
         plant("balance-kind-2", "kind 2 counts as an acquire", &[(TAKEN, "            TAKE | 2 => takes[usize::from(class)] += 1,")]),
     ),
     shown(
-        &["malformed by a kind over 10 alone"],
+        &["malformed by a kind over 13 alone"],
         plant(
             "balance-kind-4-bits",
             "the kind is taken in four bits",
@@ -4102,7 +4275,7 @@ static REFUSED: std::sync::atomic::AtomicU32 = std::sync::atomic::AtomicU32::new
         ),
     ),
     shown(
-        &OVER_63,
+        &["class of 64 or more in a piece"],
         plant(
             "class-over-14",
             "a piece with a class of 64 or more is refused with 14",
@@ -4116,7 +4289,7 @@ static REFUSED: std::sync::atomic::AtomicU32 = std::sync::atomic::AtomicU32::new
         ),
     ),
     shown(
-        &OVER_63,
+        &["class of 64 or more in a piece"],
         plant(
             "class-over-ends",
             "a class of 64 or more ends the counting",
@@ -4212,9 +4385,10 @@ static REFUSED: std::sync::atomic::AtomicU32 = std::sync::atomic::AtomicU32::new
         &[(
             PASSED,
             "    let (mut desk, mut sheet, mut seen, mut slip) = ([0; DESK], [0; 4096], [0; 16_384], [0; 449]);
-    open(64, &mut desk, &mut sheet, &mut seen);
+    let mut history = vec![0; HISTORY];
+    open(64, 0, &mut desk, &mut sheet, &mut seen, &mut history);
     let passed = piece.chunks_exact(RECORD).filter_map(|six| {
-        let answer = step(&mut desk, &mut sheet, &mut seen, &mut slip, six);
+        let answer = step(&mut desk, &mut sheet, &mut seen, &mut history, &mut slip, six);
         read_record(six).filter(|_| answer < 2)
     });",
         )],
@@ -4225,9 +4399,10 @@ static REFUSED: std::sync::atomic::AtomicU32 = std::sync::atomic::AtomicU32::new
         &[(
             PASSED,
             "    let (mut desk, mut sheet, mut seen, mut slip) = ([0; DESK], [0; 4096], [0; 16_384], [0; 449]);
-    open(64, &mut desk, &mut sheet, &mut seen);
+    let mut history = vec![0; HISTORY];
+    open(64, 0, &mut desk, &mut sheet, &mut seen, &mut history);
     let passed = piece.chunks_exact(RECORD).filter_map(|six| {
-        let answer = step(&mut desk, &mut sheet, &mut seen, &mut slip, six);
+        let answer = step(&mut desk, &mut sheet, &mut seen, &mut history, &mut slip, six);
         read_record(six).filter(|_| answer != 10)
     });",
         )],
@@ -4238,9 +4413,10 @@ static REFUSED: std::sync::atomic::AtomicU32 = std::sync::atomic::AtomicU32::new
         &[(
             PASSED,
             "    let (mut desk, mut sheet, mut seen, mut slip) = ([0; DESK], [0; 4096], [0; 16_384], [0; 449]);
-    open(64, &mut desk, &mut sheet, &mut seen);
+    let mut history = vec![0; HISTORY];
+    open(64, 0, &mut desk, &mut sheet, &mut seen, &mut history);
     let passed = piece.chunks_exact(RECORD).filter_map(|six| {
-        let answer = step(&mut desk, &mut sheet, &mut seen, &mut slip, six);
+        let answer = step(&mut desk, &mut sheet, &mut seen, &mut history, &mut slip, six);
         read_record(six).filter(|_| answer != 8)
     });",
         )],
@@ -4446,7 +4622,7 @@ static REFUSED: std::sync::atomic::AtomicU32 = std::sync::atomic::AtomicU32::new
     ),
     // Refusals that change something.
     plant("join-11-slip", "11 for room clears the slip", &[("    if (0..lengths.len()).any(|i| lengths[i] < sizes[i]) {", "    if (0..lengths.len()).any(|i| lengths[i] < sizes[i]) {\n        slip.fill(0);")]),
-    plant("join-12-opens", "12 leaves the desk opened", &[(REFUSED_12, "        open(larger as u64, desk, sheet, seen);\n        return 12;")]),
+    plant("join-12-opens", "12 leaves the desk opened", &[(REFUSED_12, "        fresh(larger, 0, desk, sheet, seen);\n        return 12;")]),
     breaks(JOINED_BYTES, plant("join-13-closes", "13 closes the desk", &[(REFUSED_13, "        desk[1] = 1;\n        return 13;")])),
     // The joined desk: cores and count.
     breaks(IN_ORDER, shown(&["state of the first bench but 0"], sharing("join-states-first", "the first bench's states are kept", fresh_but!("desk[STATES..DEPTHS].copy_from_slice(&desk1[STATES..DEPTHS]);")))),
@@ -4474,7 +4650,7 @@ static REFUSED: std::sync::atomic::AtomicU32 = std::sync::atomic::AtomicU32::new
     ),
     sharing("join-count-number", "the count is the greatest number", fresh_but!("set_word(desk, COUNT, (0..sheet_len(k1)).map(|pair| word_at(seen1, WORD * pair).max(word_at(seen2, WORD * pair))).max().unwrap_or(0));")),
     plant("join-count-fault", "a fault is counted", &[(CLOSING, "    desk[1] = fault;\n    set_word(desk, COUNT, u32::from(fault));")]),
-    plant("join-desk-before", "held locks and count that lay there stay", &[("    open(k1 as u64, desk, sheet, seen);", "    let lay = desk[HOLDS..DESK].to_vec();\n    open(k1 as u64, desk, sheet, seen);\n    desk[HOLDS..DESK].copy_from_slice(&lay);")]),
+    plant("join-desk-before", "held locks and count that lay there stay", &[("    fresh(k1, declared[0], desk, sheet, seen);", "    let lay = desk[HOLDS..DESK].to_vec();\n    fresh(k1, declared[0], desk, sheet, seen);\n    desk[HOLDS..DESK].copy_from_slice(&lay);")]),
     shown(&["join into buffers with bytes behind"], sharing("join-past-desk", "bytes behind the desk are cleared", fresh_but!("desk[DESK..].fill(0);"))),
     shown(&["join into buffers with bytes behind"], sharing("join-past-sheet", "bytes behind the sheet are cleared", fresh_but!("sheet.fill(0);"))),
     shown(&["join into buffers with bytes behind"], sharing("join-past-seen", "bytes behind the second sheet are cleared", fresh_but!("seen.fill(0);"))),
@@ -4649,4 +4825,189 @@ static REFUSED: std::sync::atomic::AtomicU32 = std::sync::atomic::AtomicU32::new
             &[(JUDGED, "    let circle = least_circle(desk, sheet, seen).map(|circle| match circle.len() {\n        1 => all_circles(desk, sheet, seen, 1).pop().unwrap_or(circle),\n        _ => circle,\n    });\n    let fault")],
         ),
     ),
+    // Crosslocks: the sort of class, and what is malformed.
+    of_crosslock(&["15 for a try of a crosslock"], sharing("cross-15-tries", "a try of a crosslock is no 15", in_place!(WRONG_SORT, "(of_a_lock && is_crosslock && !(kind == TAKE && mode >= TRY)) || (of_a_crosslock && !is_crosslock)"))),
+    of_crosslock(&["15 for a release of a crosslock as a lock"], sharing("cross-15-release", "a release of a crosslock as a lock is no 15", in_place!(WRONG_SORT, "(kind == TAKE && is_crosslock) || (of_a_crosslock && !is_crosslock)"))),
+    of_crosslock(&["15 for an acquire of a crosslock", "15 for a try of a crosslock", "15 for a release of a crosslock as a lock"], sharing("cross-15-locks", "kinds 0 and 1 go on a crosslock", in_place!(WRONG_SORT, "of_a_crosslock && !is_crosslock"))),
+    of_crosslock(&["15 for a take of a lock as a crosslock", "15 for a commit of a lock", "15 for a release of a lock as a crosslock"], sharing("cross-15-crosslocks", "kinds 10 to 12 go on a lock", in_place!(WRONG_SORT, "of_a_lock && is_crosslock"))),
+    of_crosslock(&["15 for a commit of a lock"], sharing("cross-15-commit", "a commit of a lock is no 15", in_place!(WRONG_SORT, "(of_a_lock && is_crosslock) || (of_a_crosslock && kind != COMMIT && !is_crosslock)"))),
+    of_crosslock(&["15 in a full frame"], sharing("cross-15-8", "8 before 15", in_place!(WRONG_SORT, "(of_a_lock && is_crosslock && !(kind == TAKE && usize::from(desk[DEPTHS + frame(core, desk[STATES + usize::from(core)])]) == DEEPEST)) || (of_a_crosslock && !is_crosslock)"))),
+    of_crosslock(&["15 where none is declared", "15 for a take of a lock as a crosslock", "15 for a commit of a lock", "15 for a release of a lock as a crosslock"], sharing("cross-15-none", "3 for kinds 10 to 12 where none is declared", in_place!(WRONG_SORT, "{ if of_a_crosslock && crosslocks.declared.is_empty() { return 3; } (of_a_lock && is_crosslock) || (of_a_crosslock && !is_crosslock) }"))),
+    of_crosslock(&["4 for kinds 10 to 12"], plant("cross-15-4", "15 before 4", &[("    if usize::from(class) >= k {\n        return 4;", "    if usize::from(class) >= k {\n        return if kind > EXIT_HARD { 15 } else { 4 };")])),
+    of_crosslock(&[], sharing("cross-kinds-old", "kinds 10 to 12 are malformed, as before", in_place!(MALFORMED, "core > 7 || kind > EXIT_HARD || mode > LAST_MODE"))),
+    of_crosslock(&[], sharing("cross-kind-12", "kind 12 is malformed", in_place!(MALFORMED, "core > 7 || kind > COMMIT || mode > LAST_MODE"))),
+    of_crosslock(&["kinds 10 to 12 with a mode"], plant("cross-mode", "kinds 10 to 12 may have a mode", &[("TAKE_CROSSLOCK | COMMIT | RELEASE_CROSSLOCK => (true, false)", "TAKE_CROSSLOCK | COMMIT | RELEASE_CROSSLOCK => (true, true)")])),
+    of_crosslock(&[], plant("cross-class-0", "kinds 10 to 12 have class 0, as events have", &[("TAKE_CROSSLOCK | COMMIT | RELEASE_CROSSLOCK => (true, false)", "TAKE_CROSSLOCK | COMMIT | RELEASE_CROSSLOCK => (false, false)")])),
+    // Crosslocks: in any state, without room in the frame, counted, and with the mark rule.
+    of_crosslock(&["crosslock taken in a full frame"], plant("cross-full-frame", "8 for a crosslock in a full frame", &[(EIGHT, "    let taken = kind == TAKE_CROSSLOCK && !crosslocks.in_progress.contains_key(&class) && crosslocks.in_progress.len() < MOST_IN_PROGRESS;\n    if (kind == TAKE || taken && word_at(desk, COUNT) < u32::MAX) && depth == DEEPEST {")])),
+    of_crosslock(&[], plant("cross-in-hard", "6 for kinds 10 to 12 in a hard handler", &[("    let state_after = if of_a_lock", "    if of_a_crosslock && state > 5 {\n        return 6;\n    }\n    let state_after = if of_a_lock")])),
+    of_crosslock(&[], plant("cross-in-soft", "6 for a commit in a soft handler", &[("    let state_after = if of_a_lock", "    if kind == COMMIT && [4, 5].contains(&state) {\n        return 6;\n    }\n    let state_after = if of_a_lock")])),
+    breaks(NUMBERS, of_crosslock(&[], plant("cross-not-counted", "kinds 10 to 12 are not counted", &[(COUNTED, "    if !of_a_crosslock {\n        set_word(desk, COUNT, own_number);\n    }")]))),
+    of_crosslock(&["crosslock taken over a lock that lacks a mark", "commit over a lock that lacks a mark", "release of a crosslock over a lock that lacks a mark"], sharing("cross-not-marked", "nothing is marked after kinds 10 to 12", in_place!(MARKED_NOW, "if !of_a_crosslock { mark(desk, core); }"))),
+    of_crosslock(&["release of a crosslock over a lock that lacks a mark"], sharing("cross-release-not-marked", "nothing is marked after kind 12", in_place!(MARKED_NOW, "if kind != RELEASE_CROSSLOCK { mark(desk, core); }"))),
+    breaks(BY_RECORDS, of_crosslock(&[], sharing("cross-marks", "a crosslock that is taken in a task is marked as a lock is", in_place!(MARKED_NOW, "mark(desk, core); if kind == TAKE_CROSSLOCK && state == 0 { desk[MARKS + usize::from(class)] |= 68; }")))),
+    of_crosslock(&[], sharing("cross-not-judged", "no cycle is looked for after a commit", in_place!(MARKED_NOW, "mark(desk, core); if kind == COMMIT { return 0; }"))),
+    // Crosslocks: what their take draws.
+    breaks(BY_RECORDS, of_crosslock(&[], sharing("cross-tc-none", "a take of a crosslock draws nothing", in_place!(TC, "let _ = older_holds;")))),
+    of_crosslock(&["crosslock taken over two locks"], sharing("cross-tc-newest", "a take of a crosslock draws from the newest held lock only", in_place!(TC, "for (older, older_mode) in older_holds.into_iter().rev().take(1) { draw(older, hold_arrow(older_mode, EXCLUSIVE), class); }"))),
+    of_crosslock(&["crosslock taken over a try"], sharing("cross-tc-tries", "a take of a crosslock draws from no try", in_place!(TC, "for (place, (older, older_mode)) in older_holds.into_iter().enumerate() { if !is_try(desk, first + place) { draw(older, hold_arrow(older_mode, EXCLUSIVE), class); } }"))),
+    of_crosslock(&["crosslock taken over a read", "crosslock taken over a recursive read"], sharing("cross-tc-e", "a take of a crosslock draws EN from reads too", in_place!(TC, "for (older, _) in older_holds { draw(older, EN, class); }"))),
+    of_crosslock(&["crosslock taken over a recursive read"], sharing("cross-tc-r", "a take of a crosslock draws SR from recursive reads", in_place!(TC, "for (older, older_mode) in older_holds { draw(older, hold_arrow(older_mode, older_mode), class); }"))),
+    of_crosslock(&["crosslock taken over a read", "crosslock taken over a recursive read"], sharing("cross-tc-reads", "a take of a crosslock draws from exclusive locks only", in_place!(TC, "for (older, older_mode) in older_holds { if older_mode == EXCLUSIVE { draw(older, EN, class); } }"))),
+    of_crosslock(
+        &["crosslock taken over nothing, the frame below has locks", "crosslock taken over locks, the frame below has others"],
+        sharing("cross-tc-frames", "a take of a crosslock draws from the locks of the core's other frames too", in_place!(TC, "let _ = older_holds; for frame in here / 3 * 3..here / 3 * 3 + 3 { let from = HOLDS + DEEPEST * frame; for at in from..from + usize::from(desk[DEPTHS + frame]) { draw(desk[at] % 64, hold_arrow(desk[at] / 64, EXCLUSIVE), class); } }")),
+    ),
+    of_crosslock(&[], sharing("cross-tc-back", "a take of a crosslock draws to the held locks", in_place!(TC, "for (older, older_mode) in older_holds { draw(class, hold_arrow(EXCLUSIVE, older_mode), older); }"))),
+    of_crosslock(&["crosslock taken with others in progress"], sharing("cross-to-cross", "a take of a crosslock draws from the others in progress", in_place!(TC, "for (older, older_mode) in older_holds { draw(older, hold_arrow(older_mode, EXCLUSIVE), class); } for &other in crosslocks.in_progress.keys() { draw(other, EN, class); }"))),
+    // Crosslocks: since when.
+    of_crosslock(&["crosslock taken with some kept", "crosslock taken whose since number was another"], sharing("cross-since-0", "a crosslock is taken since 0", in_place!(SINCE_NOW, "crosslocks.in_progress.insert(class, 0)"))),
+    of_crosslock(&["crosslock taken with 256 kept"], sharing("cross-since-byte", "the since number is one byte", in_place!(SINCE_NOW, "crosslocks.in_progress.insert(class, kept_so_far % 256)"))),
+    of_crosslock(&["crosslock taken whose since number was another"], sharing("cross-since-stays", "the since number of a crosslock taken again stays", in_place!(SINCE_NOW, "crosslocks.in_progress.insert(class, match word_at(desk, SINCE + WORD * usize::from(class)) as usize { 0 => kept_so_far, stays => stays })"))),
+    of_crosslock(&["crosslock taken with some kept", "crosslock taken whose since number was another"], sharing("cross-since-standing", "the since number counts what is not struck out", in_place!(SINCE_NOW, "crosslocks.in_progress.insert(class, crosslocks.history.iter().flatten().count())"))),
+    // Crosslocks: what a commit draws.
+    breaks(BY_RECORDS, of_crosslock(&[], sharing("cross-ct-none", "a commit draws nothing", in_place!(CT, "let _ = crosslocks.since(class, here);")))),
+    of_crosslock(&["commit that draws a recursive read"], sharing("cross-ct-en", "a commit draws EN to recursive reads too", in_place!(CT, "for kept in crosslocks.since(class, here) { draw(class, EN, kept.class); }"))),
+    of_crosslock(&["commit that draws a read"], sharing("cross-ct-er", "a commit draws ER to all reads", in_place!(CT, "for kept in crosslocks.since(class, here) { draw(class, if kept.mode == EXCLUSIVE { EN } else { ER }, kept.class); }"))),
+    of_crosslock(&["commit that draws a read", "commit that draws a recursive read"], sharing("cross-ct-s", "a commit draws with S to reads", in_place!(CT, "for kept in crosslocks.since(class, here) { draw(class, hold_arrow(kept.mode, kept.mode), kept.class); }"))),
+    breaks(
+        BY_RECORDS,
+        of_crosslock(
+            &["commit that draws one released meanwhile"],
+            sharing("cross-ct-held", "a commit draws to locks that are still held only", in_place!(CT, "for kept in crosslocks.since(class, here) { if older_holds.iter().any(|held| held.0 == kept.class) { draw(class, hold_arrow(EXCLUSIVE, kept.mode), kept.class); } }")),
+        ),
+    ),
+    of_crosslock(&["commit that draws several"], sharing("cross-ct-newest", "a commit draws to the newest acquire only", in_place!(CT, "for kept in crosslocks.since(class, here).into_iter().rev().take(1) { draw(class, hold_arrow(EXCLUSIVE, kept.mode), kept.class); }"))),
+    of_crosslock(&["commit over a held lock that is not kept"], sharing("cross-ct-all-held", "a commit draws to all held locks of the frame too", in_place!(CT, "for kept in crosslocks.since(class, here) { draw(class, hold_arrow(EXCLUSIVE, kept.mode), kept.class); } for (held, mode) in older_holds { draw(class, hold_arrow(EXCLUSIVE, mode), held); }"))),
+    of_crosslock(&[], sharing("cross-ct-back", "a commit draws from the acquires to the crosslock", in_place!(CT, "for kept in crosslocks.since(class, here) { draw(kept.class, hold_arrow(kept.mode, EXCLUSIVE), class); }"))),
+    of_crosslock(&[], sharing("cross-ct-ends", "a commit ends the crosslock", in_place!(CT, "for kept in crosslocks.since(class, here) { draw(class, hold_arrow(EXCLUSIVE, kept.mode), kept.class); } crosslocks.release(class);"))),
+    of_crosslock(&[], sharing("cross-ct-once", "what is committed once is not committed again: a commit sets the since number", in_place!(CT, "for kept in crosslocks.since(class, here) { draw(class, hold_arrow(EXCLUSIVE, kept.mode), kept.class); } let kept_so_far = crosslocks.history.len(); crosslocks.in_progress.insert(class, kept_so_far);"))),
+    of_crosslock(&["commit, another crosslock with another since number"], sharing("cross-ct-all-since", "a commit draws since the first crosslock in progress was taken", in_place!(CT, "let first = crosslocks.in_progress.values().copied().min().unwrap_or(0); for kept in crosslocks.history.iter().skip(first).flatten().filter(|kept| kept.frame == here) { draw(class, hold_arrow(EXCLUSIVE, kept.mode), kept.class); }"))),
+    of_crosslock(&["commit, an acquire before the crosslock in the frame"], sharing("cross-ct-before", "a commit draws to acquires before the crosslock too", in_place!(SINCE_ON, "self.history.iter().skip(0 * since).flatten()"))),
+    of_crosslock(&["commit, an acquire right before the crosslock"], sharing("cross-ct-one-before", "a commit draws to the acquire right before the crosslock too", in_place!(SINCE_ON, "self.history.iter().skip(since.saturating_sub(1)).flatten()"))),
+    of_crosslock(&["commit, an acquire right behind the crosslock"], sharing("cross-ct-one-behind", "a commit draws from the second acquire on", in_place!(SINCE_ON, "self.history.iter().skip(since + 1).flatten()"))),
+    of_crosslock(&["commit with a since number whose low byte is less", "commit with a since number of 256"], sharing("cross-ct-since-byte", "a commit reads one byte of the since number", in_place!(SINCE_ON, "self.history.iter().skip(since % 256).flatten()"))),
+    of_crosslock(&["commit with a since number whose low byte is less", "commit with a since number over 256"], sharing("cross-ct-since-two", "a commit reads two bytes of the since number", in_place!(SINCE_ON, "self.history.iter().skip(since % 65_536).flatten()"))),
+    of_crosslock(&["commit that draws the last of 256"], plant("cross-ct-255", "a commit looks at 255 entries", &[(SINCE_ON, "self.history.iter().take(255).skip(since).flatten()")])),
+    breaks(BY_RECORDS, of_crosslock(&["commit, an acquire of another core since"], sharing("cross-ct-cores", "a commit draws to the acquires of all cores' such frames", in_place!(KEPT_HERE, "later.filter(|kept| kept.frame % 3 == frame % 3).copied().collect()")))),
+    of_crosslock(&["commit, an acquire of another frame of the core since"], sharing("cross-ct-frames", "a commit draws to the acquires of all frames of the core", in_place!(KEPT_HERE, "later.filter(|kept| kept.frame / 3 == frame / 3).copied().collect()"))),
+    of_crosslock(&["commit, an acquire of another core since", "commit, an acquire of another frame of the core since"], sharing("cross-ct-all", "a commit draws to the acquires of all frames", in_place!(KEPT_HERE, "later.filter(|kept| kept.frame < FRAMES || frame > 0).copied().collect()"))),
+    of_crosslock(&["commit, an acquire of another core since"], sharing("cross-ct-core-bits", "a commit tells cores apart by two bits", in_place!(KEPT_HERE, "later.filter(|kept| kept.frame % 12 == frame % 12).copied().collect()"))),
+    // Visits.
+    breaks(BY_RECORDS, of_crosslock(&["exit that strikes out"], sharing("cross-visits", "an exit ends no visit", in_place!(VISIT_ENDS, "let _ = here;")))),
+    of_crosslock(&["exit of a hard handler beside entries of the soft one"], sharing("cross-visit-soft", "an exit of a hard handler ends the soft visit too", in_place!(VISIT_ENDS, "crosslocks.end_visit(here); if kind == EXIT_HARD { crosslocks.end_visit(here - 1); }"))),
+    of_crosslock(&["exit beside entries of the task"], sharing("cross-visit-task", "an exit ends the visit of the task too", in_place!(VISIT_ENDS, "crosslocks.end_visit(here); crosslocks.end_visit(here / 3 * 3);"))),
+    of_crosslock(&["exit beside entries of another core's handler"], sharing("cross-visit-cores", "an exit ends such visits of all cores", in_place!(VISIT_ENDS, "for core in 0..CORES { crosslocks.end_visit(3 * core + here % 3); }"))),
+    of_crosslock(&["exit that strikes out"], sharing("cross-visit-hard", "an exit of a hard handler ends no visit", in_place!(VISIT_ENDS, "if kind == EXIT_SOFT { crosslocks.end_visit(here); }"))),
+    of_crosslock(&["exit that strikes out"], sharing("cross-visit-frees", "what is struck out is free again", in_place!(VISIT_ENDS, "crosslocks.history.retain(|entry| !entry.is_some_and(|kept| kept.frame == here));"))),
+    of_crosslock(&["exit that strikes out several"], sharing("cross-visit-newest", "an exit strikes out the newest entry only", in_place!(VISIT_ENDS, "if let Some(entry) = crosslocks.history.iter_mut().rev().find(|entry| entry.is_some_and(|kept| kept.frame == here)) { *entry = None; }"))),
+    of_crosslock(&["exit, its frame behind the kept count"], sharing("cross-visit-behind", "an exit strikes out entries behind the kept count too", in_place!(VISIT_ENDS, "crosslocks.end_visit(here); for entry in history[..HISTORY].chunks_exact_mut(KEPT_ENTRY) { if usize::from(entry[0]) == 1 + here { entry.fill(0); } }"))),
+    of_crosslock(&["exit that strikes out"], sharing("cross-visit-place", "an exit strikes out the place alone", in_place!(VISIT_ENDS, "let before = history.to_vec(); crosslocks.end_visit(here); crosslocks.pack(desk, history); let kept = 2 * word_at(desk, KEPT_COUNT) as usize; for at in (1..kept).step_by(2) { history[at] = before[at]; } mark(desk, core); let drawing = Arrivals::of(desk, sheet); let left = drawing.peel(); if left == 0 { return 0; } desk[1] = 1; if let Some(circle) = drawing.least_cycle(left, desk, sheet) { show(slip, &circle, k, seen); } return 1;"))),
+    of_crosslock(&["exit refused with 7 beside entries of its frame"], plant("cross-visit-refused", "a refused exit ends the visit too", &[("(kind == EXIT_SOFT || kind == EXIT_HARD) && depth > 0 {", "(kind == EXIT_SOFT || kind == EXIT_HARD) && depth > 0 {\n        crosslocks.end_visit(here);\n        crosslocks.pack(desk, history);")])),
+    of_crosslock(&[], plant("cross-visits-256", "visits are told apart by one byte", by_visit!("256"))),
+    only_fixed(of_crosslock(&[], plant("cross-visits-65536", "visits are told apart by two bytes", by_visit!("65_536")))),
+    // The history.
+    breaks(BY_RECORDS, of_crosslock(&["try not kept", "try with 256 kept"], sharing("cross-kept-tries", "tries are kept", in_place!(KEEPS, "kind == TAKE && !crosslocks.in_progress.is_empty()")))),
+    of_crosslock(&["acquire not kept, none in progress", "acquire with 256 kept, none in progress"], sharing("cross-kept-declared", "acquires are kept while crosslocks are declared", in_place!(KEEPS, "kind == TAKE && mode < TRY && !crosslocks.declared.is_empty()"))),
+    of_crosslock(&["acquire kept of a recursive read"], sharing("cross-kept-waits", "recursive reads are not kept", in_place!(KEEPS, "kind == TAKE && mode < RECURSIVE && !crosslocks.in_progress.is_empty()"))),
+    of_crosslock(&["acquire kept as the first"], sharing("cross-kept-late", "the first acquire after the first crosslock is not kept", in_place!(KEEPS, "kind == TAKE && mode < TRY && (!crosslocks.history.is_empty() || crosslocks.in_progress.len() > 1)"))),
+    of_crosslock(&["release of one of several, some kept"], sharing("cross-emptied-early", "each release of a crosslock empties the history", in_place!(RELEASES, "{ crosslocks.in_progress.remove(&class); if !crosslocks.history.is_empty() { crosslocks.history.clear(); } }"))),
+    of_crosslock(&["release of the last crosslock, some kept"], sharing("cross-not-emptied", "the history is not emptied", in_place!(RELEASES, "{ crosslocks.in_progress.remove(&class); if crosslocks.in_progress.len() > MOST_IN_PROGRESS { crosslocks.history.clear(); } }"))),
+    of_crosslock(&["release of the last crosslock, 256 kept"], sharing("cross-not-emptied-256", "a full history is not emptied", in_place!(RELEASES, "{ crosslocks.in_progress.remove(&class); if crosslocks.in_progress.is_empty() && crosslocks.history.len() < MOST_KEPT { crosslocks.history.clear(); } }"))),
+    of_crosslock(&["release of a crosslock with a since number but 0"], sharing("cross-release-since", "a release clears the since number", in_place!(RELEASES, "{ crosslocks.release(class); set_word(desk, SINCE + WORD * usize::from(class), 0); }"))),
+    of_crosslock(&["release of the last crosslock, some kept"], sharing("cross-release-bytes", "the bytes of an emptied history are cleared", in_place!(RELEASES, "{ crosslocks.release(class); if crosslocks.history.is_empty() { let kept = 2 * word_at(desk, KEPT_COUNT) as usize; history[..kept].fill(0); } }"))),
+    of_crosslock(&["release of a crosslock with acquires that a commit would draw"], sharing("cross-release-commits", "a release commits", in_place!(RELEASES, "{ for kept in crosslocks.since(class, here) { draw(class, hold_arrow(EXCLUSIVE, kept.mode), kept.class); } crosslocks.release(class) }"))),
+    of_crosslock(&["release of one of several, some kept"], sharing("cross-release-own", "a release strikes out what came since", in_place!(RELEASES, "{ let since = crosslocks.in_progress[&class]; crosslocks.release(class); crosslocks.history.iter_mut().skip(since).for_each(|entry| *entry = None); }"))),
+    // Refusals.
+    of_crosslock(&["16 before 18"], sharing("cross-18-16", "18 before 16", in_place!(LISTED, "kind == TAKE_CROSSLOCK && in_progress && crosslocks.in_progress.len() < MOST_IN_PROGRESS"))),
+    of_crosslock(&["16 with fewer than 16 in progress", "16 before 18"], sharing("cross-16-never", "a crosslock in progress may be taken again", in_place!(LISTED, "kind == TAKE_CROSSLOCK && in_progress && mode > 0"))),
+    of_crosslock(&["17 for a commit"], sharing("cross-17-commit", "a commit may come when the crosslock is not in progress", in_place!(NOT_LISTED, "kind == RELEASE_CROSSLOCK && !in_progress"))),
+    of_crosslock(&["17 for a release"], sharing("cross-17-release", "a release may come when the crosslock is not in progress", in_place!(NOT_LISTED, "kind == COMMIT && !in_progress"))),
+    of_crosslock(&["17 for a release", "17 for a commit"], sharing("cross-17-list", "17 only where none is in progress", in_place!(NOT_LISTED, "(kind == COMMIT || kind == RELEASE_CROSSLOCK) && crosslocks.in_progress.is_empty()"))),
+    of_crosslock(&["sixteenth crosslock taken"], sharing("cross-list-15", "15 may be in progress", in_place!(LIST_FULL, "crosslocks.in_progress.len() >= MOST_IN_PROGRESS - 1"))),
+    of_crosslock(&["18 with 16 in progress", "18 before 9"], sharing("cross-list-17", "17 may be in progress", in_place!(LIST_FULL, "crosslocks.in_progress.len() > MOST_IN_PROGRESS"))),
+    of_crosslock(&["acquire kept as the last of 256"], sharing("cross-history-255", "255 may be kept", in_place!(HISTORY_FULL, "to_be_kept && crosslocks.history.len() >= MOST_KEPT - usize::from(word_at(desk, COUNT) < u32::MAX)"))),
+    of_crosslock(&["try with 256 kept"], sharing("cross-19-tries", "19 for tries too", in_place!(HISTORY_FULL, "kind == TAKE && !crosslocks.in_progress.is_empty() && crosslocks.history.len() == MOST_KEPT"))),
+    breaks("reference", of_crosslock(&["acquire with 256 kept, none in progress"], sharing("cross-19-none", "19 with none in progress too", in_place!(HISTORY_FULL, "kind == TAKE && mode < TRY && crosslocks.history.len() == MOST_KEPT && (to_be_kept || word_at(desk, COUNT) < u32::MAX)")))),
+    of_crosslock(&["19 before 9"], sharing("cross-9-19", "9 before 19", in_place!(HISTORY_FULL, "to_be_kept && crosslocks.history.len() == MOST_KEPT && word_at(desk, COUNT) < u32::MAX"))),
+    of_crosslock(&["8 before 19"], plant("cross-19-8", "19 before 8", &[(EIGHT, "    if crosslocks.keeps(kind, mode) && crosslocks.history.len() == MOST_KEPT {\n        return 19;\n    }\n    if kind == TAKE && depth == DEEPEST {")])),
+    of_crosslock(
+        &["19 for an acquire"],
+        plant("cross-19-accepted", "with a full history an acquire is accepted and not kept", &[
+            ("    if to_be_kept && crosslocks.history.len() == MOST_KEPT {\n        return 19;\n    }", ""),
+            ("            if to_be_kept {", "            if to_be_kept && crosslocks.history.len() < MOST_KEPT {"),
+        ]),
+    ),
+    of_crosslock(&[], plant("cross-19-held", "the acquire that is refused with 19 is held", &[("crosslocks.history.len() == MOST_KEPT {\n        return 19;", "crosslocks.history.len() == MOST_KEPT {\n        desk[first + depth] = class + 64 * mode;\n        desk[DEPTHS + here] += 1;\n        return 19;")])),
+    of_crosslock(&["16 before 9", "17 before 9", "18 before 9"], plant("cross-9-first", "9 before 16, 17 and 18", &[("    // 16: \"already in progress\"", "    if of_a_crosslock && word_at(desk, COUNT) == u32::MAX {\n        return 9;\n    }\n    // 16: \"already in progress\"")])),
+    // The fit test of crosslocks.
+    of_crosslock(&["declared class K"], sharing("fit-declared-k", "class K may be declared", in_place!(FIT_DECLARED, "usize::from(c) > k"))),
+    of_crosslock(&[], sharing("fit-declared-any", "any class may be declared", in_place!(FIT_DECLARED, "usize::from(c) > 63 + k"))),
+    of_crosslock(&[], plant("fit-not-declared", "what is in progress need not be declared", &[("if !in_progress.is_subset(&declared) {", "if !in_progress.is_subset(&declared) && in_progress.is_empty() {")])),
+    of_crosslock(&["17 in progress"], sharing("fit-17", "17 in progress are fit", in_place!(FIT_LIST, "in_progress.len() > MOST_IN_PROGRESS + 1"))),
+    breaks("reference", of_crosslock(&[], sharing("fit-15", "16 in progress are unfit", in_place!(FIT_LIST, "in_progress.len() >= MOST_IN_PROGRESS")))),
+    of_crosslock(&["257 kept"], sharing("fit-257", "257 kept are fit", in_place!(FIT_KEPT, "word_at(desk, KEPT_COUNT) > MOST_KEPT as u32 + 1"))),
+    breaks("reference", of_crosslock(&[], sharing("fit-255", "256 kept are unfit", in_place!(FIT_KEPT, "word_at(desk, KEPT_COUNT) >= MOST_KEPT as u32")))),
+    of_crosslock(&["more kept by its third or fourth byte"], sharing("fit-kept-two", "two bytes of the kept count are looked at", in_place!(FIT_KEPT, "word_at(desk, KEPT_COUNT) % 65_536 > MOST_KEPT as u32"))),
+    breaks("reference", of_crosslock(&[], sharing("fit-kept-alone", "kept acquires with none in progress are unfit", in_place!(FIT_KEPT, "word_at(desk, KEPT_COUNT) > MOST_KEPT as u32 || in_progress.is_empty() && word_at(desk, KEPT_COUNT) > 0")))),
+    of_crosslock(&[], sharing("fit-since", "a since number above the kept count is unfit", in_place!(FIT_KEPT, "word_at(desk, KEPT_COUNT) > MOST_KEPT as u32 || in_progress.iter().any(|&c| word_at(desk, SINCE + WORD * usize::from(c)) > word_at(desk, KEPT_COUNT))"))),
+    of_crosslock(&[], sharing("fit-since-idle", "a since number of a class that is not in progress is unfit", in_place!(FIT_KEPT, "word_at(desk, KEPT_COUNT) > MOST_KEPT as u32 || (0..64).any(|c| !in_progress.contains(&(c as u8)) && word_at(desk, SINCE + WORD * c) > 0)"))),
+    of_crosslock(&[], sharing("fit-held-crosslock", "a held lock of a crosslock is unfit", in_place!(FIT_KEPT, "word_at(desk, KEPT_COUNT) > MOST_KEPT as u32 || frames().any(|(holds, &depth)| holds[..usize::from(depth)].iter().any(|h| declared.contains(&(h % 64))))"))),
+    of_crosslock(&[], sharing("fit-marked-crosslock", "a mark on a crosslock is unfit", in_place!(FIT_KEPT, "word_at(desk, KEPT_COUNT) > MOST_KEPT as u32 || declared.iter().any(|&c| marks[usize::from(c)] != 0)"))),
+    of_crosslock(&["step with a history a byte short"], plant("fit-history-511", "a history of 511 bytes is fit", &[("    if history.len() < HISTORY {\n        return Some(HISTORY_CLAUSES[0]);", "    if history.len() < HISTORY - 1 {\n        return Some(HISTORY_CLAUSES[0]);")])),
+    of_crosslock(&[], plant("fit-history-kept", "a history need be as long as what is kept only", &[("    if history.len() < HISTORY {\n        return Some(HISTORY_CLAUSES[0]);", "    if history.len() < KEPT_ENTRY * word_at(desk, KEPT_COUNT) as usize {\n        return Some(HISTORY_CLAUSES[0]);")])),
+    of_crosslock(&["place byte 25"], sharing("fit-place-25", "place byte 25 is fit", in_place!(FIT_PLACE, "usize::from(entry[0]) > FRAMES + 1"))),
+    of_crosslock(&["step with an entry of frame 23"], sharing("fit-place-24", "place byte 24 is unfit", in_place!(FIT_PLACE, "usize::from(entry[0]) >= FRAMES"))),
+    of_crosslock(&[], plant("fit-struck-out", "the second byte of what is struck out may be any", &[("entry[0] == 0 && entry[1] != 0", "entry[0] == 0 && entry[1] > 191")])),
+    of_crosslock(&[], plant("fit-kept-class", "kept class K is fit", &[("standing().any(|entry| usize::from(entry[1] % 64) >= k)", "standing().any(|entry| usize::from(entry[1] % 64) > k)"), (OLDER, "if usize::from(to) >= k {\n            return;\n        }\n        let pair = usize::from(from) * k + usize::from(to);")])),
+    of_crosslock(&[], sharing("fit-kept-mode", "kept mode 3 is fit", in_place!(FIT_MODE, "entry[1] / 64 > 3"))),
+    of_crosslock(&["step with an entry of a crosslock"], sharing("fit-kept-crosslock", "a kept acquire of a crosslock is unfit", in_place!(FIT_MODE, "entry[1] / 64 == 3 || long_word_at(desk, DECLARED) >> (entry[1] % 64) & 1 == 1"))),
+    of_crosslock(&["unfit entry kept as the last"], plant("fit-history-last", "the last kept entry is not looked at", &[(FIT_ENTRIES, "let entries = || history.chunks_exact(KEPT_ENTRY).take(kept.saturating_sub(1));")])),
+    breaks("reference", of_crosslock(&["step with bytes behind the kept count that would not fit"], plant("fit-history-all", "all entries are looked at", &[(FIT_ENTRIES, "let entries = || history.chunks_exact(KEPT_ENTRY).take(kept.max(MOST_KEPT));")]))),
+    of_crosslock(&[], plant("fit-history-progress", "the history is looked at while a crosslock is in progress only", &[(FIT_ENTRIES, "let entries = || history.chunks_exact(KEPT_ENTRY).take(if long_word_at(desk, PROGRESS) == 0 { 0 } else { kept });")])),
+    of_crosslock(&[], plant("fit-history-byte", "255 entries at most are looked at", &[(FIT_ENTRIES, "let entries = || history.chunks_exact(KEPT_ENTRY).take(kept.min(255));")])),
+    // Opening with crosslocks, and desks without them.
+    shown(&["opening with class K alone over the limit"], sharing("opening-declared-k", "opening accepts class K declared", in_place!(WORD_FITS, "u64::from(c) > k"))),
+    shown(&["opening with a class of K or more declared"], sharing("opening-declared-any", "opening accepts any word", in_place!(WORD_FITS, "u64::from(c) >= k + 64"))),
+    shown(&["opening over a history with bytes"], plant("opening-history-stays", "opening leaves the history", &[("    history[..HISTORY].fill(0);\n    0", "    0")])),
+    shown(&["opening with a history longer"], plant("opening-past-history", "opening clears the bytes behind the history", &[("    history[..HISTORY].fill(0);\n    0", "    history.fill(0);\n    0")])),
+    shown(&["opening with a history a byte short"], plant("opening-history-511", "opening accepts a history of 511 bytes", &[("if history.len() < HISTORY || !fresh(", "if history.len() < HISTORY - 1 || !fresh("), ("    history[..HISTORY].fill(0);\n    0", "    let end = history.len().min(HISTORY);\n    history[..end].fill(0);\n    0")])),
+    shown(&["opening with crosslocks"], sharing("opening-declared-low", "opening takes the low byte of the word", in_place!(WORD_WRITTEN, "(declared % 256).to_le_bytes()"))),
+    shown(&["opening with crosslocks"], sharing("opening-declared-high", "opening writes the word's high byte first", in_place!(WORD_WRITTEN, "declared.to_be_bytes()"))),
+    shown(&["opening of a desk without crosslocks"], plant("opening-1398", "opening accepts a desk of 1,398 bytes", opening_of!("1398"))),
+    shown(&["call on a desk without crosslocks", "call on a desk with part of the crosslocks", "call on a desk a byte short"], plant("desk-1398", "a desk of 1,398 bytes is fit", desk_unless!("desk.len() < DECLARED"))),
+    // Headers with crosslocks, and what a feed keeps and stands at.
+    plant("feed-long-old", "a header is of four bytes, as before", &[("(false, [_, _, 0x02, ..]) => LONG_HEADER,", "(false, [_, _, 0x02, _, _, ..]) => LONG_HEADER,")]),
+    plant("feed-long-by-three", "a header is of twelve bytes only if its first two are right too", &[("(false, [_, _, 0x02, ..]) => LONG_HEADER,", "(false, [0x4C, 0x48, 0x02, ..]) => LONG_HEADER,")]),
+    plant("feed-long-over-1", "a header is of twelve bytes if its third is over 1", &[("(false, [_, _, 0x02, ..]) => LONG_HEADER,", "(false, [_, _, 0x02..=255, ..]) => LONG_HEADER,")]),
+    shown(&["long header that opens"], plant("feed-word-high", "the word's high byte comes first", &[("        .rev()\n        .fold(0, |word, &byte| word << 8 | u64::from(byte));\n    Some((u64::from(*k), word))", "        .fold(0, |word, &byte| word << 8 | u64::from(byte));\n    Some((u64::from(*k), word))")])),
+    shown(&["long header that opens", "long header with a class of K or more"], sharing("feed-word-none", "a long header declares none", in_place!(WORD_READ, "Some((u64::from(*k), word * 0))"))),
+    shown(&["long header that declares class 8 or more opens", "long header with a class of K or more"], sharing("feed-word-low", "a long header's word is its first byte", in_place!(WORD_READ, "Some((u64::from(*k), word % 256))"))),
+    shown(&["long header that declares none opens"], plant("feed-word-0", "a long header must declare some", &[("[0x4C, 0x48, 0x02, k, declared @ ..] if declared.len() == 8", "[0x4C, 0x48, 0x02, k, declared @ ..] if declared.len() == 8 && declared.iter().any(|&byte| byte != 0)")])),
+    shown(&["piece that leaves 11 bytes of the header"], plant("feed-loose-10", "at most ten loose bytes are kept", &[(AFTER_PIECE, "            held.judge(desk, sheet, seen, history, slip);\n        }\n    }\n    held.loose.truncate(10);\n    held.write(feed);")])),
+    shown(&["header with a short history"], plant("header-short-history", "a history too short for the header is answered with 11", &[("Some((k, declared)) => open(", "Some((k, declared)) if history.len() < HISTORY && (1..=64).contains(&k) && declared >> (k - 1) < 2 && desk.len() >= DESK && sheet.len() >= sheet_len(k as usize) && seen.len() >= seen_len(k as usize) => 11,\n                Some((k, declared)) => open(")])),
+    sharing("feed-late-15", "15 is unfit after opening", in_place!(STANDS_AT, "matches!(answer, 0 | 1 | 3..=11 | 16..=19)")),
+    sharing("feed-late-19", "19 is unfit after opening", in_place!(STANDS_AT, "matches!(answer, 0 | 1 | 3..=11 | 15..=18)")),
+    sharing("feed-late-14", "14 is fit after opening", in_place!(STANDS_AT, "matches!(answer, 0 | 1 | 3..=11 | 14..=19)")),
+    sharing("feed-late-20", "20 is fit after opening", in_place!(STANDS_AT, "matches!(answer, 0 | 1 | 3..=11 | 15..=20)")),
+    sharing("feed-late-17", "17 is unfit after opening", in_place!(STANDS_AT, "matches!(answer, 0 | 1 | 3..=11 | 15 | 16 | 18 | 19)")),
+    plant("feed-stops-not-16", "a feed goes on after a 16", &[("self.answer = step(desk, sheet, seen, history, slip, &self.loose);", "self.answer = match step(desk, sheet, seen, history, slip, &self.loose) {\n                16 => 0,\n                answer => answer,\n            };")]),
+    // Balances beside crosslocks.
+    breaks(AS_COUNTED, shown(&["kind 10 in a piece"], plant("balance-kind-10", "a take of a crosslock counts as an acquire", &[(TAKEN, "            TAKE | TAKE_CROSSLOCK => takes[usize::from(class)] += 1,")]))),
+    shown(&["kind 11 in a piece"], plant("balance-kind-11", "a commit counts as an acquire", &[(TAKEN, "            TAKE | COMMIT => takes[usize::from(class)] += 1,")])),
+    breaks(AS_HELD, shown(&["kind 12 in a piece"], plant("balance-kind-12", "a release of a crosslock counts as a release", &[(RELEASED, "            RELEASE | RELEASE_CROSSLOCK => releases[usize::from(class)] += 1,")]))),
+    // Joins of benches with crosslocks.
+    breaks(JOIN_ANSWERS, shown(&["12 for other crosslocks alone", "12 for other crosslocks, a bench closed"], sharing("join-word-never", "benches with other crosslocks are joined", in_place!(OTHER_WORD, "declared[0] != declared[0]")))),
+    shown(&["12 for class 8 or more a crosslock of one alone"], sharing("join-word-byte", "the low bytes of the words are compared", in_place!(OTHER_WORD, "declared[0] as u8 != declared[1] as u8"))),
+    breaks(IN_ORDER, shown(&["12 for other crosslocks alone", "12 for other crosslocks, a bench closed"], sharing("join-word-more", "12 only where the second bench has more crosslocks", in_place!(OTHER_WORD, "declared[1] & !declared[0] != 0")))),
+    shown(&["12 for other crosslocks alone", "12 for other crosslocks, a bench closed"], sharing("join-word-apart", "12 only where no crosslock is on both benches", in_place!(OTHER_WORD, "declared[0] != declared[1] && declared[0] & declared[1] == 0"))),
+    shown(&["join with the same crosslocks"], sharing("join-word-none", "the joined desk declares none", in_place!(FRESH, "fresh(k1, 0, desk, sheet, seen)"))),
+    breaks(IN_ORDER, shown(&["join with a crosslock in progress on the first bench"], sharing("join-progress-first", "what is in progress on the first bench stays so", fresh_but!("desk[PROGRESS..KEPT_COUNT].copy_from_slice(&desk1[PROGRESS..KEPT_COUNT]);")))),
+    shown(&["join with a crosslock in progress on the second bench"], sharing("join-progress-second", "what is in progress on the second bench stays so", fresh_but!("desk[PROGRESS..KEPT_COUNT].copy_from_slice(&desk2[PROGRESS..KEPT_COUNT]);"))),
+    shown(&["join with some kept on the first bench"], sharing("join-kept-first", "what is kept on the first bench stays so", fresh_but!("desk[KEPT_COUNT..SINCE].copy_from_slice(&desk1[KEPT_COUNT..SINCE]);"))),
+    shown(&["join with some kept on the second bench"], sharing("join-kept-second", "what is kept on the second bench stays so", fresh_but!("desk[KEPT_COUNT..SINCE].copy_from_slice(&desk2[KEPT_COUNT..SINCE]);"))),
+    shown(&["join with a since number on the first bench"], sharing("join-since-first", "the first bench's since numbers stay", fresh_but!("desk[SINCE..DESK].copy_from_slice(&desk1[SINCE..DESK]);"))),
+    shown(&["join with a since number on the second bench"], sharing("join-since-second", "the second bench's since numbers stay", fresh_but!("desk[SINCE..DESK].copy_from_slice(&desk2[SINCE..DESK]);"))),
+    shown(&["join with a crosslock in progress on the first bench", "join with a crosslock in progress on the second bench"], sharing("join-progress-13", "13 for a crosslock in progress", in_place!(CLOSED, "desk1[1] == 1 || desk2[1] == 1 || long_word_at(desk1, PROGRESS) != 0 || long_word_at(desk2, PROGRESS) != 0"))),
+    shown(&["join with some kept on the first bench", "join with some kept on the second bench"], sharing("join-kept-13", "13 for a bench with kept acquires", in_place!(CLOSED, "desk1[1] == 1 || desk2[1] == 1 || word_at(desk1, KEPT_COUNT) != 0 || word_at(desk2, KEPT_COUNT) != 0"))),
 ];

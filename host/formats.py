@@ -1,4 +1,4 @@
-"""What host/test_formats, host/test_feed_formats and host/test_join_formats share: the page that they read, the library, and the sizes and places of desk, sheets and slip.
+"""What host/test_formats, host/test_feed_formats and host/test_join_formats share: the page that they read, the library, and the sizes and places of desk, sheets, history and slip.
 
 The arguments are theirs: PATH/SHARED_LIBRARY [PAGE [--first]]. What the page says is read from it and tried: every cell that says what a record or a byte
 does. --first: stop at what is wrong first."""
@@ -64,18 +64,28 @@ def octets(text):
     return list(bytes.fromhex(text.replace(" ", "")))
 
 
-class Buffers:
-    """Buffers of the given sizes, or of those that the page has for K; opened."""
+def slices(*buffers):
+    return [x for b in buffers for x in (b, ctypes.c_size_t(len(b)))]
 
-    def __init__(self, k=8, desk=None, sheet=None, seen=None, slip=None):
+
+class Buffers:
+    """Buffers of the given sizes, or of those that the page has for K; opened with the declared word."""
+
+    def __init__(self, k=8, desk=None, sheet=None, seen=None, slip=None, history=None, declared=0):
         sizes = (DESK if desk is None else desk, k * k if sheet is None else sheet, NUMBER * k * k if seen is None else seen,
-                 SLIP[0] + SLIP[1] * k if slip is None else slip)
+                 HISTORY if history is None else history, SLIP[0] + SLIP[1] * k if slip is None else slip)
         self.k = k
-        self.desk, self.sheet, self.seen, self.slip = ((ctypes.c_uint8 * n).from_buffer_copy(bytes([FILL]) * n) for n in sizes)
-        self.opened = library.plungerowl_open(ctypes.c_uint64(k), *self.lent()[:6])
+        self.desk, self.sheet, self.seen, self.history, self.slip = ((ctypes.c_uint8 * n).from_buffer_copy(bytes([FILL]) * n) for n in sizes)
+        self.opened = self.open(k, declared)
+
+    def open(self, k, declared=0):
+        return library.plungerowl_open(ctypes.c_uint64(k), ctypes.c_uint64(declared), *self.bench(), *slices(self.history))
+
+    def bench(self):
+        return slices(self.desk, self.sheet, self.seen)
 
     def lent(self):
-        return [x for b in (self.desk, self.sheet, self.seen, self.slip) for x in (b, ctypes.c_size_t(len(b)))]
+        return slices(self.desk, self.sheet, self.seen, self.history, self.slip)
 
     def step(self, record):
         return library.plungerowl_step(*self.lent(), bytes(record), ctypes.c_size_t(len(record)))
@@ -85,11 +95,11 @@ class Buffers:
 
     def ask(self, class_):
         word, count = ctypes.c_uint64(), ctypes.c_uint32()
-        answer = library.plungerowl_ask(*self.lent()[:6], ctypes.c_uint64(class_), ctypes.byref(word), ctypes.byref(count))
+        answer = library.plungerowl_ask(*self.bench(), ctypes.c_uint64(class_), ctypes.byref(word), ctypes.byref(count))
         return answer, word.value, count.value
 
     def copy(self):
-        return [list(self.desk), list(self.sheet), list(self.seen), list(self.slip)]
+        return [list(self.desk), list(self.sheet), list(self.seen), list(self.history), list(self.slip)]
 
     def count(self):
         return low_first(self.desk[count_at:count_at + NUMBER])
@@ -110,13 +120,30 @@ class Buffers:
 
     def filled(self, fill=FILL):
         """All bytes as before any call."""
-        for buffer in self.desk, self.sheet, self.seen, self.slip:
+        for buffer in self.desk, self.sheet, self.seen, self.history, self.slip:
             ctypes.memset(buffer, fill, len(buffer))
         return self
 
+    def put_word(self, at, word):
+        self.desk[at:at + WORD] = word.to_bytes(WORD, "little")
+
+    def word(self, at):
+        return low_first(self.desk[at:at + WORD])
+
+    def put_kept(self, kept, *entries):
+        """The kept count, and the first entries of the history."""
+        self.desk[kept_at:kept_at + NUMBER] = kept.to_bytes(NUMBER, "little")
+        self.history[:2 * len(entries)] = [byte for entry in entries for byte in entry]
+
+    def kept(self):
+        return low_first(self.desk[kept_at:kept_at + NUMBER])
+
+    def since(self, class_):
+        return low_first(self.desk[since_at + since_step * class_:][:NUMBER])
+
     def join(self, one, two):
         """Two benches are joined into this one."""
-        return library.plungerowl_join(*one.lent()[:6], *two.lent()[:6], *self.lent())
+        return library.plungerowl_join(*one.bench(), *two.bench(), *self.bench(), *slices(self.slip))
 
 
 def low_first(octets):
@@ -127,7 +154,7 @@ def record(kind, class_=0, mode=0, core=0):
     return [0x4C, 0x4B, core, kind, class_, mode]
 
 
-ACQUIRE, RELEASE, HARD_ON, HARD_OFF, SOFT_ON, SOFT_OFF, ENTER_SOFT, EXIT_SOFT, ENTER_HARD, EXIT_HARD = range(10)
+ACQUIRE, RELEASE, HARD_ON, HARD_OFF, SOFT_ON, SOFT_OFF, ENTER_SOFT, EXIT_SOFT, ENTER_HARD, EXIT_HARD, CROSS, COMMIT, UNCROSS = range(13)
 MODES, TRY = 6, 3
 
 # ---- sizes and places
@@ -135,26 +162,40 @@ MODES, TRY = 6, 3
 DESK, = said(r"\n(\d+) bytes: where every core stands")
 NUMBER, = said(r"\n(\d+) x K x K bytes: the first-seen numbers\.")
 SLIP = said(r"\n(\d+) \+ (\d+) K bytes, written with a fault")
-ROWS = [r"0", r"(\d+)", r"(\d+) \+ i", r"(\d+) \+ f", r"(\d+) \+ c", r"(\d+) \+ (\d+) f \+ p", r"(\d+) \+ \((\d+) f \+ p\) / 8, rounded down", r"(\d+) \+ i"]
+HISTORY, = said(r"\n(\d+) bytes, lent beside the desk: the acquires that are")
+WORD = 8
+ROWS = [r"0", r"(\d+)", r"(\d+) \+ i", r"(\d+) \+ f", r"(\d+) \+ c", r"(\d+) \+ (\d+) f \+ p", r"(\d+) \+ \((\d+) f \+ p\) / 8, rounded down", *[r"(\d+) \+ i"] * 4,
+        r"(\d+) \+ (\d+) c \+ i"]
 rows = table("| byte | has |", len(ROWS))
-_, (closed_at,), (states_at,), (depths_at,), (marks_at,), (held_at, depth), (origins_at, again), (count_at,) = (
+_, (closed_at,), (states_at,), (depths_at,), (marks_at,), (held_at, depth), (origins_at, again), (count_at,), (declared_at,), (progress_at,), (kept_at,), (since_at, since_step) = (
     map(int, re.fullmatch(pattern, cells[0]).groups()) for pattern, cells in zip(ROWS, rows))
 cores, classes, frames, last_state = 8, 64, 24, 8
-check("the numbers in the desk's rows", [[], [0, 1], [0, last_state], [0, depth], [classes], [0, depth - 1, 0, 0], [depth, 8, 0], [0, NUMBER - 1, 256]],
+MOST_KEPT, MOST_IN_PROGRESS = HISTORY // 2, 16
+check("the numbers in the desk's rows", [[], [0, 1], [0, last_state], [0, depth], [classes], [0, depth - 1, 0, 0], [depth, 8, 0], [0, NUMBER - 1, 256],
+                                         [0, WORD - 1, 256, 1], [0, WORD - 1, 1], [0, NUMBER - 1, 0, MOST_KEPT], [0, NUMBER - 1]],
       [numbers(has) for _, has in rows])
+check("the names of the rows of crosslocks", ["declared word", "progress word", "kept count", "since number"],
+      [re.search(r"declared word|progress word|kept count|since number", has)[0] for _, has in rows[-4:]])
 check("the depth of the origin bits", depth, again)
 picture = re.search(r"\n    ( *0   1 .*)\n(?:.*\n){3}(.*)C: closed", page)
-offsets = [0, closed_at, states_at, depths_at, marks_at, held_at, origins_at, count_at, DESK]
+offsets = [0, closed_at, states_at, depths_at, marks_at, held_at, origins_at, count_at, declared_at, DESK]
 check("the offsets in the desk's picture", offsets, numbers(picture[1]))
 check("the sizes in the desk's picture", [b - a for a, b in zip(offsets, offsets[1:])],
       [numbers(part)[-1] for part in re.split(r"\s{3,}", picture[2].strip())])
 check("the sums in the desk's picture", [(f"{frames} x {depth}", str(frames * depth)), (f"{frames * depth} / 8", str(frames * depth // 8))],
       re.findall(r"(\d+ [x/] \d+) = (\d+)", picture[2]))
+more = re.search(r"\n    ( *\d+ +\d+ +\d+ +\d+ +\d+ +\d+ +\d+)\n.*\n    \| declared word .*\n.*\n(.*)\n", page)
+check("the offsets in the picture of crosslocks", [declared_at, progress_at, kept_at, since_at, since_at + NUMBER, DESK - NUMBER, DESK], numbers(more[1]))
+check("the sizes in it", [WORD, WORD, NUMBER, NUMBER, classes, DESK - since_at], numbers(more[2]))
+check("the since numbers", [since_step, since_at + since_step * classes], [NUMBER, DESK])
 check("opening", [Buffers(desk=DESK).opened, Buffers(desk=DESK - 1).opened], [0, 2])
+b = Buffers(64, desk=DESK + 9, sheet=64 * 64 + 9, seen=NUMBER * 64 * 64 + 9, history=HISTORY + 9, declared=0x8877665544332211)
+at, others = said(r"the declared word to the 8 bytes from (\d+) on, 0 to the other (\d+) bytes of the desk")
+check("the desk opened", list(b.desk), [64] + [0] * (at - 1) + [0x11 * i for i in range(1, 9)] + [0] * (others - at + 1) + [FILL] * 9)
+check("the history opened", list(b.history), [0] * said(r"and 0 to the (\d+) bytes of the history")[0] + [FILL] * 9)
 b = Buffers(desk=DESK + 9, sheet=64 + 9, seen=NUMBER * 64 + 9)
-check("the desk opened", list(b.desk), [8] + [0] * said(r"0 to the other (\d+) bytes of the desk")[0] + [FILL] * 9)
 check("the sheet opened", list(b.sheet), [0] * 64 + [FILL] * 9)
-check("the second sheet opened", list(b.seen), [0] * 64 * said(r"and 0 to the (\d+) x K x K bytes of the second sheet")[0] + [FILL] * 9)
+check("the second sheet opened", list(b.seen), [0] * 64 * said(r"of the sheet, 0 to the (\d+) x K x K bytes of the second sheet")[0] + [FILL] * 9)
 check("the slip's picture", [*range(1, 5), *range(1 + SLIP[1], 5 + SLIP[1]), 1 + 2 * SLIP[1], *SLIP * 2],
       said(r"\n    0 (\d+) (\d+) (\d+) (\d+) (\d+) (\d+) (\d+) (\d+) (\d+) (\d+) \+ (\d+)n (\d+) \+ (\d+)K\n"))
 check("the slip's size", [Buffers(slip=SLIP[0] + SLIP[1] * 8 - n).step(record(HARD_ON)) for n in (0, 1)], [0, 11])
@@ -162,11 +203,11 @@ check("the sizes of a dependency and of a number", [SLIP[1], NUMBER], [3 + NUMBE
 check("the same in words", ["seven", "four", NUMBER], said(r"Each dependency has (\w+) bytes: the class") + said(r"in the (\w+) bytes from (\d+) x \(from x K \+ to\) on"))
 FULL, power = said(r"At (\d+) \(2 to the (\d+), less 1\) it is full")
 check("a full count", [(1 << power) - 1, (1 << 8 * NUMBER) - 1], [FULL, FULL])
-check("the limits", [classes, cores, cores - 1, depth],
-      said(r"K, the number of lock classes, is 1 to (\d+); (\d+) cores, 0 to (\d+); (\d+) held locks in a frame"))
-check("the limits of the header", [int(re.search(rf"define PLUNGEROWL_{name} (\d+)", header_text)[1]) for name in ("MAX_CLASSES", "CORES", "MAX_DEPTH")],
-      [classes, cores, depth])
-check("the desk of the header", re.findall(r"A desk has ([\d,]+)\s", header_text), [f"{DESK:,}"])
+check("the limits", [classes, cores, cores - 1, depth, MOST_IN_PROGRESS, MOST_KEPT],
+      said(r"K, the number of lock classes, is 1 to (\d+); (\d+) cores, 0 to (\d+); (\d+) held locks in a frame; (\d+) crosslocks in progress; (\d+) acquires in the history"))
+check("the limits of the header", [int(re.search(rf"define PLUNGEROWL_{name} (\d+)", header_text)[1]) for name in
+                                   ("MAX_CLASSES", "CORES", "MAX_DEPTH", "MAX_IN_PROGRESS", "MAX_KEPT")], [classes, cores, depth, MOST_IN_PROGRESS, MOST_KEPT])
+check("the desk and the history of the header", re.findall(r"A desk has ([\d,]+) bytes, and a history (\d+):", header_text), [(f"{DESK:,}", str(HISTORY))])
 
 
 def origin_place(frame, place):
@@ -174,12 +215,12 @@ def origin_place(frame, place):
     return origins_at + (depth * frame + place) // 8, 1 << (depth * frame + place) % 8
 
 
-*OLD_DESKS, on_old, least = said(r"A desk of an earlier version \((\d+), (\d+) or (\d+) bytes\) is unfit in a buffer of its own length, and opening answers (\d+) there\. "
+*OLD_DESKS, on_old, least = said(r"A desk of an earlier version \((\d+), (\d+), (\d+) or (\d+) bytes\) is unfit in a buffer of its own length, and opening answers (\d+) there\. "
                                  r"In a buffer of (\d+) bytes or more it is read as it stands, by the places above:")
 OLD_DEPTH = 20
 old_origins_at = held_at + frames * OLD_DEPTH
 old_count_at = old_origins_at + frames * OLD_DEPTH // 8
-check("desks of earlier versions", [old_origins_at, old_count_at, old_count_at + NUMBER, DESK], [*OLD_DESKS, least])
+check("desks of earlier versions", [old_origins_at, old_count_at, old_count_at + NUMBER, declared_at, DESK], [*OLD_DESKS, least])
 check("opening them", [Buffers(desk=n).opened for n in OLD_DESKS], [on_old] * len(OLD_DESKS))
 
 
@@ -199,6 +240,8 @@ def records_in(text):
         for op in part.split(", "):
             if match := re.fullmatch(r"(release )?((?:try )?\d[ErR])", op):
                 yield record(RELEASE if match[1] else ACQUIRE, *lock(match[2]), core)
+            elif match := re.fullmatch(r"(cross|commit|release) (\d)", op):
+                yield record({"cross": CROSS, "commit": COMMIT, "release": UNCROSS}[match[1]], int(match[2]), core=core)
             else:
                 yield record(header[op], core=core)
 
@@ -247,8 +290,8 @@ def cycles(b):
         yield from longer([], start)
 
 
-def in_state(state, core=0, k=8):
-    b = Buffers(k)
+def in_state(state, core=0, k=8, declared=0):
+    b = Buffers(k, declared=declared)
     b.desk[states_at + core] = state
     return b
 

@@ -53,6 +53,7 @@ struct buffers {
     struct guarded desk;
     struct guarded sheet;
     struct guarded seen;
+    struct guarded history;
     struct guarded slip;
     struct guarded piece;
 };
@@ -80,6 +81,7 @@ static void make_buffers(struct buffers *b, size_t piece_size)
         || !guarded_make(&b->desk, PLUNGEROWL_DESK_SIZE, 0xEE)
         || !guarded_make(&b->sheet, PLUNGEROWL_SHEET_SIZE(classes), 0xEE)
         || !guarded_make(&b->seen, PLUNGEROWL_SEEN_SIZE(classes), 0xEE)
+        || !guarded_make(&b->history, PLUNGEROWL_HISTORY_SIZE, 0xEE)
         || !guarded_make(&b->slip, PLUNGEROWL_SLIP_SIZE(classes), 0xEE)
         || !guarded_make(&b->piece, piece_size, 0xEE))
         quit(STATUS_TROUBLE, "out of memory");
@@ -91,6 +93,7 @@ static void free_buffers(struct buffers *b)
     guarded_free(&b->desk);
     guarded_free(&b->sheet);
     guarded_free(&b->seen);
+    guarded_free(&b->history);
     guarded_free(&b->slip);
     guarded_free(&b->piece);
 }
@@ -105,6 +108,8 @@ static void check_guards(const struct buffers *b)
         quit(STATUS_LIBRARY, "bytes around the sheet were changed");
     if (!guarded_intact(&b->seen))
         quit(STATUS_LIBRARY, "bytes around the second sheet were changed");
+    if (!guarded_intact(&b->history))
+        quit(STATUS_LIBRARY, "bytes around the history were changed");
     if (!guarded_intact(&b->slip))
         quit(STATUS_LIBRARY, "bytes around the slip were changed");
     if (!guarded_intact(&b->piece))
@@ -125,6 +130,7 @@ static unsigned feed_piece(struct buffers *b, size_t length, uint64_t *record)
                                       b->desk.bytes, b->desk.size,
                                       b->sheet.bytes, b->sheet.size,
                                       b->seen.bytes, b->seen.size,
+                                      b->history.bytes, b->history.size,
                                       b->slip.bytes, b->slip.size,
                                       b->piece.bytes, length, record);
     check_guards(b);
@@ -137,6 +143,7 @@ static unsigned end_feed(struct buffers *b, uint64_t *record)
                                           b->desk.bytes, b->desk.size,
                                           b->sheet.bytes, b->sheet.size,
                                           b->seen.bytes, b->seen.size,
+                                          b->history.bytes, b->history.size,
                                           b->slip.bytes, b->slip.size, record);
     check_guards(b);
     return answer;

@@ -7,9 +7,10 @@
  * the selftest that is meant for it.
  *
  * The feed has a second version here, in C over real_open and real_step, the
- * balance has one too, and the join has one over real_ask and real_step, with
- * places for mistakes; the plants of the second, the third and the fourth list
- * use them, and "right" uses all three, without a mistake.
+ * balance has one too, the join has one over real_ask and real_step, and so
+ * have opening, step and question, over the real ones with no crosslocks on the
+ * desk, with places for mistakes; the plants of the second to the fifth list
+ * use them, and "right" uses all of them, without a mistake.
  */
 #include <stdlib.h>
 #include <string.h>
@@ -745,7 +746,53 @@
     X(feed_tie_kept_for_joined, join_feed_on, wrong) \
     X(feed_refuses_fresh_with_kinds, join_feed_on, wrong) \
     X(end_tie_kept, above_count, wrong) \
-    X(end_tie_kept_for_joined, join_feed_on, wrong)
+    X(end_tie_kept_for_joined, join_feed_on, wrong) \
+    X(long_header_of_4, cross_feed_header, wrong) \
+    X(long_header_by_signature, cross_feed_header, wrong) \
+    X(long_header_by_first_byte, cross_feed_header, wrong) \
+    X(long_header_of_other_versions, cross_feed_header, wrong) \
+    X(long_header_of_11, cross_feed_header, wrong) \
+    X(long_header_for_all, cross_feed_header, wrong) \
+    X(header_version_2_refused, cross_feed_header, wrong) \
+    X(header_version_3_taken, cross_feed_header, wrong) \
+    X(long_header_opens_at_fourth, cross_feed_header, wrong) \
+    X(long_header_k_at_once, cross_feed_header, wrong) \
+    X(header_word_ignored, cross_feed_header, wrong) \
+    X(header_word_high_byte_first, cross_feed_header, wrong) \
+    X(header_word_of_4_bytes, cross_feed_header, wrong) \
+    X(header_word_of_one_byte, cross_feed_header, wrong) \
+    X(header_word_cut_to_k, cross_feed_header, wrong) \
+    X(header_word_of_last_log, cross_feed_header, wrong) \
+    X(loses_eleventh_loose, cross_feed_header, wrong) \
+    X(loses_sixth_loose, cross_feed_header, wrong) \
+    X(keeps_five_loose, cross_feed_header, wrong) \
+    X(opening_leaves_history, cross_feed_header, wrong) \
+    X(short_history_as_11, cross_feed_lengths, wrong) \
+    X(short_history_opened, cross_feed_lengths, wrong) \
+    X(short_history_stepped, cross_feed_lengths, wrong) \
+    X(end_answers_0_to_short_history, cross_feed_lengths, wrong) \
+    X(end_answers_3_to_unfit_history, cross_feed_lengths, wrong) \
+    X(end_answers_3_to_part_of_long_header, cross_feed_end, wrong) \
+    X(end_opens_part_of_long_header, cross_feed_end, wrong) \
+    X(end_keeps_loose_of_long_header, cross_feed_end, wrong) \
+    X(feed_fit_long_count_12, cross_feed_fit, wrong) \
+    X(feed_fit_count_11_of_any_version, cross_feed_fit, wrong) \
+    X(feed_fit_count_4_of_any_version, cross_feed_fit, wrong) \
+    X(feed_fit_count_7_of_a_record, cross_feed_fit, wrong) \
+    X(feed_fit_long_count_refused, cross_feed_fit, wrong) \
+    X(feed_fit_long_count_11_refused, cross_feed_fit, wrong) \
+    X(feed_fit_unused_eleventh, cross_feed_fit, wrong) \
+    X(feed_fit_13, cross_feed_fit, wrong) \
+    X(feed_fit_20, cross_feed_fit, wrong) \
+    X(feed_fit_15_refused, cross_feed_fit, wrong) \
+    X(feed_fit_19_refused, cross_feed_fit, wrong) \
+    X(feed_fit_15_before_opening, cross_feed_fit, wrong) \
+    X(follows_15, cross_feed_cuts, wrong) \
+    X(follows_17, cross_feed_cuts, wrong) \
+    X(stop_by_16_forgotten, cross_feed_cuts, wrong) \
+    X(feed_keeps_no_history, cross_feed_cuts, wrong) \
+    X(feed_15_as_3, cross_feed_cuts, wrong) \
+    X(feed_clears_history_at_each_piece, cross_feed_long, wrong)
 
 #define BALANCE_PLANTS(X) \
     X(balance_60000_refused, balance_lengths, wrong) \
@@ -969,7 +1016,12 @@
     X(balance_length_of_8_bits, balance_lengths, wrong) \
     X(balance_length_of_16_bits, balance_lengths, wrong) \
     X(balance_length_of_32_bits, balance_huge, wrong) \
-    X(balance_searches_signature, balance_header, wrong)
+    X(balance_searches_signature, balance_header, wrong) \
+    X(balance_crosslock_acquires, cross_balance, wrong) \
+    X(balance_commit_releases, cross_balance, wrong) \
+    X(balance_crosslock_releases, cross_balance, wrong) \
+    X(balance_refuses_crosslocks, cross_balance, wrong) \
+    X(balance_stops_at_crosslock, cross_balance, wrong)
 
 #define JOIN_PLANTS(X) \
     X(join_one_not_tested, join_unfit, wrong) \
@@ -1212,27 +1264,310 @@
     X(join_writes_sheet_2_and_back, join_read_only, killed) \
     X(join_writes_seen_2_and_back, join_read_only, killed) \
     X(join_reads_k_of_one_first, join_short, killed) \
-    X(join_reads_k_of_two_first, join_short, killed)
+    X(join_reads_k_of_two_first, join_short, killed) \
+    X(join_words_taken, cross_join, wrong) \
+    X(join_words_by_low_byte, cross_join, wrong) \
+    X(join_words_by_32_bits, cross_join, wrong) \
+    X(join_words_of_one_in_two_taken, cross_join, wrong) \
+    X(join_words_as_11, cross_join, wrong) \
+    X(join_words_as_13, cross_join, wrong) \
+    X(join_words_before_11, cross_join, wrong) \
+    X(join_words_behind_13, cross_join, wrong) \
+    X(join_word_not_written, cross_join, wrong) \
+    X(join_word_of_32_bits, cross_join, wrong) \
+    X(join_keeps_progress_of_one, cross_join_on, wrong) \
+    X(join_keeps_progress_of_two, cross_join, wrong) \
+    X(join_keeps_kept_of_one, cross_join, wrong) \
+    X(join_keeps_kept_of_two, cross_join_on, wrong) \
+    X(join_keeps_since_of_one, cross_join, wrong) \
+    X(join_keeps_since_of_two, cross_join, wrong) \
+    X(join_progress_as_13, cross_join, wrong) \
+    X(join_progress_as_11, cross_join_on, wrong) \
+    X(join_kept_as_11, cross_join, wrong) \
+    X(join_crosslocks_not_tested, cross_join_unfit, wrong) \
+    X(join_kept_not_tested, cross_join_unfit, wrong) \
+    X(join_list_not_tested, cross_join_unfit, wrong) \
+    X(join_progress_not_tested, cross_join_unfit, wrong) \
+    X(join_declared_not_tested, cross_join_unfit, wrong)
+
+#define CROSS_PLANTS(X) \
+    X(cross_open_word_not_tested, cross_open, wrong) \
+    X(cross_open_class_k_taken, cross_open, wrong) \
+    X(cross_open_class_63_refused, cross_open, wrong) \
+    X(cross_open_word_of_64_refused, cross_open, wrong) \
+    X(cross_open_word_0_refused, cross_none, wrong) \
+    X(cross_open_word_cut, cross_open, wrong) \
+    X(cross_open_word_of_32_bits, cross_open, wrong) \
+    X(cross_open_word_high_byte_first, cross_open, wrong) \
+    X(cross_open_word_not_written, cross_open, wrong) \
+    X(cross_open_word_in_progress, cross_open, wrong) \
+    X(cross_open_history_short_by_one, cross_open, wrong) \
+    X(cross_open_history_not_tested, cross_open, wrong) \
+    X(cross_open_history_of_510, cross_open, wrong) \
+    X(cross_open_leaves_history, cross_open, wrong) \
+    X(cross_open_leaves_last_entry, cross_open, wrong) \
+    X(cross_open_clears_all_of_history, cross_open, wrong) \
+    X(cross_open_writes_behind_history, cross_open, wrong) \
+    X(cross_open_writes_before_history, cross_open, wrong) \
+    X(cross_open_refused_clears_history, cross_open, wrong) \
+    X(cross_open_leaves_progress, cross_open, wrong) \
+    X(cross_open_leaves_kept, cross_open, wrong) \
+    X(cross_open_leaves_since, cross_open, wrong) \
+    X(cross_fit_declared_not_tested, cross_unfit, wrong) \
+    X(cross_fit_declared_class_k, cross_unfit, wrong) \
+    X(cross_fit_declared_class_63, cross_unfit, wrong) \
+    X(cross_fit_progress_not_tested, cross_unfit, wrong) \
+    X(cross_fit_progress_of_any_class, cross_unfit, wrong) \
+    X(cross_fit_progress_of_32_bits, cross_unfit, wrong) \
+    X(cross_fit_17_in_progress, cross_unfit, wrong) \
+    X(cross_fit_any_number_in_progress, cross_unfit, wrong) \
+    X(cross_fit_16_refused, cross_unfit, wrong) \
+    X(cross_fit_kept_257, cross_unfit, wrong) \
+    X(cross_fit_kept_not_tested, cross_unfit, wrong) \
+    X(cross_fit_kept_of_16_bits, cross_unfit, wrong) \
+    X(cross_fit_kept_of_8_bits, cross_unfit, wrong) \
+    X(cross_fit_kept_256_refused, cross_unfit, wrong) \
+    X(cross_fit_kept_without_progress_refused, cross_unfit, wrong) \
+    X(cross_fit_since_over_kept_refused, cross_elsewhere, wrong) \
+    X(cross_fit_since_over_256_refused, cross_elsewhere, wrong) \
+    X(cross_fit_since_of_others_refused, cross_elsewhere, wrong) \
+    X(cross_fit_held_crosslock_refused, cross_elsewhere, wrong) \
+    X(cross_fit_marked_crosslock_refused, cross_elsewhere, wrong) \
+    X(cross_fit_r_to_crosslock_refused, cross_elsewhere, wrong) \
+    X(cross_fit_s_from_crosslock_refused, cross_elsewhere, wrong) \
+    X(cross_fit_entry_of_crosslock_refused, cross_elsewhere, wrong) \
+    X(cross_ask_declared_not_tested, cross_unfit, wrong) \
+    X(cross_ask_progress_not_tested, cross_unfit, wrong) \
+    X(cross_ask_list_not_tested, cross_unfit, wrong) \
+    X(cross_ask_kept_not_tested, cross_unfit, wrong) \
+    X(cross_ask_refuses_progress, cross_unfit, wrong) \
+    X(cross_ask_refuses_kept, cross_unfit, wrong) \
+    X(cross_ask_refuses_crosslock, cross_example, wrong) \
+    X(cross_ask_desk_of_1398, old_lengths, wrong) \
+    X(cross_step_desk_of_1398, old_lengths, wrong) \
+    X(cross_open_desk_of_1398, old_lengths, wrong) \
+    X(cross_fit_place_25, cross_unfit_history, wrong) \
+    X(cross_fit_place_255, cross_unfit_history, wrong) \
+    X(cross_fit_entry_of_class_k, cross_unfit_history, wrong) \
+    X(cross_fit_entry_of_mode_3, cross_unfit_history, wrong) \
+    X(cross_fit_struck_out_with_lock, cross_unfit_history, wrong) \
+    X(cross_fit_struck_out_refused, cross_visit_example, wrong) \
+    X(cross_fit_entry_of_lock_0_refused, cross_unfit_history, wrong) \
+    X(cross_fit_place_24_refused, cross_unfit_history, wrong) \
+    X(cross_fit_history_not_tested, cross_unfit_history, wrong) \
+    X(cross_fit_first_entry_only, cross_unfit_history, wrong) \
+    X(cross_fit_last_entry_not_tested, cross_unfit_history, wrong) \
+    X(cross_fit_first_entry_not_tested, cross_unfit_history, wrong) \
+    X(cross_fit_all_entries_tested, cross_unfit_history, wrong) \
+    X(cross_fit_entry_behind_tested, cross_unfit_history, wrong) \
+    X(cross_fit_entries_of_8_bits, cross_unfit_history, wrong) \
+    X(cross_history_short_by_one, cross_lengths, wrong) \
+    X(cross_history_of_kept_only, cross_lengths, wrong) \
+    X(cross_history_after_10, cross_lengths, wrong) \
+    X(cross_reads_behind_history, cross_lengths, killed) \
+    X(cross_reads_before_history, cross_lengths, killed) \
+    X(cross_kind_13_taken, cross_refusal_3, wrong) \
+    X(cross_kinds_as_3, cross_refusal_3, wrong) \
+    X(cross_release_as_3, cross_refusal_3, wrong) \
+    X(cross_mode_taken, cross_refusal_3, wrong) \
+    X(cross_mode_of_commit_taken, cross_refusal_3, wrong) \
+    X(cross_class_k_as_15, cross_refusal_3, wrong) \
+    X(cross_class_k_as_17, cross_refusal_3, wrong) \
+    X(cross_mode_of_class_k_as_4, cross_refusal_3, wrong) \
+    X(cross_15_not_for_acquires, cross_sorts, wrong) \
+    X(cross_15_not_for_tries, cross_sorts, wrong) \
+    X(cross_15_not_for_releases, cross_sorts, wrong) \
+    X(cross_15_not_for_crosslocks, cross_sorts, wrong) \
+    X(cross_15_not_for_commits, cross_sorts, wrong) \
+    X(cross_15_not_for_crosslock_releases, cross_sorts, wrong) \
+    X(cross_15_of_32_bits, cross_sorts, wrong) \
+    X(cross_15_as_3, cross_sorts, wrong) \
+    X(cross_15_as_4, cross_sorts, wrong) \
+    X(cross_15_as_5_for_releases, cross_sorts, wrong) \
+    X(cross_15_as_17, cross_sorts, wrong) \
+    X(cross_15_before_3, cross_sorts, wrong) \
+    X(cross_15_behind_5, cross_order, wrong) \
+    X(cross_15_behind_8, cross_order, wrong) \
+    X(cross_15_behind_9, cross_order, wrong) \
+    X(cross_15_behind_17, cross_order, wrong) \
+    X(cross_15_behind_18, cross_order, wrong) \
+    X(cross_15_before_10, cross_order, wrong) \
+    X(cross_18_before_16, cross_order, wrong) \
+    X(cross_18_before_15, cross_order, wrong) \
+    X(cross_19_before_8, cross_order, wrong) \
+    X(cross_19_before_15, cross_order, wrong) \
+    X(cross_9_before_16, cross_order, wrong) \
+    X(cross_9_before_17, cross_order, wrong) \
+    X(cross_9_before_18, cross_order, wrong) \
+    X(cross_9_before_19, cross_order, wrong) \
+    X(cross_9_not_for_crosslocks, cross_order, wrong) \
+    X(cross_9_not_for_commits, cross_order, wrong) \
+    X(cross_9_not_for_crosslock_releases, cross_order, wrong) \
+    X(cross_needs_room, cross_states, wrong) \
+    X(cross_commit_needs_room, cross_states, wrong) \
+    X(cross_not_in_handlers, cross_states, wrong) \
+    X(cross_not_with_hard_off, cross_states, wrong) \
+    X(cross_commit_not_in_hard, cross_states, wrong) \
+    X(cross_not_counted, cross_example, wrong) \
+    X(cross_commit_not_counted, cross_visit_example, wrong) \
+    X(cross_release_not_counted, cross_visit_example, wrong) \
+    X(cross_marks_left_out, cross_marks, wrong) \
+    X(cross_marks_left_out_at_commit, cross_marks, wrong) \
+    X(cross_marks_of_task, cross_marks, wrong) \
+    X(cross_marks_crosslock, cross_states, wrong) \
+    X(cross_search_left_out, cross_marks, wrong) \
+    X(cross_search_at_commits_only, cross_marks, wrong) \
+    X(cross_takes_from_newest, cross_take, wrong) \
+    X(cross_takes_from_oldest, cross_take, wrong) \
+    X(cross_takes_from_no_try, cross_take, wrong) \
+    X(cross_takes_from_first_20, cross_take, wrong) \
+    X(cross_takes_as_er, cross_take, wrong) \
+    X(cross_takes_as_en, cross_take, wrong) \
+    X(cross_takes_as_sn, cross_take, wrong) \
+    X(cross_takes_from_all_frames, cross_take, wrong) \
+    X(cross_takes_from_task, cross_take, wrong) \
+    X(cross_takes_from_core_0, cross_take, wrong) \
+    X(cross_takes_from_nothing, cross_example, wrong) \
+    X(cross_takes_back, cross_take, wrong) \
+    X(cross_takes_from_crosslocks, cross_take, wrong) \
+    X(cross_takes_over_kinds, cross_take, wrong) \
+    X(cross_held_too, cross_take, wrong) \
+    X(cross_commits_to_crosslocks, cross_commit, wrong) \
+    X(cross_commits_tries, cross_commit, wrong) \
+    X(cross_commits_held_only, cross_commit, wrong) \
+    X(cross_commits_held_too, cross_since, wrong) \
+    X(cross_commits_all_cores, cross_commit, wrong) \
+    X(cross_commits_all_frames, cross_commit, wrong) \
+    X(cross_commits_task_frame, cross_commit, wrong) \
+    X(cross_commits_as_en, cross_commit, wrong) \
+    X(cross_commits_as_er, cross_commit, wrong) \
+    X(cross_commits_reads_as_er, cross_commit, wrong) \
+    X(cross_commits_as_s, cross_strong, wrong) \
+    X(cross_commits_backwards, cross_example, wrong) \
+    X(cross_commits_first_only, cross_commit, wrong) \
+    X(cross_commits_last_only, cross_commit, wrong) \
+    X(cross_commits_and_ends, cross_commit, wrong) \
+    X(cross_commits_and_empties, cross_commit, wrong) \
+    X(cross_commits_and_renews, cross_commit, wrong) \
+    X(cross_commits_once, cross_commit, wrong) \
+    X(cross_commits_of_place_before, cross_frames, wrong) \
+    X(cross_commits_of_core_only, cross_frames, wrong) \
+    X(cross_commits_nothing, cross_example, wrong) \
+    X(cross_commits_before_too, cross_since, wrong) \
+    X(cross_commits_behind_one, cross_since, wrong) \
+    X(cross_commits_since_first, cross_since, wrong) \
+    X(cross_since_kept_as_it_was, cross_since, wrong) \
+    X(cross_since_not_written, cross_since, wrong) \
+    X(cross_since_cleared_at_release, cross_since, wrong) \
+    X(cross_since_of_8_bits, cross_full, wrong) \
+    X(cross_since_of_class_0, cross_since, wrong) \
+    X(cross_list_of_15, cross_list, wrong) \
+    X(cross_list_of_17, cross_list, wrong) \
+    X(cross_list_without_end, cross_list, wrong) \
+    X(cross_list_by_32_bits, cross_list, wrong) \
+    X(cross_list_twice, cross_list, wrong) \
+    X(cross_twice_renews, cross_order, wrong) \
+    X(cross_commit_of_any, cross_visit_example, wrong) \
+    X(cross_release_of_any, cross_visit_example, wrong) \
+    X(cross_releases_all, cross_kept, wrong) \
+    X(cross_release_empties_at_once, cross_kept, wrong) \
+    X(cross_release_never_empties, cross_kept, wrong) \
+    X(cross_release_clears_entries, cross_kept, wrong) \
+    X(cross_release_commits, cross_commit, wrong) \
+    X(cross_release_ends_nothing, cross_visit_example, wrong) \
+    X(cross_keeps_tries, cross_visit_example, wrong) \
+    X(cross_keeps_always, cross_kept, wrong) \
+    X(cross_keeps_releases, cross_kept, wrong) \
+    X(cross_keeps_crosslocks, cross_kept, wrong) \
+    X(cross_keeps_task_only, cross_visit_example, wrong) \
+    X(cross_keeps_handlers_only, cross_example, wrong) \
+    X(cross_keeps_core_0_only, cross_example, wrong) \
+    X(cross_keeps_new_only, cross_kept, wrong) \
+    X(cross_keeps_held_only, cross_visit_example, wrong) \
+    X(cross_keeps_read_as_write, cross_kept, wrong) \
+    X(cross_keeps_place_of_core, cross_visit_example, wrong) \
+    X(cross_keeps_frame_number, cross_example, wrong) \
+    X(cross_keeps_turned, cross_example, wrong) \
+    X(cross_keeps_at_front, cross_kept, wrong) \
+    X(cross_kept_of_8_bits, cross_full, wrong) \
+    X(cross_19_at_255, cross_full, wrong) \
+    X(cross_19_never, cross_full, wrong) \
+    X(cross_19_wraps, cross_full, wrong) \
+    X(cross_19_for_tries, cross_full, wrong) \
+    X(cross_19_without_progress, cross_full, wrong) \
+    X(cross_19_held, cross_full, wrong) \
+    X(cross_19_for_crosslocks, cross_full, wrong) \
+    X(cross_19_of_16_bits, cross_full, wrong) \
+    X(cross_19_closes, cross_full, wrong) \
+    X(cross_commits_of_8_bits, cross_full, wrong) \
+    X(cross_commits_up_to_255, cross_full, wrong) \
+    X(cross_commits_past_kept, cross_entries, wrong) \
+    X(cross_visits_of_8_bits, cross_visits, wrong) \
+    X(cross_visits_of_16_bits, cross_visits, wrong) \
+    X(cross_visits_of_7_bits, cross_visits, wrong) \
+    X(cross_visits_never_end, cross_visit_example, wrong) \
+    X(cross_visits_of_task_end, cross_nested, wrong) \
+    X(cross_visits_soft_never_end, cross_nested, wrong) \
+    X(cross_visits_hard_never_end, cross_nested, wrong) \
+    X(cross_visits_hard_ends_soft, cross_nested, wrong) \
+    X(cross_visits_end_by_entry, cross_visits_kept, wrong) \
+    X(cross_visits_end_of_all_cores, cross_nested, wrong) \
+    X(cross_visits_end_in_all_frames, cross_nested, wrong) \
+    X(cross_visits_end_when_refused, cross_visits_kept, wrong) \
+    X(cross_visits_free_room, cross_visits_kept, wrong) \
+    X(cross_visits_free_last_room, cross_visits_kept, wrong) \
+    X(cross_visits_leave_lock, cross_visit_example, wrong) \
+    X(cross_visits_leave_place, cross_visit_example, wrong) \
+    X(cross_visits_strike_first, cross_nested, wrong) \
+    X(cross_visits_strike_last, cross_nested, wrong) \
+    X(cross_visits_strike_behind_kept, cross_nested, wrong) \
+    X(cross_visits_strike_in_progress_only, cross_elsewhere, wrong) \
+    X(cross_visits_strike_8_bits, cross_visits_kept, wrong) \
+    X(cross_number_of_count_before, cross_numbers, wrong) \
+    X(cross_number_renewed, cross_numbers, wrong) \
+    X(cross_number_not_written, cross_example, wrong) \
+    X(cross_number_of_commit_renewed, cross_numbers, wrong) \
+    X(cross_number_of_commit_as_1, cross_numbers, wrong) \
+    X(cross_number_of_16_bits, cross_numbers, wrong) \
+    X(cross_weak_at_crosslock, cross_strong, wrong) \
+    X(cross_weak_from_reads, cross_strong, wrong) \
+    X(cross_shown_as_hard, cross_example, wrong) \
+    X(cross_shown_without_numbers, cross_shown, wrong) \
+    X(cross_slip_of_crosslocks_only, cross_shown, wrong) \
+    X(cross_elsewhere_held_draws_nothing, cross_elsewhere, wrong) \
+    X(cross_elsewhere_marks_ignored, cross_elsewhere, wrong) \
+    X(cross_elsewhere_entry_ignored, cross_elsewhere, wrong) \
+    X(cross_elsewhere_since_over_kept_as_0, cross_elsewhere, wrong) \
+    X(cross_elsewhere_kept_emptied, cross_elsewhere, wrong) \
+    X(cross_writes_behind_history, cross_lengths, wrong) \
+    X(cross_writes_last_entry, cross_lengths, wrong) \
+    X(cross_refused_writes_history, cross_order, wrong) \
+    X(cross_refused_writes_progress, cross_order, wrong) \
+    X(cross_random_commits_other_core, cross_random, wrong) \
+    X(cross_random_strikes_nothing, cross_random, wrong)
 
 #define ENUMERATOR(name, test, how) name,
 #define NAME(name, test, how) #name,
 
 enum plant { PLANTS(ENUMERATOR) FEED_PLANTS(ENUMERATOR) right,
-             BALANCE_PLANTS(ENUMERATOR) JOIN_PLANTS(ENUMERATOR) none };
+             BALANCE_PLANTS(ENUMERATOR) JOIN_PLANTS(ENUMERATOR)
+             CROSS_PLANTS(ENUMERATOR) none };
 static const char *const names[] = { PLANTS(NAME) FEED_PLANTS(NAME) "right",
                                      BALANCE_PLANTS(NAME) JOIN_PLANTS(NAME)
-                                     "none" };
+                                     CROSS_PLANTS(NAME) "none" };
 
 uint8_t real_feed_start(uint8_t *, size_t);
 uint8_t real_feed(uint8_t *, size_t, uint8_t *, size_t, uint8_t *, size_t,
-                  uint8_t *, size_t, uint8_t *, size_t, const uint8_t *, size_t,
-                  uint64_t *);
+                  uint8_t *, size_t, uint8_t *, size_t, uint8_t *, size_t,
+                  const uint8_t *, size_t, uint64_t *);
 uint8_t real_feed_end(uint8_t *, size_t, uint8_t *, size_t, uint8_t *, size_t,
-                      uint8_t *, size_t, uint8_t *, size_t, uint64_t *);
-uint8_t real_open(uint64_t, uint8_t *, size_t, uint8_t *, size_t, uint8_t *,
-                  size_t);
+                      uint8_t *, size_t, uint8_t *, size_t, uint8_t *, size_t,
+                      uint64_t *);
+uint8_t real_open(uint64_t, uint64_t, uint8_t *, size_t, uint8_t *, size_t,
+                  uint8_t *, size_t, uint8_t *, size_t);
 uint8_t real_step(uint8_t *, size_t, uint8_t *, size_t, uint8_t *, size_t,
-                  uint8_t *, size_t, const uint8_t *, size_t);
+                  uint8_t *, size_t, uint8_t *, size_t, const uint8_t *,
+                  size_t);
 uint8_t real_ask(const uint8_t *, size_t, const uint8_t *, size_t,
                  const uint8_t *, size_t, uint64_t, uint64_t *, uint32_t *);
 uint8_t real_balance(const uint8_t *, size_t, int32_t *);
@@ -1575,8 +1910,8 @@ struct call {
     uint8_t old_sheet[PLUNGEROWL_SHEET_SIZE(PLUNGEROWL_MAX_CLASSES)];
     uint8_t old_seen[PLUNGEROWL_SEEN_SIZE(PLUNGEROWL_MAX_CLASSES)];
     uint8_t old_slip[PLUNGEROWL_SLIP_SIZE(PLUNGEROWL_MAX_CLASSES)];
-    uint8_t *desk, *sheet, *seen; /* after it */
-    size_t seen_len;
+    uint8_t *desk, *sheet, *seen, *history; /* after it */
+    size_t seen_len, history_len;
     unsigned k, core, kind, class_, mode;
     unsigned old_frame; /* the current frame before the record */
 };
@@ -2997,6 +3332,17 @@ static uint8_t spoil_clash(const struct call *c, uint8_t *slip, uint8_t answer)
 
 /* ---------------------------------------------------------------- the calls */
 
+/* The versions with places for mistakes about crosslocks, below. */
+static int is_cross_plant(void);
+static uint8_t cross_open(uint64_t, uint64_t, uint8_t *, size_t, uint8_t *,
+                          size_t, uint8_t *, size_t, uint8_t *, size_t);
+static uint8_t cross_step(uint8_t *, size_t, uint8_t *, size_t, uint8_t *,
+                          size_t, uint8_t *, size_t, uint8_t *, size_t,
+                          const uint8_t *, size_t);
+static uint8_t cross_ask(const uint8_t *, size_t, const uint8_t *, size_t,
+                         const uint8_t *, size_t, uint64_t, uint64_t *,
+                         uint32_t *);
+
 static uint64_t refused_since; /* how many records, since opening */
 
 /* A buffer that is too short, and that a wrong version opens. */
@@ -3020,23 +3366,28 @@ static int opens_short(uint64_t classes, size_t desk_len, size_t sheet_len,
     }
 }
 
-uint8_t plungerowl_open(uint64_t classes, uint8_t *desk, size_t desk_len,
+uint8_t plungerowl_open(uint64_t classes, uint64_t declared,
+                        uint8_t *desk, size_t desk_len,
                         uint8_t *sheet, size_t sheet_len,
-                        uint8_t *seen, size_t seen_len)
+                        uint8_t *seen, size_t seen_len,
+                        uint8_t *history, size_t history_len)
 {
     static uint8_t old_seen[PLUNGEROWL_SEEN_SIZE(PLUNGEROWL_MAX_CLASSES)];
     uint8_t old[DESK_SIZE] = { 0 };
     size_t pairs;
     uint8_t answer;
 
+    if (is_cross_plant())
+        return cross_open(classes, declared, desk, desk_len, sheet, sheet_len,
+                          seen, seen_len, history, history_len);
     if (plant() == open_k_cut)
         classes &= 255;
     if (desk_len >= DESK_SIZE)
         memcpy(old, desk, sizeof old);
     memcpy(old_seen, seen, seen_len < sizeof old_seen ? seen_len
                                                       : sizeof old_seen);
-    answer = real_open(classes, desk, desk_len, sheet, sheet_len, seen,
-                       seen_len);
+    answer = real_open(classes, declared, desk, desk_len, sheet, sheet_len,
+                       seen, seen_len, history, history_len);
     if (answer != PLUNGEROWL_OK) {
         if (plant() == open_refused_writes && desk_len > 0)
             desk[0] = 0;
@@ -3208,13 +3559,16 @@ static uint8_t refused_at_once(size_t desk_len, const uint8_t *record,
 }
 
 static void keep_old(struct call *c, uint8_t *desk, uint8_t *sheet,
-                     uint8_t *seen, size_t seen_len, const uint8_t *record)
+                     uint8_t *seen, size_t seen_len, uint8_t *history,
+                     size_t history_len, const uint8_t *record)
 {
     memcpy(c->old_desk, desk, DESK_SIZE);
     c->desk = desk;
     c->sheet = sheet;
     c->seen = seen;
     c->seen_len = seen_len;
+    c->history = history;
+    c->history_len = history_len;
     c->k = desk[0];
     memcpy(c->old_sheet, sheet, PLUNGEROWL_SHEET_SIZE(c->k));
     memcpy(c->old_seen, seen, PLUNGEROWL_SEEN_SIZE(c->k));
@@ -3536,7 +3890,8 @@ static uint8_t spoil_full(struct call *c, uint8_t *slip, size_t slip_len,
         put_number(count, UINT32_MAX - 1);
         answer = real_step(c->desk, DESK_SIZE, c->sheet,
                            PLUNGEROWL_SHEET_SIZE(c->k), c->seen, c->seen_len,
-                           slip, slip_len, record, PLUNGEROWL_RECORD_SIZE);
+                           c->history, c->history_len, slip, slip_len, record,
+                           PLUNGEROWL_RECORD_SIZE);
         if (answer == PLUNGEROWL_FAULT)
             break;
         memcpy(c->desk, c->old_desk, DESK_SIZE);
@@ -3566,6 +3921,7 @@ static uint8_t step_counted(struct call *c, int kept,
                             uint8_t *desk, size_t desk_len,
                             uint8_t *sheet, size_t sheet_len,
                             uint8_t *seen, size_t seen_len,
+                            uint8_t *history, size_t history_len,
                             uint8_t *slip, size_t slip_len,
                             const uint8_t *record, size_t record_len)
 {
@@ -3577,7 +3933,8 @@ static uint8_t step_counted(struct call *c, int kept,
     if (kept && full_early(count))
         put_number(desk + ACCEPTED_AT, UINT32_MAX);
     answer = real_step(desk, desk_len, sheet, sheet_len, seen, seen_len,
-                       slip, slip_len, record, record_len);
+                       history, history_len, slip, slip_len, record,
+                       record_len);
     if (kept && answer > PLUNGEROWL_FAULT)
         put_number(desk + ACCEPTED_AT, count);
     if (answer > PLUNGEROWL_FAULT)
@@ -3600,6 +3957,7 @@ static uint8_t step_counted(struct call *c, int kept,
 uint8_t plungerowl_step(uint8_t *desk, size_t desk_len,
                         uint8_t *sheet, size_t sheet_len,
                         uint8_t *seen, size_t seen_len,
+                        uint8_t *history, size_t history_len,
                         uint8_t *slip, size_t slip_len,
                         const uint8_t *record, size_t record_len)
 {
@@ -3610,17 +3968,23 @@ uint8_t plungerowl_step(uint8_t *desk, size_t desk_len,
                && record[2] < PLUNGEROWL_CORES;
     uint8_t answer = refused_at_once(desk_len, record, record_len);
 
+    if (is_cross_plant())
+        return cross_step(desk, desk_len, sheet, sheet_len, seen, seen_len,
+                          history, history_len, slip, slip_len, record,
+                          record_len);
     if (answer != 0)
         return answer;
     if (are_long(desk, desk_len, sheet_len, seen_len)
         && refuses_number(desk, sheet, sheet_len, seen, seen_len))
         return PLUNGEROWL_UNFIT;
     if (kept)
-        keep_old(&call, desk, sheet, seen, seen_len, record);
+        keep_old(&call, desk, sheet, seen, seen_len, history, history_len,
+                 record);
     memcpy(call.old_slip, slip, slip_len < sizeof call.old_slip
                                 ? slip_len : sizeof call.old_slip);
     answer = step_counted(&call, kept, desk, desk_len, sheet, sheet_len,
-                          seen, seen_len, slip, slip_len, record, record_len);
+                          seen, seen_len, history, history_len, slip, slip_len,
+                          record, record_len);
     if (kept && plant() >= depth_8_at_20 && plant() <= count_at_end_of_buffer)
         answer = spoil_deep(&call, desk_len, slip, answer);
     if (kept && call.kind == PLUNGEROWL_RELEASE
@@ -3630,7 +3994,8 @@ uint8_t plungerowl_step(uint8_t *desk, size_t desk_len,
         && desk_len >= DESK_SIZE) {
         turn_desk(desk, now, 0);
         answer = real_step(now, sizeof now, sheet, sheet_len, seen, seen_len,
-                           slip, slip_len, record, record_len);
+                           history, history_len, slip, slip_len, record,
+                           record_len);
         if (answer <= PLUNGEROWL_FAULT)
             turn_desk(desk, now, 1);
         return answer;
@@ -3699,6 +4064,9 @@ uint8_t plungerowl_ask(const uint8_t *desk, size_t desk_len,
     uint8_t old[DESK_SIZE], now[DESK_SIZE];
     uint8_t answer;
 
+    if (is_cross_plant())
+        return cross_ask(desk, desk_len, sheet, sheet_len, seen, seen_len,
+                         class_, word, count);
     if (plant() == ask_class_cut)
         class_ &= 255;
     answer = real_ask(desk, desk_len, sheet, sheet_len, seen, seen_len, class_,
@@ -3816,6 +4184,7 @@ enum { ANSWER_AT = PLUNGEROWL_FEED_ANSWER_AT,
        NUMBER_AT = PLUNGEROWL_FEED_NUMBER_AT, FEED_SIZE = PLUNGEROWL_FEED_SIZE,
        MOST_LOOSE = PLUNGEROWL_MOST_LOOSE,
        HEADER_SIZE = PLUNGEROWL_HEADER_SIZE,
+       LONG_HEADER_SIZE = PLUNGEROWL_LONG_HEADER_SIZE,
        RECORD_SIZE = PLUNGEROWL_RECORD_SIZE };
 
 static int is_feed_plant(void)
@@ -3833,6 +4202,8 @@ struct lent {
     size_t sheet_len;
     uint8_t *seen;
     size_t seen_len;
+    uint8_t *history;
+    size_t history_len;
     uint8_t *slip;
     size_t slip_len;
     uint64_t *record;
@@ -3841,7 +4212,7 @@ struct lent {
 /* What is in a feed. */
 struct progress {
     unsigned answer, opened, count;
-    uint8_t loose[PLUNGEROWL_RECORD_SIZE];
+    uint8_t loose[PLUNGEROWL_LONG_HEADER_SIZE];
     uint64_t number;
 };
 
@@ -3888,8 +4259,49 @@ static void save(uint8_t *feed, const struct progress *p)
         feed[LOOSE_AT + 4] = 0;
     if (plant() == loses_third_loose_of_header && !p->opened)
         feed[LOOSE_AT + 2] = 0;
+    if (plant() == loses_eleventh_loose)
+        feed[LOOSE_AT + 10] = 0;
+    if (plant() == loses_sixth_loose)
+        feed[LOOSE_AT + 5] = 0;
+    if (plant() == keeps_five_loose && feed[COUNT_AT] > 5)
+        feed[COUNT_AT] = 5;
     for (i = 0; i < (plant() == number_stored_in_4_bytes ? 4 : 8); i++)
         feed[byte_of_number(i)] = (uint8_t)(p->number >> 8 * i);
+}
+
+/* The size of the header or record that the loose bytes begin. */
+static unsigned unit_size(const struct progress *p)
+{
+    const uint8_t *loose = p->loose;
+    int is_long = !p->opened && p->count > 2 && loose[2] == 2;
+
+    switch (plant()) {
+    case long_header_of_4: is_long = 0; break;
+    case long_header_by_signature:
+        is_long = is_long && loose[0] == 0x4C && loose[1] == 0x48;
+        break;
+    case long_header_by_first_byte:
+        is_long = is_long && loose[0] == 0x4C;
+        break;
+    case long_header_of_other_versions:
+        is_long = !p->opened && p->count > 2 && loose[2] > 1;
+        break;
+    case long_header_of_11:
+        if (is_long)
+            return LONG_HEADER_SIZE - 1;
+        break;
+    case long_header_for_all: is_long = !p->opened && p->count > 2; break;
+    case long_header_k_at_once:
+        if (is_long && p->count == 4 && (loose[3] == 0 || loose[3] > 64))
+            return HEADER_SIZE;
+        break;
+    case long_header_opens_at_fourth:
+        if (is_long && p->count == 4 && loose[0] == 0x4C)
+            return HEADER_SIZE;
+        break;
+    default: break;
+    }
+    return p->opened ? RECORD_SIZE : is_long ? LONG_HEADER_SIZE : HEADER_SIZE;
 }
 
 static int fits_feed(const uint8_t *feed, size_t length)
@@ -3900,8 +4312,7 @@ static int fits_feed(const uint8_t *feed, size_t length)
     if (length < FEED_SIZE)
         return 0;
     p = load(feed);
-    if (p.opened > 1
-        || p.count >= (unsigned)(p.opened ? RECORD_SIZE : HEADER_SIZE))
+    if (p.opened > 1 || p.count >= unit_size(&p))
         return 0;
     for (i = p.count; i < MOST_LOOSE; i++)
         if (feed[LOOSE_AT + i] != 0)
@@ -3911,7 +4322,8 @@ static int fits_feed(const uint8_t *feed, size_t length)
     if (!p.opened)
         return (p.answer == 0 || p.answer == 2) && p.number == 0;
     return p.answer == 0
-           || (p.number > 0 && p.answer <= 11 && p.answer != 2);
+           || (p.number > 0 && p.answer != 2
+               && (p.answer <= 11 || (p.answer >= 15 && p.answer <= 19)));
 }
 
 /* An unfit feed that a wrong fit test takes: a clause is not seen. */
@@ -3954,6 +4366,18 @@ static int takes_unfit(const uint8_t *feed, size_t length)
     case feed_fit_12: return p.answer == 12 && p.number != 0;
     case feed_fit_14: return p.answer == 14 && p.number != 0;
     case feed_fit_255: return p.answer == 255 && p.number != 0;
+    case feed_fit_13: return p.answer == 13 && p.number != 0;
+    case feed_fit_20: return p.answer == 20 && p.number != 0;
+    case feed_fit_15_before_opening: return p.opened == 0 && p.answer == 15;
+    case feed_fit_long_count_12: return p.opened == 0 && p.count == 12;
+    case feed_fit_count_11_of_any_version:
+        return p.opened == 0 && p.answer == 0 && p.count == 11;
+    case feed_fit_count_4_of_any_version:
+        return p.opened == 0 && p.answer == 0 && p.count == 4;
+    case feed_fit_count_7_of_a_record: return p.opened == 1 && p.count == 7;
+    case feed_fit_unused_eleventh:
+        return p.opened == 0 && p.answer == 0 && p.count <= 10
+               && p.loose[10] != 0;
     case feed_fit_answer_at_0: return p.opened == 1 && p.number == 0;
     case feed_fit_answer_at_0_only_1:
         return p.opened == 1 && p.answer == 1 && p.number == 0;
@@ -3973,6 +4397,10 @@ static int refuses_fit(const uint8_t *feed)
     case feed_fit_10_refused: return p.answer == 10;
     case feed_fit_11_refused: return p.answer == 11;
     case feed_fit_2_refused: return p.answer == 2;
+    case feed_fit_15_refused: return p.answer == 15;
+    case feed_fit_19_refused: return p.answer == 19;
+    case feed_fit_long_count_refused: return p.opened == 0 && p.count > 3;
+    case feed_fit_long_count_11_refused: return p.count == 11;
     case feed_fit_5_loose_refused: return p.count == 5;
     case feed_fit_number_0_refused: return p.opened == 1 && p.number == 0;
     default: return 0;
@@ -4011,23 +4439,49 @@ static uint64_t one_more(uint64_t number)
 
 static unsigned open_late; /* K of a header whose opening comes too late */
 
-static uint8_t open_lent(struct lent *l, unsigned k)
+static uint8_t open_lent(struct lent *l, unsigned k, uint64_t declared)
 {
-    return real_open(k, l->desk, l->desk_len, l->sheet, l->sheet_len, l->seen,
-                     l->seen_len);
+    return real_open(k, declared, l->desk, l->desk_len, l->sheet, l->sheet_len,
+                     l->seen, l->seen_len, l->history, l->history_len);
+}
+
+/* The word that a header declares. */
+static uint64_t header_word(const struct progress *p)
+{
+    static uint64_t last;
+    uint64_t word = 0;
+    unsigned i;
+
+    for (i = 0; p->loose[2] == 2 && i < 8; i++)
+        word |= (uint64_t)p->loose[4 + i]
+                << 8 * (plant() == header_word_high_byte_first ? 7 - i : i);
+    switch (plant()) {
+    case header_word_ignored: return 0;
+    case header_word_of_4_bytes: return word & UINT32_MAX;
+    case header_word_of_one_byte: return word & 255;
+    case header_word_of_last_log:
+        last |= word;
+        return last;
+    default: return word;
+    }
 }
 
 static void judge_header(struct lent *l, struct progress *p)
 {
     static uint8_t seen[PLUNGEROWL_SEEN_SIZE(PLUNGEROWL_MAX_CLASSES)];
+    static uint8_t old_history[PLUNGEROWL_HISTORY_SIZE];
     const uint8_t *unit = p->loose;
+    uint64_t declared = header_word(p);
     unsigned k = unit[3];
+    int version = unit[2] == 1 || (unit[2] == 2
+                                   && plant() != header_version_2_refused)
+                  || (unit[2] == 3 && plant() == header_version_3_taken);
     int in_range = k >= 1 && k <= PLUNGEROWL_MAX_CLASSES;
     uint8_t count[NUMBER] = { 0 };
 
     if (unit[0] != 0x4C
         || (unit[1] != 0x48 && plant() != header_signature_half)
-        || (unit[2] != 1 && plant() != header_version_any))
+        || (!version && plant() != header_version_any))
         k = 0;
     if (plant() == header_k_cut)
         k &= 127;
@@ -4040,7 +4494,13 @@ static void judge_header(struct lent *l, struct progress *p)
                                                     : sizeof seen);
     if (l->desk_len >= DESK_SIZE)
         memcpy(count, l->desk + ACCEPTED_AT, NUMBER);
-    p->answer = open_late ? PLUNGEROWL_OK : open_lent(l, k);
+    memcpy(old_history, l->history, l->history_len < sizeof old_history
+                                    ? l->history_len : sizeof old_history);
+    if (plant() == header_word_cut_to_k && k > 0 && k < 64)
+        declared &= ((uint64_t)1 << k) - 1;
+    p->answer = open_late ? PLUNGEROWL_OK : open_lent(l, k, declared);
+    if (plant() == short_history_opened && l->history_len == 511)
+        p->answer = PLUNGEROWL_OK;
     if ((plant() == feed_opens_desk_of_642 && l->desk_len == 642)
         || (plant() == feed_opens_desk_of_1397 && l->desk_len == 1397))
         p->answer = PLUNGEROWL_OK;
@@ -4057,13 +4517,17 @@ static void judge_header(struct lent *l, struct progress *p)
             memcpy(l->seen, seen, PLUNGEROWL_SEEN_SIZE(k));
         if (plant() == opening_leaves_count)
             memcpy(l->desk + ACCEPTED_AT, count, NUMBER);
+        if (plant() == opening_leaves_history)
+            memcpy(l->history, old_history, sizeof old_history);
         return;
     }
     if (in_range && ((plant() == short_desk_as_11 && l->desk_len < DESK_SIZE)
                      || (plant() == short_sheet_as_11
                          && l->sheet_len < PLUNGEROWL_SHEET_SIZE(k))
                      || (plant() == short_seen_as_11
-                         && l->seen_len < PLUNGEROWL_SEEN_SIZE(k))))
+                         && l->seen_len < PLUNGEROWL_SEEN_SIZE(k))
+                     || (plant() == short_history_as_11
+                         && l->history_len < PLUNGEROWL_HISTORY_SIZE)))
         p->answer = PLUNGEROWL_UNFIT;
     switch (plant()) {
     case opens_with_2:
@@ -4173,9 +4637,16 @@ static void judge_record(struct lent *l, struct progress *p)
     p->answer = plant() == feed_8_at_20 && depth >= 20 ? PLUNGEROWL_FRAME_FULL
                 : ties_fed(l, p) ? PLUNGEROWL_UNFIT
                 : real_step(l->desk, l->desk_len, l->sheet, l->sheet_len,
-                            l->seen, l->seen_len, l->slip, l->slip_len,
-                            p->loose, p->count);
+                            l->seen, l->seen_len, l->history, l->history_len,
+                            l->slip, l->slip_len, p->loose, p->count);
     p->answer = fed_answer(l, p, &f, released);
+    if (plant() == short_history_stepped && p->answer == PLUNGEROWL_UNFIT
+        && l->history_len == 511)
+        p->answer = PLUNGEROWL_OK;
+    if (plant() == feed_15_as_3 && p->answer == PLUNGEROWL_WRONG_SORT)
+        p->answer = PLUNGEROWL_BAD_RECORD;
+    if (plant() == feed_keeps_no_history && p->answer == PLUNGEROWL_OK)
+        memset(l->history, 0, PLUNGEROWL_HISTORY_SIZE);
     if ((plant() == feed_8_at_49 && p->answer == PLUNGEROWL_FRAME_FULL)
         || (p->answer == PLUNGEROWL_UNFIT
             && ((plant() == feed_steps_desk_of_642 && l->desk_len == 642)
@@ -4184,7 +4655,8 @@ static void judge_record(struct lent *l, struct progress *p)
         p->answer = PLUNGEROWL_OK;
     if (p->answer == PLUNGEROWL_FAULT && plant() >= feed_shows_second
         && plant() <= feed_shows_cut) {
-        keep_old(&call, l->desk, l->sheet, l->seen, l->seen_len, p->loose);
+        keep_old(&call, l->desk, l->sheet, l->seen, l->seen_len, l->history,
+                 l->history_len, p->loose);
         spoil_shown(&call, l->slip, l->slip_len);
     }
     p->count = 0;
@@ -4205,7 +4677,7 @@ static void judge_record(struct lent *l, struct progress *p)
     case number_off_at_9: p->number -= p->answer == 9; break;
     case keeps_loose_of_stopping_record:
         if (p->answer != 0)
-            p->count = MOST_LOOSE;
+            p->count = RECORD_SIZE - 1;
         break;
     default: break;
     }
@@ -4221,7 +4693,7 @@ static void judge_early(struct lent *l, struct progress *p)
     if (!p->opened) {
         if ((plant() == opens_at_first_byte && p->count == 1)
             || (plant() == opens_at_third_byte && p->count == 3))
-            open_lent(l, 1);
+            open_lent(l, 1, 0);
         if (plant() == feed_reads_desk_before_opening)
             peek(l->desk);
         if (plant() == feed_writes_sheet && l->sheet_len > 0)
@@ -4237,7 +4709,7 @@ static void judge_early(struct lent *l, struct progress *p)
         }
     } else {
         if (open_late > 0)
-            open_lent(l, open_late);
+            open_lent(l, open_late, 0);
         open_late = 0;
         if ((plant() == record_byte_by_byte && p->count <= 2
              && byte != begins[1][p->count - 1])
@@ -4251,7 +4723,7 @@ static void judge_early(struct lent *l, struct progress *p)
 static void take_byte(struct lent *l, struct progress *p, uint8_t byte)
 {
     p->loose[p->count++] = byte;
-    if (p->count < (unsigned)(p->opened ? RECORD_SIZE : HEADER_SIZE))
+    if (p->count < unit_size(p))
         judge_early(l, p);
     else if (p->opened)
         judge_record(l, p);
@@ -4266,7 +4738,9 @@ static int follows(const struct progress *p)
            || (plant() == follows_fault && p->answer == 1)
            || (plant() == follows_refusal && p->answer > 2)
            || (plant() == follows_9 && p->answer == 9)
-           || (plant() == follows_5 && p->answer == 5);
+           || (plant() == follows_5 && p->answer == 5)
+           || (plant() == follows_15 && p->answer == 15)
+           || (plant() == follows_17 && p->answer == 17);
 }
 
 static void take_piece(struct lent *l, struct progress *p,
@@ -4276,7 +4750,7 @@ static void take_piece(struct lent *l, struct progress *p,
 
     for (i = 0; i < length; i++) {
         int lost = plant() == feed_release_mode_lost_at_cut && i == 0
-                   && p->count == MOST_LOOSE
+                   && p->opened && p->count == RECORD_SIZE - 1
                    && p->loose[3] == PLUNGEROWL_RELEASE;
 
         if (p->answer != 0 && plant() == keeps_loose_behind_stop
@@ -4421,13 +4895,34 @@ static void spoil_end(struct lent *l, struct progress *p,
         if (p->answer == 11 && l->seen_len >= 256 && l->seen[252] == 1)
             p->answer = 3;
         break;
+    case end_answers_0_to_short_history:
+        if (p->answer == 11 && l->history_len == 511)
+            *p = *old;
+        break;
+    case end_answers_3_to_unfit_history:
+        if (p->answer == 11 && l->history_len >= 512 && l->history[0] == 25)
+            p->answer = 3;
+        break;
+    case end_answers_3_to_part_of_long_header:
+        if (!old->opened && old->count > 3)
+            p->answer = 3;
+        break;
+    case end_opens_part_of_long_header:
+        if (!old->opened && old->count > 3) {
+            p->answer = open_lent(l, 8, 0);
+            p->opened = p->answer == 0;
+        }
+        break;
+    case end_keeps_loose_of_long_header:
+        p->count = !old->opened && old->count > 3 ? old->count : 0;
+        break;
     case end_opens:
         if (!old->opened)
-            open_lent(l, 1);
+            open_lent(l, 1, 0);
         break;
     case end_opens_short_header:
         if (old->count == 3 && !old->opened) {
-            p->answer = open_lent(l, 1);
+            p->answer = open_lent(l, 1, 0);
             p->opened = p->answer == 0;
         }
         break;
@@ -4499,6 +4994,7 @@ static int forgets(unsigned answer, int ended)
     switch (plant()) {
     case header_2_forgotten: return !ended && answer == 2;
     case stop_by_9_forgotten: return !ended && answer == 9;
+    case stop_by_16_forgotten: return !ended && answer == 16;
     case stop_by_10_forgotten: return !ended && answer == 10;
     case stop_by_11_forgotten: return !ended && answer == 11;
     case end_forgets_2: return ended && answer == 2;
@@ -4587,19 +5083,21 @@ uint8_t plungerowl_feed(uint8_t *feed, size_t feed_len,
                         uint8_t *desk, size_t desk_len,
                         uint8_t *sheet, size_t sheet_len,
                         uint8_t *seen, size_t seen_len,
+                        uint8_t *history, size_t history_len,
                         uint8_t *slip, size_t slip_len,
                         const uint8_t *piece, size_t piece_len,
                         uint64_t *record)
 {
     struct lent l = { feed, feed_len, desk, desk_len, sheet, sheet_len,
-                      seen, seen_len, slip, slip_len, record };
+                      seen, seen_len, history, history_len, slip, slip_len,
+                      record };
     size_t taken = piece_len;
     uint8_t answer;
 
     if (!is_feed_plant())
         return real_feed(feed, feed_len, desk, desk_len, sheet, sheet_len,
-                         seen, seen_len, slip, slip_len, piece, piece_len,
-                         record);
+                         seen, seen_len, history, history_len, slip, slip_len,
+                         piece, piece_len, record);
     if (plant() == long_piece_cut_at_255)
         taken &= 255;
     if (plant() == long_piece_cut_at_4096 && taken > 4096)
@@ -4608,6 +5106,8 @@ uint8_t plungerowl_feed(uint8_t *feed, size_t feed_len,
         taken &= 65535;
     if (plant() == last_byte_lost && taken > 1)
         taken--;
+    if (plant() == feed_clears_history_at_each_piece && history_len >= 512)
+        memset(history, 0, 512);
     answer = feed_or_end(&l, piece, taken, 0);
     switch (plant()) {
     case feed_writes_past_16:
@@ -4636,17 +5136,20 @@ uint8_t plungerowl_feed_end(uint8_t *feed, size_t feed_len,
                             uint8_t *desk, size_t desk_len,
                             uint8_t *sheet, size_t sheet_len,
                             uint8_t *seen, size_t seen_len,
+                            uint8_t *history, size_t history_len,
                             uint8_t *slip, size_t slip_len, uint64_t *record)
 {
     struct lent l = { feed, feed_len, desk, desk_len, sheet, sheet_len,
-                      seen, seen_len, slip, slip_len, record };
+                      seen, seen_len, history, history_len, slip, slip_len,
+                      record };
     uint64_t old_record = *record;
     int stopped = feed_len >= FEED_SIZE && feed[ANSWER_AT] != 0;
     uint8_t answer;
 
     if (!is_feed_plant())
         return real_feed_end(feed, feed_len, desk, desk_len, sheet, sheet_len,
-                             seen, seen_len, slip, slip_len, record);
+                             seen, seen_len, history, history_len, slip,
+                             slip_len, record);
     answer = feed_or_end(&l, feed, 0, 1);
     switch (plant()) {
     case record_left_at_the_end: *record = old_record; break;
@@ -4855,6 +5358,9 @@ static int weight_of(const uint8_t *at)
     case balance_kinds_of_7_bits: kind %= 128; break;
     case balance_kind_10_releases: kind = kind == 10 ? 1 : kind; break;
     case balance_kind_255_releases: kind = kind == 255 ? 1 : kind; break;
+    case balance_crosslock_acquires: kind = kind == 10 ? 0 : kind; break;
+    case balance_commit_releases: kind = kind == 11 ? 1 : kind; break;
+    case balance_crosslock_releases: kind = kind == 12 ? 1 : kind; break;
     case balance_events_with_a_class: kind = kind <= 9 && at[4] ? kind & 1
                                              : kind; break;
     case balance_events_with_a_mode: kind = kind > 1 && kind <= 9 && at[5] ? 1
@@ -4870,8 +5376,10 @@ static int weight_of(const uint8_t *at)
 
 static int is_malformed(const uint8_t *at)
 {
-    return at[0] != 0x4C || at[1] != 0x4B || at[2] > 7 || at[3] > 9
-           || at[5] > 5 || (at[3] > 1 && (at[4] != 0 || at[5] != 0));
+    return at[0] != 0x4C || at[1] != 0x4B || at[2] > 7
+           || at[3] > PLUNGEROWL_CROSS_RELEASE || at[5] > 5
+           || (at[3] > 1 && at[5] != 0)
+           || (at[3] > 1 && at[3] < PLUNGEROWL_CROSS_ACQUIRE && at[4] != 0);
 }
 
 /* Where a class is counted; CLASSES for nowhere. */
@@ -4961,12 +5469,14 @@ static int is_accepted(const uint8_t *at, int start, unsigned *answer)
 {
     static uint8_t desk[PLUNGEROWL_DESK_SIZE], sheet[64 * 64];
     static uint8_t seen[4 * 64 * 64], slip[PLUNGEROWL_SLIP_SIZE(64)];
+    static uint8_t history[PLUNGEROWL_HISTORY_SIZE];
 
     if (start)
-        real_open(64, desk, sizeof desk, sheet, sizeof sheet, seen,
-                  sizeof seen);
+        real_open(64, 0, desk, sizeof desk, sheet, sizeof sheet, seen,
+                  sizeof seen, history, sizeof history);
     *answer = real_step(desk, sizeof desk, sheet, sizeof sheet, seen,
-                        sizeof seen, slip, sizeof slip, at, 6);
+                        sizeof seen, history, sizeof history, slip, sizeof slip,
+                        at, 6);
     return *answer <= 1;
 }
 
@@ -4988,6 +5498,18 @@ static int is_misfit(const uint8_t *at, const struct last *last)
            ? (mode >= TRY) != (at[5] >= TRY) : mode != at[5];
 }
 
+/* Kinds 10 to 12 among the records of a piece. */
+static int has_crosslock(const uint8_t *piece, size_t length)
+{
+    size_t i;
+
+    for (i = 0; i + 6 <= length; i += 6)
+        if (piece[i + 3] >= PLUNGEROWL_CROSS_ACQUIRE
+            && !is_malformed(piece + i))
+            return 1;
+    return 0;
+}
+
 /* 1: the record is not counted; 2: nor are those behind it. */
 static int passed_over(const uint8_t *at, size_t i, struct last *last)
 {
@@ -4999,6 +5521,8 @@ static int passed_over(const uint8_t *at, size_t i, struct last *last)
         last->mode[at[4]] = at[5];
         last->is_acquired[at[4]] = 1;
     }
+    if (plant() == balance_stops_at_crosslock && has_crosslock(at, 6))
+        return 2;
     switch (plant()) {
     case balance_accepted_only:
     case balance_up_to_refusal:
@@ -5253,6 +5777,8 @@ uint8_t plungerowl_balance(const uint8_t *piece, size_t piece_len,
         length &= 0xFFFFFFFF;
     refused = has_rest(piece, length) || is_long(length);
     refused |= refuses_call(piece, balances, refused);
+    if (plant() == balance_refuses_crosslocks && !is_long(length))
+        refused |= has_crosslock(piece, length);
     if ((plant() == balance_log_taken || plant() == balance_log_taken_by_its_k)
         && starts_as_log(piece, length)) {
         start = 4;
@@ -5296,7 +5822,8 @@ uint8_t plungerowl_balance(const uint8_t *piece, size_t piece_len,
 static int is_join_plant(void)
 {
     return plant() == right
-           || (plant() >= join_one_not_tested && plant() < none);
+           || (plant() >= join_one_not_tested
+               && plant() <= join_declared_not_tested);
 }
 
 struct bench {
@@ -5350,13 +5877,14 @@ static int has_cycle(struct copied *b)
 {
     static const uint8_t hard_on[] = { 0x4C, 0x4B, 0, PLUNGEROWL_HARD_ON,
                                        0, 0 };
-    uint8_t desk[DESK_SIZE] = { 0 };
+    uint8_t desk[DESK_SIZE] = { 0 }, history[PLUNGEROWL_HISTORY_SIZE] = { 0 };
 
     desk[0] = b->desk[0];
     memcpy(desk + MARKS_AT, b->desk + MARKS_AT, CLASSES);
     return real_step(desk, DESK_SIZE, b->sheet, sizeof b->sheet, b->seen,
-                     sizeof b->seen, b->slip, sizeof b->slip, hard_on,
-                     sizeof hard_on) == PLUNGEROWL_FAULT;
+                     sizeof b->seen, history, sizeof history, b->slip,
+                     sizeof b->slip, hard_on, sizeof hard_on)
+           == PLUNGEROWL_FAULT;
 }
 
 static int has_own_cycle(const struct bench *b)
@@ -5402,6 +5930,25 @@ static void pass_unfit(struct copied *b, const struct bench *other, int second)
         memset(b->desk + HELD_AT, 0, ACCEPTED_AT - HELD_AT);
         break;
     case join_closed_2_taken: b->desk[PLUNGEROWL_CLOSED_AT] &= 1; break;
+    case join_crosslocks_not_tested:
+        memset(b->desk + PLUNGEROWL_DECLARED_AT, 0,
+               DESK_SIZE - PLUNGEROWL_DECLARED_AT);
+        break;
+    case join_kept_not_tested:
+        put_number(b->desk + PLUNGEROWL_KEPT_AT, 0);
+        break;
+    case join_list_not_tested:
+        for (i = 0; i < 8; i++)
+            if ((b->desk[PLUNGEROWL_PROGRESS_AT + i]
+                 & ~b->desk[PLUNGEROWL_DECLARED_AT + i]) == 0)
+                b->desk[PLUNGEROWL_PROGRESS_AT + i] = 0;
+        break;
+    case join_progress_not_tested:
+        memset(b->desk + PLUNGEROWL_PROGRESS_AT, 0, 8);
+        break;
+    case join_declared_not_tested:
+        memset(b->desk + PLUNGEROWL_DECLARED_AT, 0, 16);
+        break;
     case join_marks_fit_by_either:
         for (i = 0; i < CLASSES && same; i++)
             b->desk[MARKS_AT + i] |= other->desk[MARKS_AT + i];
@@ -5499,6 +6046,27 @@ static int has_room(const struct joint *j)
            && j->slip_len >= slip;
 }
 
+/* Whether the words that the benches declare differ, as a wrong version sees
+ * it. */
+static int are_other_words(const struct joint *j)
+{
+    const uint8_t *one = j->one.desk + PLUNGEROWL_DECLARED_AT;
+    const uint8_t *two = j->two.desk + PLUNGEROWL_DECLARED_AT;
+    unsigned i;
+
+    switch (plant()) {
+    case join_words_taken: return 0;
+    case join_words_by_low_byte: return one[0] != two[0];
+    case join_words_by_32_bits: return memcmp(one, two, 4) != 0;
+    case join_words_of_one_in_two_taken:
+        for (i = 0; i < 8; i++)
+            if (one[i] & ~two[i])
+                return 1;
+        return 0;
+    default: return memcmp(one, two, 8) != 0;
+    }
+}
+
 /* A later refusal comes before an earlier one; 0 if it does not. */
 static unsigned refused_early(const struct joint *j, int fit1, int fit2,
                               int room)
@@ -5510,6 +6078,8 @@ static unsigned refused_early(const struct joint *j, int fit1, int fit2,
 
     switch (plant()) {
     case join_twelve_before_11: return other ? 12 : 0;
+    case join_words_before_11:
+        return are_other_words(j) && !other ? 12 : 0;
     case join_twelve_before_fit: return other && room ? 12 : 0;
     case join_twelve_before_room: return other && fit1 && fit2 ? 12 : 0;
     case join_twelve_before_fit_of_two:
@@ -5525,6 +6095,23 @@ static unsigned refused_early(const struct joint *j, int fit1, int fit2,
         return closed1 && right_so_far ? 13 : 0;
     case join_thirteen_of_two_before_12:
         return closed2 && right_so_far ? 13 : 0;
+    default: return 0;
+    }
+}
+
+/* Benches in the middle of crosslocks, refused by a wrong version. */
+static unsigned refused_in_progress(const struct joint *j)
+{
+    static const uint8_t none_in_progress[8];
+    int one = memcmp(j->one.desk + PLUNGEROWL_PROGRESS_AT, none_in_progress, 8);
+    int two = memcmp(j->two.desk + PLUNGEROWL_PROGRESS_AT, none_in_progress, 8);
+
+    switch (plant()) {
+    case join_progress_as_13: return one != 0 || two != 0 ? 13 : 0;
+    case join_progress_as_11: return one != 0 || two != 0 ? 11 : 0;
+    case join_kept_as_11:
+        return number_at(j->one.desk + PLUNGEROWL_KEPT_AT) != 0
+               || number_at(j->two.desk + PLUNGEROWL_KEPT_AT) != 0 ? 11 : 0;
     default: return 0;
     }
 }
@@ -5606,8 +6193,15 @@ static unsigned refusal_of_join(const struct joint *j)
         return plant() == join_other_k_as_11 ? 11
                : plant() == join_other_k_as_2 ? 2
                : plant() == join_other_k_as_13 ? 13 : 12;
+    if (closed_answer(j) != 0 && plant() == join_words_behind_13)
+        return closed_answer(j);
+    if (k1 == k2 && are_other_words(j))
+        return plant() == join_words_as_11 ? 11
+               : plant() == join_words_as_13 ? 13 : 12;
     if (closed_answer(j) != 0)
         return closed_answer(j);
+    if (refused_in_progress(j) != 0)
+        return refused_in_progress(j);
     return refused_wrongly(j);
 }
 
@@ -5697,6 +6291,9 @@ static void make_joined_desk(const struct joint *j, uint8_t *desk)
     if (plant() == join_copies_desk_of_one)
         memcpy(desk, one, DESK_SIZE);
     desk[0] = one[0];
+    if (plant() != join_word_not_written)
+        memcpy(desk + PLUNGEROWL_DECLARED_AT, one + PLUNGEROWL_DECLARED_AT,
+               plant() == join_word_of_32_bits ? 4 : 8);
     if (plant() == join_marks_of_63_left_out)
         last = 63;
     if (plant() == join_marks_of_first_8)
@@ -5728,6 +6325,24 @@ static void make_joined_desk(const struct joint *j, uint8_t *desk)
         break;
     case join_count_of_pairs: put_number(desk + ACCEPTED_AT, pairs); break;
     case join_cores_with_hard_off: memset(desk + 2, 2, 8); break;
+    case join_keeps_progress_of_one:
+    case join_keeps_progress_of_two:
+        memcpy(desk + PLUNGEROWL_PROGRESS_AT,
+               (plant() == join_keeps_progress_of_one ? one : two)
+               + PLUNGEROWL_PROGRESS_AT, 8);
+        break;
+    case join_keeps_kept_of_one:
+    case join_keeps_kept_of_two:
+        memcpy(desk + PLUNGEROWL_KEPT_AT,
+               (plant() == join_keeps_kept_of_one ? one : two)
+               + PLUNGEROWL_KEPT_AT, NUMBER);
+        break;
+    case join_keeps_since_of_one:
+    case join_keeps_since_of_two:
+        memcpy(desk + PLUNGEROWL_SINCE_AT,
+               (plant() == join_keeps_since_of_one ? one : two)
+               + PLUNGEROWL_SINCE_AT, NUMBER * CLASSES);
+        break;
     default: break;
     }
 }
@@ -5958,6 +6573,8 @@ static void write_joined(const struct joint *j, const struct copied *b,
 /* A refused join changes something. */
 static void spoil_refused_join(const struct joint *j, unsigned answer)
 {
+    uint8_t history[PLUNGEROWL_HISTORY_SIZE];
+
     switch (plant()) {
     case join_eleven_writes_desk:
         if (answer == 11 && j->desk_len > 0)
@@ -5977,8 +6594,9 @@ static void spoil_refused_join(const struct joint *j, unsigned answer)
         break;
     case join_twelve_opens:
         if (answer == 12)
-            real_open(j->one.desk[0], j->desk, j->desk_len, j->sheet,
-                      j->sheet_len, j->seen, j->seen_len);
+            real_open(j->one.desk[0], 0, j->desk, j->desk_len, j->sheet,
+                      j->sheet_len, j->seen, j->seen_len, history,
+                      sizeof history);
         break;
     case join_thirteen_closes:
         if (answer == 13)
@@ -6083,4 +6701,1124 @@ uint8_t plungerowl_join(const uint8_t *desk1, size_t desk1_len,
         answer = join_benches(&j);
     spoil_lent(&j, answer == PLUNGEROWL_FAULT);
     return (uint8_t)answer;
+}
+
+/* -------------------------------------------------------------- crosslocks */
+
+enum { MOST_KEPT = PLUNGEROWL_MAX_KEPT, HISTORY_SIZE = PLUNGEROWL_HISTORY_SIZE,
+       MOST_IN_PROGRESS = PLUNGEROWL_MAX_IN_PROGRESS };
+enum { ACQUIRE = PLUNGEROWL_ACQUIRE, RELEASE = PLUNGEROWL_RELEASE,
+       EXIT_SOFT = PLUNGEROWL_EXIT_SOFT, EXIT_HARD = PLUNGEROWL_EXIT_HARD,
+       CROSS = PLUNGEROWL_CROSS_ACQUIRE, COMMIT = PLUNGEROWL_COMMIT,
+       UNCROSS = PLUNGEROWL_CROSS_RELEASE };
+
+static int is_cross_plant(void)
+{
+    return plant() == right
+           || (plant() >= cross_open_word_not_tested && plant() < none);
+}
+
+/* What a step was lent, and what it is about. */
+struct crossing {
+    uint8_t *desk, *sheet, *seen, *history, *slip;
+    size_t history_len, slip_len;
+    const uint8_t *record;
+    unsigned k, core, kind, class_, mode, frame;
+    uint64_t declared, progress;
+    uint32_t kept;
+};
+
+static uint64_t bit_of(unsigned class_)
+{
+    return class_ < 64 ? (uint64_t)1 << class_ : 0;
+}
+
+static unsigned ones_of(uint64_t word)
+{
+    unsigned ones = 0;
+
+    for (; word != 0; word &= word - 1)
+        ones++;
+    return ones;
+}
+
+static uint64_t classes_below(unsigned k)
+{
+    return k >= 64 ? UINT64_MAX : bit_of(k) - 1;
+}
+
+/* What a wrong version remembers of the visits of handlers: how many each frame
+ * had, and in which of them an entry was struck out. */
+static struct {
+    unsigned long visits[24];
+    unsigned long visit[PLUNGEROWL_MAX_KEPT];
+    uint8_t entries[PLUNGEROWL_HISTORY_SIZE];
+} memory;
+
+/* ----- opening */
+
+/* A word with classes that are not, and that a wrong version takes. */
+static uint64_t word_taken(uint64_t classes, uint64_t declared)
+{
+    unsigned k = classes <= 64 ? (unsigned)classes : 64;
+
+    switch (plant()) {
+    case cross_open_word_not_tested: return declared & classes_below(k);
+    case cross_open_class_k_taken: return declared & ~bit_of(k);
+    case cross_open_word_cut: return declared & UINT32_MAX;
+    default: return declared;
+    }
+}
+
+static void put_word(uint8_t *at, uint64_t word)
+{
+    put_number(at, (uint32_t)word);
+    put_number(at + NUMBER, (uint32_t)(word >> 32));
+}
+
+static uint64_t word_of(const uint8_t *at)
+{
+    return number_at(at) | (uint64_t)number_at(at + NUMBER) << 32;
+}
+
+static uint8_t cross_open(uint64_t classes, uint64_t declared,
+                          uint8_t *desk, size_t desk_len,
+                          uint8_t *sheet, size_t sheet_len,
+                          uint8_t *seen, size_t seen_len,
+                          uint8_t *history, size_t history_len)
+{
+    static uint8_t room[HISTORY_SIZE];
+    uint8_t old[DESK_SIZE] = { 0 }, old_history[HISTORY_SIZE] = { 0 };
+    size_t lent = history_len < HISTORY_SIZE ? history_len : HISTORY_SIZE;
+    uint64_t taken = word_taken(classes, declared);
+    int is_short = history_len < HISTORY_SIZE
+                   && !(plant() == cross_open_history_short_by_one
+                        && history_len == HISTORY_SIZE - 1)
+                   && !(plant() == cross_open_history_of_510
+                        && history_len == 510)
+                   && plant() != cross_open_history_not_tested;
+    unsigned i;
+    uint8_t answer;
+
+    if (desk_len >= DESK_SIZE)
+        memcpy(old, desk, DESK_SIZE);
+    memcpy(old_history, history, lent);
+    if (plant() == cross_open_desk_of_1398 && desk_len == 1398)
+        return PLUNGEROWL_OK;
+    if ((plant() == cross_open_class_63_refused && declared >> 63)
+        || (plant() == cross_open_word_of_64_refused && classes == 64
+            && declared != 0)
+        || (plant() == cross_open_word_0_refused && declared == 0))
+        return PLUNGEROWL_BAD_OPENING;
+    answer = real_open(classes, taken, desk, desk_len, sheet, sheet_len, seen,
+                       seen_len, is_short ? history : room,
+                       is_short ? history_len : HISTORY_SIZE);
+    if (answer != PLUNGEROWL_OK) {
+        if (plant() == cross_open_refused_clears_history)
+            memset(history, 0, lent);
+        return answer;
+    }
+    memset(history, 0, plant() == cross_open_clears_all_of_history
+                       ? history_len : lent);
+    memset(&memory, 0, sizeof memory);
+    put_word(desk + PLUNGEROWL_DECLARED_AT, taken);
+    switch (plant()) {
+    case cross_open_word_of_32_bits:
+        put_word(desk + PLUNGEROWL_DECLARED_AT, declared & UINT32_MAX);
+        break;
+    case cross_open_word_high_byte_first:
+        for (i = 0; i < 8; i++)
+            desk[PLUNGEROWL_DECLARED_AT + i]
+                = (uint8_t)(declared >> (56 - 8 * i));
+        break;
+    case cross_open_word_not_written:
+        put_word(desk + PLUNGEROWL_DECLARED_AT, 0);
+        break;
+    case cross_open_word_in_progress:
+        put_word(desk + PLUNGEROWL_PROGRESS_AT, declared);
+        break;
+    case cross_open_leaves_history: memcpy(history, old_history, lent); break;
+    case cross_open_leaves_last_entry:
+        memcpy(history + 510, old_history + 510, 2);
+        break;
+    case cross_open_writes_behind_history: history[HISTORY_SIZE] = 0; break;
+    case cross_open_writes_before_history: history[-1] = 0; break;
+    case cross_open_leaves_progress:
+        memcpy(desk + PLUNGEROWL_PROGRESS_AT, old + PLUNGEROWL_PROGRESS_AT, 8);
+        break;
+    case cross_open_leaves_kept:
+        memcpy(desk + PLUNGEROWL_KEPT_AT, old + PLUNGEROWL_KEPT_AT, 4);
+        break;
+    case cross_open_leaves_since:
+        memcpy(desk + PLUNGEROWL_SINCE_AT, old + PLUNGEROWL_SINCE_AT, 256);
+        break;
+    default: break;
+    }
+    return answer;
+}
+
+/* ----- the fit test */
+
+/* Whether a class is a crosslock somewhere where a log cannot have brought it;
+ * that is fit. */
+static int is_strange(const uint8_t *desk, const uint8_t *sheet,
+                      const uint8_t *history, uint64_t declared, uint32_t kept)
+{
+    unsigned k = desk[0], i, c;
+
+    for (i = 0; i < PLACES; i++)
+        if (plant() == cross_fit_held_crosslock_refused
+            && i % DEPTH < desk[DEPTHS_AT + i / DEPTH]
+            && declared & bit_of(desk[HELD_AT + i] % 64))
+            return 1;
+    for (c = 0; c < k; c++) {
+        if (!(declared & bit_of(c)))
+            continue;
+        if (plant() == cross_fit_marked_crosslock_refused
+            && desk[MARKS_AT + c] != 0)
+            return 1;
+        for (i = 0; i < k; i++)
+            if ((plant() == cross_fit_r_to_crosslock_refused
+                 && sheet[i * k + c] & 5)
+                || (plant() == cross_fit_s_from_crosslock_refused
+                    && sheet[c * k + i] & 12))
+                return 1;
+    }
+    for (i = 0; history != NULL && i < kept && i < MOST_KEPT; i++)
+        if (plant() == cross_fit_entry_of_crosslock_refused
+            && history[2 * i] != 0
+            && declared & bit_of(history[2 * i + 1] % 64))
+            return 1;
+    return 0;
+}
+
+static int refuses_since(const uint8_t *desk, uint64_t progress, uint32_t kept)
+{
+    unsigned c;
+
+    for (c = 0; c < 64; c++) {
+        uint32_t since = number_at(desk + PLUNGEROWL_SINCE_AT + NUMBER * c);
+        int in_progress = (progress & bit_of(c)) != 0;
+
+        if ((plant() == cross_fit_since_over_kept_refused && in_progress
+             && since > kept)
+            || (plant() == cross_fit_since_over_256_refused && in_progress
+                && since > MOST_KEPT)
+            || (plant() == cross_fit_since_of_others_refused && !in_progress
+                && since > kept))
+            return 1;
+    }
+    return 0;
+}
+
+/* What the desk says of crosslocks; history is NULL where none was lent. */
+static int desk_crosses(const uint8_t *desk, const uint8_t *sheet,
+                        const uint8_t *history)
+{
+    uint64_t declared = word_of(desk + PLUNGEROWL_DECLARED_AT);
+    uint64_t progress = word_of(desk + PLUNGEROWL_PROGRESS_AT);
+    uint64_t below = classes_below(desk[0]);
+    uint64_t stray = progress & ~declared;
+    uint32_t kept = number_at(desk + PLUNGEROWL_KEPT_AT);
+    unsigned most = MOST_IN_PROGRESS;
+    int asked = history == NULL;
+
+    switch (plant()) {
+    case cross_fit_declared_not_tested:
+        below = asked ? below : UINT64_MAX;
+        break;
+    case cross_ask_declared_not_tested:
+        below = asked ? UINT64_MAX : below;
+        break;
+    case cross_fit_declared_class_k: below |= bit_of(desk[0]); break;
+    case cross_fit_declared_class_63: below |= bit_of(63); break;
+    case cross_fit_progress_not_tested: stray = asked ? stray : 0; break;
+    case cross_ask_progress_not_tested: stray = asked ? 0 : stray; break;
+    case cross_fit_progress_of_any_class: stray = progress & ~below; break;
+    case cross_fit_progress_of_32_bits: stray &= UINT32_MAX; break;
+    case cross_fit_17_in_progress: most = 17; break;
+    case cross_fit_16_refused: most = 15; break;
+    case cross_fit_any_number_in_progress: most = asked ? most : 64; break;
+    case cross_ask_list_not_tested: most = asked ? 64 : most; break;
+    case cross_fit_kept_257: kept -= kept == 257; break;
+    case cross_fit_kept_not_tested: kept = asked ? kept : 0; break;
+    case cross_ask_kept_not_tested: kept = asked ? 0 : kept; break;
+    case cross_fit_kept_of_16_bits: kept &= 0xFFFF; break;
+    case cross_fit_kept_of_8_bits: kept &= 0xFF; break;
+    case cross_fit_kept_256_refused: kept += kept == 256; break;
+    case cross_fit_kept_without_progress_refused:
+        if (kept > 0 && progress == 0)
+            return 0;
+        break;
+    case cross_ask_refuses_progress:
+        if (asked && progress != 0)
+            return 0;
+        break;
+    case cross_ask_refuses_kept:
+        if (asked && kept != 0)
+            return 0;
+        break;
+    default: break;
+    }
+    return (declared & ~below) == 0 && stray == 0 && ones_of(progress) <= most
+           && kept <= MOST_KEPT && !refuses_since(desk, progress, kept)
+           && !is_strange(desk, sheet, history, declared, kept);
+}
+
+static int entry_fits(const uint8_t *entry, unsigned k)
+{
+    unsigned place = entry[0], lock = entry[1];
+    unsigned most = plant() == cross_fit_place_25 ? 25
+                    : plant() == cross_fit_place_24_refused ? 23 : 24;
+
+    if (place == 0)
+        return plant() != cross_fit_struck_out_refused
+               && (lock == 0 || plant() == cross_fit_struck_out_with_lock);
+    if (plant() == cross_fit_place_255 && place == 255)
+        return 1;
+    if (plant() == cross_fit_entry_of_lock_0_refused && lock == 0)
+        return 0;
+    return place <= most
+           && (lock % 64 < k || (plant() == cross_fit_entry_of_class_k
+                                 && lock % 64 == k))
+           && (lock < 192 || plant() == cross_fit_entry_of_mode_3);
+}
+
+static int history_fits(const uint8_t *desk, const uint8_t *history)
+{
+    uint32_t kept = number_at(desk + PLUNGEROWL_KEPT_AT);
+    unsigned i, from = 0;
+
+    switch (plant()) {
+    case cross_fit_history_not_tested: return 1;
+    case cross_fit_first_entry_only: kept = kept > 1 ? 1 : kept; break;
+    case cross_fit_last_entry_not_tested: kept -= kept == 256; break;
+    case cross_fit_first_entry_not_tested: from = 1; break;
+    case cross_fit_all_entries_tested: kept = 256; break;
+    case cross_fit_entry_behind_tested: kept += kept < 256; break;
+    case cross_fit_entries_of_8_bits: kept &= 255; break;
+    default: break;
+    }
+    for (i = from; i < kept && i < MOST_KEPT; i++)
+        if (!entry_fits(history + 2 * i, desk[0]))
+            return 0;
+    return 1;
+}
+
+/* ----- which refusal */
+
+/* The answer of the real step to the record on a desk without crosslocks; for
+ * kinds 10 to 12 that of a commit where all are crosslocks and none is in
+ * progress, so 17 where 11, 10, 3 and 4 do not apply. The copies are as that
+ * step leaves them. */
+static struct copied plain;
+
+static uint8_t plain_step(const struct crossing *x, size_t sheet_len,
+                          size_t seen_len, size_t record_len)
+{
+    uint8_t record[PLUNGEROWL_RECORD_SIZE], history[HISTORY_SIZE] = { 0 };
+    unsigned kind = x->kind;
+
+    memcpy(plain.desk, x->desk, DESK_SIZE);
+    memcpy(plain.sheet, x->sheet, PLUNGEROWL_SHEET_SIZE(x->k));
+    memcpy(plain.seen, x->seen, PLUNGEROWL_SEEN_SIZE(x->k));
+    memcpy(plain.slip, x->slip, x->slip_len < sizeof plain.slip
+                                ? x->slip_len : sizeof plain.slip);
+    memset(plain.desk + PLUNGEROWL_DECLARED_AT, 0,
+           DESK_SIZE - PLUNGEROWL_DECLARED_AT);
+    if (record_len != PLUNGEROWL_RECORD_SIZE)
+        return real_step(plain.desk, DESK_SIZE, plain.sheet, sheet_len,
+                         plain.seen, seen_len, history, sizeof history,
+                         plain.slip, x->slip_len, x->record, record_len);
+    memcpy(record, x->record, sizeof record);
+    if (kind >= CROSS && kind <= UNCROSS) {
+        put_word(plain.desk + PLUNGEROWL_DECLARED_AT, classes_below(x->k));
+        record[3] = COMMIT;
+        if (is_either(cross_mode_taken, cross_mode_of_commit_taken)
+            && (kind == COMMIT || plant() == cross_mode_taken))
+            record[5] = 0;
+    }
+    return real_step(plain.desk, DESK_SIZE, plain.sheet, sheet_len, plain.seen,
+                     seen_len, history, sizeof history, plain.slip,
+                     x->slip_len, record, sizeof record);
+}
+
+/* 15 applies. */
+static int is_wrong_sort(const struct crossing *x)
+{
+    uint64_t bit = bit_of(x->class_);
+    int crosslock = (x->declared & bit) != 0;
+
+    if (x->class_ >= x->k || (x->kind > RELEASE && x->kind < CROSS)
+        || x->kind > UNCROSS)
+        return 0;
+    switch (plant()) {
+    case cross_15_not_for_acquires:
+        return crosslock != (x->kind >= CROSS)
+               && !(x->kind == ACQUIRE && x->mode < TRY);
+    case cross_15_not_for_tries:
+        return crosslock != (x->kind >= CROSS)
+               && !(x->kind == ACQUIRE && x->mode >= TRY);
+    case cross_15_not_for_releases:
+        return crosslock != (x->kind >= CROSS) && x->kind != RELEASE;
+    case cross_15_not_for_crosslocks:
+        return crosslock != (x->kind >= CROSS) && x->kind != CROSS;
+    case cross_15_not_for_commits:
+        return crosslock != (x->kind >= CROSS) && x->kind != COMMIT;
+    case cross_15_not_for_crosslock_releases:
+        return crosslock != (x->kind >= CROSS) && x->kind != UNCROSS;
+    case cross_15_of_32_bits:
+        return ((x->declared & UINT32_MAX & bit) != 0) != (x->kind >= CROSS);
+    default: return crosslock != (x->kind >= CROSS);
+    }
+}
+
+/* 19 applies. */
+static int is_history_full(const struct crossing *x)
+{
+    uint32_t most = plant() == cross_19_at_255 ? 255 : MOST_KEPT;
+
+    switch (plant()) {
+    case cross_19_never:
+    case cross_19_wraps: return 0;
+    case cross_19_for_tries:
+        return x->kind == ACQUIRE && x->progress != 0 && x->kept == most;
+    case cross_19_without_progress:
+        return x->kind == ACQUIRE && x->mode < TRY && x->kept == most;
+    case cross_19_for_crosslocks:
+        return (x->kind == CROSS || (x->kind == ACQUIRE && x->mode < TRY
+                                     && x->progress != 0)) && x->kept == most;
+    case cross_19_of_16_bits:
+        return 0;
+    default:
+        return x->kind == ACQUIRE && x->mode < TRY && x->progress != 0
+               && x->kept >= most;
+    }
+}
+
+static unsigned most_in_progress(void)
+{
+    switch (plant()) {
+    case cross_list_of_15: return 15;
+    case cross_list_of_17: return 17;
+    case cross_list_without_end: return 65;
+    default: return MOST_IN_PROGRESS;
+    }
+}
+
+/* 16, 17 or 18, or 0. */
+static unsigned list_refusal(const struct crossing *x)
+{
+    int in_progress = (x->progress & bit_of(x->class_)) != 0;
+    uint64_t counted = plant() == cross_list_by_32_bits
+                       ? x->progress & UINT32_MAX : x->progress;
+    int full = ones_of(counted) >= most_in_progress();
+
+    if (x->kind == CROSS) {
+        if (full && plant() == cross_18_before_16)
+            return 18;
+        if (in_progress && !is_either(cross_list_twice, cross_twice_renews))
+            return 16;
+        return full && !(in_progress && plant() == cross_twice_renews) ? 18 : 0;
+    }
+    if (x->kind == COMMIT && plant() == cross_commit_of_any)
+        return 0;
+    if (x->kind == UNCROSS && plant() == cross_release_of_any)
+        return 0;
+    return in_progress ? 0 : 17;
+}
+
+/* A record of kinds 10 to 12 that is refused for what is right, or 0. */
+static unsigned refused_in_state(const struct crossing *x)
+{
+    unsigned state = x->desk[PLUNGEROWL_STATES_AT + x->core];
+    int full = x->desk[DEPTHS_AT + x->frame] == DEPTH;
+
+    switch (plant()) {
+    case cross_needs_room: return x->kind == CROSS && full ? 8 : 0;
+    case cross_commit_needs_room: return x->kind == COMMIT && full ? 8 : 0;
+    case cross_not_in_handlers: return state >= 4 ? 6 : 0;
+    case cross_not_with_hard_off:
+        return state == 2 || state == 3 || state == 5 ? 6 : 0;
+    case cross_commit_not_in_hard:
+        return x->kind == COMMIT && state >= 6 ? 6 : 0;
+    default: return 0;
+    }
+}
+
+static unsigned sort_answer(const struct crossing *x)
+{
+    switch (plant()) {
+    case cross_15_as_3: return 3;
+    case cross_15_as_4: return 4;
+    case cross_15_as_5_for_releases: return x->kind == RELEASE ? 5 : 15;
+    case cross_15_as_17: return x->kind > CROSS ? 17 : 15;
+    default: return 15;
+    }
+}
+
+/* The refusal, or 0, of a record of kinds 10 to 12. */
+static unsigned refusal_of_cross(const struct crossing *x, unsigned answer)
+{
+    int count_full = number_at(x->desk + ACCEPTED_AT) == UINT32_MAX;
+    unsigned list = list_refusal(x), state;
+
+    if (plant() == cross_kinds_as_3
+        || (plant() == cross_release_as_3 && x->kind == UNCROSS))
+        return answer == 11 || answer == 10 ? answer : 3;
+    if (answer == 3 && plant() == cross_15_before_3 && is_wrong_sort(x))
+        return 15;
+    if (answer == 3 && plant() == cross_mode_of_class_k_as_4
+        && x->class_ >= x->k)
+        return 4;
+    if (answer == 10 && plant() == cross_15_before_10 && is_wrong_sort(x))
+        return 15;
+    if (answer == 4 && is_either(cross_class_k_as_15, cross_class_k_as_17))
+        return plant() == cross_class_k_as_15 ? 15 : 17;
+    if (answer != 17)
+        return answer;
+    if (count_full && plant() == cross_15_behind_9)
+        return 9;
+    if (is_wrong_sort(x)) {
+        if (plant() == cross_15_behind_17 && x->kind > CROSS)
+            return 17;
+        if (x->kind == CROSS && ones_of(x->progress) == MOST_IN_PROGRESS
+            && is_either(cross_15_behind_18, cross_18_before_15))
+            return 18;
+        return sort_answer(x);
+    }
+    state = refused_in_state(x);
+    if (state != 0)
+        return state;
+    if (count_full && list != 0
+        && plant() == (list == 16 ? cross_9_before_16 : list == 17
+                       ? cross_9_before_17 : cross_9_before_18))
+        return 9;
+    if (list != 0)
+        return list;
+    if (is_history_full(x))
+        return 19;
+    if (count_full
+        && !(plant() == cross_9_not_for_crosslocks && x->kind == CROSS)
+        && !(plant() == cross_9_not_for_commits && x->kind == COMMIT)
+        && !(plant() == cross_9_not_for_crosslock_releases
+             && x->kind == UNCROSS))
+        return 9;
+    return 0;
+}
+
+/* The same of a record of another kind, with the plain answer. */
+static unsigned refusal_of_lock(const struct crossing *x, unsigned answer)
+{
+    int count_full = number_at(x->desk + ACCEPTED_AT) == UINT32_MAX;
+
+    if (answer == 3 && plant() == cross_kind_13_taken && x->kind == 13)
+        return 0;
+    if (answer == 11 || answer == 10 || answer == 3 || answer == 4)
+        return answer;
+    if (plant() == cross_19_before_15 && is_history_full(x))
+        return 19;
+    if (is_wrong_sort(x)
+        && !(answer == 5 && plant() == cross_15_behind_5)
+        && !(answer == 8 && plant() == cross_15_behind_8)
+        && !(count_full && plant() == cross_15_behind_9))
+        return sort_answer(x);
+    if (answer == 8 && plant() == cross_19_before_8 && is_history_full(x))
+        return 19;
+    if (answer > 1 && answer != 9)
+        return answer;
+    if (is_history_full(x) && !(answer == 9 && plant() == cross_9_before_19))
+        return 19;
+    return answer;
+}
+
+/* ----- what a record does */
+
+static uint32_t number_to_write(const struct crossing *x)
+{
+    uint32_t count = number_at(x->desk + ACCEPTED_AT);
+
+    switch (plant()) {
+    case cross_number_of_count_before: return count - 1;
+    case cross_number_of_commit_as_1: return x->kind == COMMIT ? 1 : count;
+    case cross_number_of_16_bits: return count & 0xFFFF;
+    default: return count;
+    }
+}
+
+static void draw_cross(const struct crossing *x, unsigned from, unsigned to,
+                       unsigned kind)
+{
+    unsigned pair = from * x->k + to;
+    uint8_t *number = x->seen + NUMBER * pair;
+
+    if (plant() == cross_takes_over_kinds)
+        x->sheet[pair] = 0;
+    x->sheet[pair] |= (uint8_t)kind;
+    if (plant() == cross_number_not_written)
+        put_number(number, 1);
+    else if (number_at(number) == 0 || plant() == cross_number_renewed
+             || (plant() == cross_number_of_commit_renewed
+                 && x->kind == COMMIT))
+        put_number(number, number_to_write(x));
+}
+
+/* From the locks of a frame to the crosslock. */
+static void take_from(const struct crossing *x, unsigned frame)
+{
+    unsigned depth = x->desk[DEPTHS_AT + frame], i;
+
+    for (i = 0; i < depth; i++) {
+        unsigned held = x->desk[HELD_AT + DEPTH * frame + i];
+        unsigned kind = kind_of(held / 64, 0);
+
+        if ((plant() == cross_takes_from_newest && i + 1 < depth)
+            || (plant() == cross_takes_from_oldest && i > 0)
+            || (plant() == cross_takes_from_first_20 && i >= 20)
+            || (plant() == cross_takes_from_no_try
+                && bit_at(x->desk, DEPTH * frame + i))
+            || (plant() == cross_elsewhere_held_draws_nothing
+                && x->declared & bit_of(held % 64))
+            || plant() == cross_takes_from_nothing)
+            continue;
+        if (plant() == cross_takes_as_er)
+            kind = kind_of(held / 64, 2);
+        if (plant() == cross_takes_as_en)
+            kind = PLUNGEROWL_EN;
+        if (plant() == cross_takes_as_sn)
+            kind = PLUNGEROWL_SN;
+        if (plant() == cross_weak_at_crosslock)
+            kind = kind_of(held / 64, 2);
+        if (plant() == cross_takes_back)
+            draw_cross(x, x->class_, held % 64, kind);
+        else
+            draw_cross(x, held % 64, x->class_, kind);
+    }
+}
+
+static void begin_cross(const struct crossing *x)
+{
+    uint8_t *since = x->desk + PLUNGEROWL_SINCE_AT + NUMBER * x->class_;
+    unsigned i;
+
+    if (plant() == cross_takes_from_all_frames) {
+        for (i = 0; i < 3; i++)
+            take_from(x, 3 * x->core + i);
+    } else {
+        take_from(x, plant() == cross_takes_from_task ? 3 * x->core
+                     : plant() == cross_takes_from_core_0 ? x->frame % 3
+                     : x->frame);
+    }
+    for (i = 0; plant() == cross_takes_from_crosslocks && i < x->k; i++)
+        if (x->progress & bit_of(i))
+            draw_cross(x, i, x->class_, PLUNGEROWL_EN);
+    put_word(x->desk + PLUNGEROWL_PROGRESS_AT,
+             x->progress | bit_of(x->class_));
+    if (plant() == cross_since_of_class_0)
+        since = x->desk + PLUNGEROWL_SINCE_AT;
+    if (!(plant() == cross_since_kept_as_it_was && number_at(since) != 0)
+        && plant() != cross_since_not_written)
+        put_number(since, plant() == cross_since_of_8_bits ? x->kept & 255
+                          : x->kept);
+    if (plant() == cross_held_too && x->desk[DEPTHS_AT + x->frame] < DEPTH)
+        x->desk[HELD_AT + DEPTH * x->frame
+                + x->desk[DEPTHS_AT + x->frame]++] = (uint8_t)x->class_;
+}
+
+/* Whether a wrong version takes the entry for one of the committing frame. */
+static int is_of_frame(const struct crossing *x, unsigned place)
+{
+    if (place == 0)
+        return 0;
+    switch (plant()) {
+    case cross_commits_all_cores:
+    case cross_random_commits_other_core:
+        return (place - 1) % 3 == x->frame % 3;
+    case cross_commits_all_frames:
+    case cross_commits_of_core_only: return (place - 1) / 3 == x->core;
+    case cross_commits_task_frame: return place == 1 + 3 * x->core;
+    case cross_commits_of_place_before: return place == x->frame;
+    default: return place == 1 + x->frame;
+    }
+}
+
+static int is_held_now(const struct crossing *x, unsigned class_)
+{
+    unsigned i;
+
+    for (i = 0; i < x->desk[DEPTHS_AT + x->frame]; i++)
+        if (x->desk[HELD_AT + DEPTH * x->frame + i] % 64 == class_)
+            return 1;
+    return 0;
+}
+
+static void commit_entry(const struct crossing *x, unsigned lock)
+{
+    unsigned class_ = lock % 64, kind = kind_of(0, lock / 64);
+
+    if ((plant() == cross_commits_held_only && !is_held_now(x, class_))
+        || (plant() == cross_elsewhere_entry_ignored
+            && x->declared & bit_of(class_)))
+        return;
+    switch (plant()) {
+    case cross_commits_as_en: kind = PLUNGEROWL_EN; break;
+    case cross_commits_as_er: kind = PLUNGEROWL_ER; break;
+    case cross_commits_reads_as_er:
+        kind = lock >= 64 ? PLUNGEROWL_ER : PLUNGEROWL_EN;
+        break;
+    case cross_commits_as_s: kind = kind_of(1, lock / 64); break;
+    case cross_weak_from_reads: kind = kind_of(lock / 64, lock / 64); break;
+    default: break;
+    }
+    if (plant() == cross_commits_backwards)
+        draw_cross(x, class_, x->class_, PLUNGEROWL_EN);
+    else
+        draw_cross(x, x->class_, class_, kind);
+}
+
+/* Entries that were struck out, whose visit a wrong version takes for this. */
+static void commit_by_memory(const struct crossing *x)
+{
+    unsigned long modulus = plant() == cross_visits_of_8_bits ? 256
+                            : plant() == cross_visits_of_16_bits ? 65536
+                            : plant() == cross_visits_of_7_bits ? 128 : 0;
+    unsigned i;
+
+    for (i = 0; modulus != 0 && i < x->kept && i < MOST_KEPT; i++)
+        if (x->history[2 * i] == 0 && memory.entries[2 * i] == 1 + x->frame
+            && memory.visit[i] % modulus
+               == memory.visits[x->frame] % modulus)
+            commit_entry(x, memory.entries[2 * i + 1]);
+}
+
+static void commit_cross(const struct crossing *x)
+{
+    static uint64_t committed;
+    uint8_t *since_at = x->desk + PLUNGEROWL_SINCE_AT + NUMBER * x->class_;
+    uint32_t since = number_at(since_at), kept = x->kept, i, last = MOST_KEPT;
+    unsigned c;
+
+    switch (plant()) {
+    case cross_commits_nothing: kept = 0; break;
+    case cross_commits_before_too: since -= since > 0; break;
+    case cross_commits_behind_one: since += since < 256; break;
+    case cross_commits_since_first:
+        for (c = 0; c < 64; c++)
+            if (x->progress & bit_of(c)
+                && number_at(x->desk + PLUNGEROWL_SINCE_AT + 4 * c) < since)
+                since = number_at(x->desk + PLUNGEROWL_SINCE_AT + 4 * c);
+        break;
+    case cross_commits_of_8_bits: kept &= 255; break;
+    case cross_commits_up_to_255: kept = kept > 255 ? 255 : kept; break;
+    case cross_commits_past_kept: kept = kept < 256 ? kept + 1 : kept; break;
+    case cross_elsewhere_since_over_kept_as_0:
+        since = since > kept ? 0 : since;
+        break;
+    case cross_commits_once:
+        if (committed & bit_of(x->class_))
+            kept = 0;
+        committed |= bit_of(x->class_);
+        break;
+    default: break;
+    }
+    for (i = since; i < kept && i < MOST_KEPT; i++) {
+        const uint8_t *entry = x->history + 2 * i;
+
+        if (!is_of_frame(x, entry[0]))
+            continue;
+        if (plant() == cross_commits_last_only)
+            last = i;
+        else
+            commit_entry(x, entry[1]);
+        if (plant() == cross_commits_first_only)
+            break;
+    }
+    if (last < MOST_KEPT)
+        commit_entry(x, x->history[2 * last + 1]);
+    commit_by_memory(x);
+    for (i = 0; i < x->desk[DEPTHS_AT + x->frame]; i++) {
+        unsigned held = x->desk[HELD_AT + DEPTH * x->frame + i];
+
+        if (plant() == cross_commits_held_too
+            || (plant() == cross_commits_tries
+                && bit_at(x->desk, DEPTH * x->frame + i)))
+            commit_entry(x, held);
+    }
+    for (c = 0; plant() == cross_commits_to_crosslocks && c < x->k; c++)
+        if (x->declared & bit_of(c) && c != x->class_)
+            draw_cross(x, x->class_, c, PLUNGEROWL_EN);
+    if (is_either(cross_commits_and_ends, cross_commits_and_empties))
+        put_word(x->desk + PLUNGEROWL_PROGRESS_AT,
+                 x->progress & ~bit_of(x->class_));
+    if (plant() == cross_commits_and_empties)
+        put_number(x->desk + PLUNGEROWL_KEPT_AT, 0);
+    if (plant() == cross_commits_and_renews)
+        put_number(since_at, x->kept);
+}
+
+static void end_cross(const struct crossing *x)
+{
+    uint64_t others = x->progress & ~bit_of(x->class_);
+
+    if (plant() == cross_releases_all)
+        others = 0;
+    if (plant() == cross_release_commits)
+        commit_cross(x);
+    if (plant() == cross_release_ends_nothing)
+        return;
+    put_word(x->desk + PLUNGEROWL_PROGRESS_AT, others);
+    if ((others == 0 && plant() != cross_release_never_empties)
+        || plant() == cross_release_empties_at_once) {
+        put_number(x->desk + PLUNGEROWL_KEPT_AT, 0);
+        if (plant() == cross_release_clears_entries)
+            memset(x->history, 0, HISTORY_SIZE);
+    }
+    if (plant() == cross_since_cleared_at_release)
+        put_number(x->desk + PLUNGEROWL_SINCE_AT + NUMBER * x->class_, 0);
+}
+
+/* Whether an acquire is kept. */
+static int is_kept(const struct crossing *x)
+{
+    int due = x->kind == ACQUIRE && x->mode < TRY && x->progress != 0;
+    unsigned i;
+
+    switch (plant()) {
+    case cross_keeps_tries: return x->kind == ACQUIRE && x->progress != 0;
+    case cross_keeps_always: return x->kind == ACQUIRE && x->mode < TRY;
+    case cross_keeps_releases: return x->kind <= RELEASE && x->mode < TRY
+                                      && x->progress != 0;
+    case cross_keeps_crosslocks: return due || x->kind == CROSS;
+    case cross_keeps_task_only: return due && x->frame % 3 == 0;
+    case cross_keeps_handlers_only: return due && x->frame % 3 != 0;
+    case cross_keeps_core_0_only: return due && x->core == 0;
+    case cross_keeps_new_only:
+        for (i = 0; i < x->kept && i < MOST_KEPT; i++)
+            if (x->history[2 * i] == 1 + x->frame
+                && x->history[2 * i + 1] % 64 == x->class_)
+                return 0;
+        return due;
+    default: return due;
+    }
+}
+
+static void keep_entry(const struct crossing *x)
+{
+    uint32_t at = x->kept;
+    uint8_t *entry;
+    unsigned place = 1 + x->frame, lock = x->class_ + 64 * (x->mode % TRY);
+
+    if (plant() == cross_19_wraps)
+        at %= MOST_KEPT;
+    if (plant() == cross_keeps_at_front) {
+        memmove(x->history + 2, x->history, HISTORY_SIZE - 2);
+        at = 0;
+    }
+    if (at >= MOST_KEPT)
+        return;
+    if (plant() == cross_keeps_read_as_write)
+        lock %= 64;
+    if (plant() == cross_keeps_place_of_core)
+        place = 1 + 3 * x->core;
+    if (plant() == cross_keeps_frame_number)
+        place = x->frame;
+    entry = x->history + 2 * at;
+    entry[plant() == cross_keeps_turned] = (uint8_t)place;
+    entry[plant() != cross_keeps_turned] = (uint8_t)lock;
+    at = x->kept + 1;
+    if (plant() == cross_kept_of_8_bits)
+        at &= 255;
+    if (at <= MOST_KEPT)
+        put_number(x->desk + PLUNGEROWL_KEPT_AT, at);
+}
+
+/* Whether the exit of a handler ends the visit that an entry is of. */
+static int ends_visit(const struct crossing *x, unsigned i, uint32_t kept)
+{
+    unsigned place = x->history[2 * i], frame = place - 1u;
+    int due = place == 1 + x->frame;
+
+    switch (plant()) {
+    case cross_visits_never_end:
+    case cross_random_strikes_nothing:
+    case cross_visits_end_by_entry: return 0;
+    case cross_visits_soft_never_end: return due && x->kind == EXIT_HARD;
+    case cross_visits_hard_never_end: return due && x->kind == EXIT_SOFT;
+    case cross_visits_of_task_end:
+        return due || place == 1 + 3 * x->core;
+    case cross_visits_hard_ends_soft:
+        return due || (x->kind == EXIT_HARD && place == 3 * x->core + 2);
+    case cross_visits_end_of_all_cores:
+        return place != 0 && frame % 3 == x->frame % 3;
+    case cross_visits_end_in_all_frames:
+        return place != 0 && frame / 3 == x->core;
+    case cross_visits_strike_first: return due && i < 3;
+    case cross_visits_strike_last: return due && i + 24 >= kept;
+    case cross_visits_strike_8_bits: return due && i < (kept & 255);
+    case cross_visits_strike_in_progress_only:
+        return due && x->progress != 0;
+    default: return due;
+    }
+}
+
+static void strike_out(const struct crossing *x)
+{
+    uint32_t kept = x->kept, i, j;
+    uint32_t last = plant() == cross_visits_strike_behind_kept ? MOST_KEPT
+                    : kept;
+
+    for (i = 0; i < last && i < MOST_KEPT; i++) {
+        uint8_t *entry = x->history + 2 * i;
+
+        if (!ends_visit(x, i, kept))
+            continue;
+        memcpy(memory.entries + 2 * i, entry, 2);
+        memory.visit[i] = memory.visits[x->frame];
+        if (plant() != cross_visits_leave_place)
+            entry[0] = 0;
+        if (plant() != cross_visits_leave_lock)
+            entry[1] = 0;
+    }
+    if (plant() == cross_visits_free_room) {
+        for (i = j = 0; i < kept; i++)
+            if (x->history[2 * i] != 0) {
+                memmove(x->history + 2 * j, x->history + 2 * i, 2);
+                j++;
+            }
+        put_number(x->desk + PLUNGEROWL_KEPT_AT, j);
+    }
+    if (plant() == cross_visits_free_last_room && kept > 0
+        && x->history[2 * kept - 2] == 0)
+        put_number(x->desk + PLUNGEROWL_KEPT_AT, kept - 1);
+}
+
+/* Beside what the plain step did with a record of kinds 0 to 9. */
+static void go_on_beside(const struct crossing *x)
+{
+    unsigned state = x->desk[PLUNGEROWL_STATES_AT + x->core];
+    unsigned entered = 3 * x->core + (state <= 5 ? 1 : 2), i;
+
+    if (is_kept(x))
+        keep_entry(x);
+    if (x->kind == RELEASE && plant() == cross_keeps_held_only)
+        for (i = 0; i < x->kept; i++)
+            if (x->history[2 * i] == 1 + x->frame
+                && x->history[2 * i + 1] % 64 == x->class_)
+                memset(x->history + 2 * i, 0, 2);
+    if (x->kind == EXIT_SOFT || x->kind == EXIT_HARD)
+        strike_out(x);
+    if (x->kind == PLUNGEROWL_ENTER_SOFT || x->kind == PLUNGEROWL_ENTER_HARD) {
+        memory.visits[entered]++;
+        for (i = 0; plant() == cross_visits_end_by_entry && i < x->kept; i++)
+            if (x->history[2 * i] == 1 + entered)
+                memset(x->history + 2 * i, 0, 2);
+    }
+    if (plant() == cross_elsewhere_kept_emptied && x->progress == 0)
+        put_number(x->desk + PLUNGEROWL_KEPT_AT, 0);
+}
+
+static void mark_frame(const struct crossing *x)
+{
+    unsigned state = x->desk[PLUNGEROWL_STATES_AT + x->core], i;
+    unsigned frame = plant() == cross_marks_of_task ? 3 * x->core : x->frame;
+
+    if (plant() == cross_marks_left_out
+        || (plant() == cross_marks_left_out_at_commit && x->kind == COMMIT))
+        return;
+    if (plant() == cross_marks_crosslock)
+        x->desk[MARKS_AT + x->class_] |= (uint8_t)unsafe_of(state, 0);
+    for (i = 0; i < x->desk[DEPTHS_AT + frame]; i++) {
+        unsigned held = x->desk[HELD_AT + DEPTH * frame + i];
+        unsigned safe = bit_at(x->desk, DEPTH * frame + i)
+                        ? 0 : safe_of(state, held / 64);
+
+        x->desk[MARKS_AT + held % 64]
+            |= (uint8_t)(safe | unsafe_of(state, held / 64));
+    }
+}
+
+/* Whether there is a cycle now; then its slip. */
+static int search_cross(const struct crossing *x)
+{
+    static struct copied b;
+    unsigned i;
+
+    memcpy(b.desk, x->desk, DESK_SIZE);
+    memcpy(b.sheet, x->sheet, PLUNGEROWL_SHEET_SIZE(x->k));
+    memcpy(b.seen, x->seen, PLUNGEROWL_SEEN_SIZE(x->k));
+    for (i = 0; plant() == cross_elsewhere_marks_ignored && i < 64; i++)
+        if (x->declared & bit_of(i))
+            b.desk[MARKS_AT + i] = 0;
+    if (plant() == cross_search_left_out
+        || (plant() == cross_search_at_commits_only && x->kind != COMMIT)
+        || !has_cycle(&b))
+        return 0;
+    for (i = 0; i < b.slip[0]; i++) {
+        uint8_t *entry = b.slip + 1 + ENTRY * i;
+
+        if (plant() == cross_shown_as_hard && x->declared & bit_of(entry[0]))
+            entry[2] = 1;
+        if (plant() == cross_shown_without_numbers
+            && x->declared & bit_of(entry[0]))
+            put_number(entry + TRIPLE, 0);
+    }
+    if (plant() == cross_slip_of_crosslocks_only)
+        b.slip[0] = 1;
+    memcpy(x->slip, b.slip, 1 + ENTRY * (size_t)b.slip[0]);
+    return 1;
+}
+
+/* An accepted record of kinds 10 to 12. */
+static uint8_t accept_cross(const struct crossing *x)
+{
+    uint8_t *count = x->desk + ACCEPTED_AT;
+    uint32_t old = number_at(count);
+
+    put_number(count, old + 1);
+    if (x->kind == CROSS)
+        begin_cross(x);
+    else if (x->kind == COMMIT)
+        commit_cross(x);
+    else
+        end_cross(x);
+    if (is_kept(x))
+        keep_entry(x);
+    mark_frame(x);
+    if ((plant() == cross_not_counted && x->kind == CROSS)
+        || (plant() == cross_commit_not_counted && x->kind == COMMIT)
+        || (plant() == cross_release_not_counted && x->kind == UNCROSS))
+        put_number(count, old);
+    if (!search_cross(x))
+        return PLUNGEROWL_OK;
+    x->desk[PLUNGEROWL_CLOSED_AT] = 1;
+    return PLUNGEROWL_FAULT;
+}
+
+/* What the plain step left becomes the desk's, but for crosslocks. */
+static void take_over(const struct crossing *x)
+{
+    memcpy(x->desk, plain.desk, PLUNGEROWL_DECLARED_AT);
+    memcpy(x->sheet, plain.sheet, PLUNGEROWL_SHEET_SIZE(x->k));
+    memcpy(x->seen, plain.seen, PLUNGEROWL_SEEN_SIZE(x->k));
+    memcpy(x->slip, plain.slip, PLUNGEROWL_SLIP_SIZE(x->k));
+}
+
+/* A refused record changes something. */
+static void spoil_refused_cross(const struct crossing *x, unsigned answer)
+{
+    if (answer == 19 && plant() == cross_19_held)
+        take_over(x);
+    if (answer == 19 && plant() == cross_19_closes)
+        x->desk[PLUNGEROWL_CLOSED_AT] = 1;
+    if (answer >= 15 && plant() == cross_refused_writes_history)
+        x->history[HISTORY_SIZE - 1] ^= 1;
+    if (answer == 18 && plant() == cross_refused_writes_progress)
+        put_word(x->desk + PLUNGEROWL_PROGRESS_AT, 0);
+    if (answer == 7 && plant() == cross_visits_end_when_refused)
+        strike_out(x);
+}
+
+/* A buffer that is too short for a step, and that a wrong version takes. */
+static int steps_short(const uint8_t *desk, size_t desk_len, size_t history_len)
+{
+    switch (plant()) {
+    case cross_step_desk_of_1398: return desk_len == 1398;
+    case cross_history_short_by_one: return history_len == HISTORY_SIZE - 1;
+    case cross_history_of_kept_only:
+        return desk_len >= DESK_SIZE && history_len < HISTORY_SIZE
+               && history_len
+                  >= 2 * (size_t)number_at(desk + PLUNGEROWL_KEPT_AT);
+    default: return 0;
+    }
+}
+
+static uint8_t cross_step(uint8_t *desk, size_t desk_len,
+                          uint8_t *sheet, size_t sheet_len,
+                          uint8_t *seen, size_t seen_len,
+                          uint8_t *history, size_t history_len,
+                          uint8_t *slip, size_t slip_len,
+                          const uint8_t *record, size_t record_len)
+{
+    struct crossing x = { desk, sheet, seen, history, slip, history_len,
+                          slip_len, record, 0, 0, 255, 0, 0, 0, 0, 0, 0 };
+    unsigned answer;
+
+    if (plant() == cross_reads_behind_history)
+        peek(history + history_len);
+    if (plant() == cross_reads_before_history)
+        peek(history - 1);
+    if (history_len < HISTORY_SIZE && plant() == cross_history_after_10
+        && desk_len >= DESK_SIZE && desk[PLUNGEROWL_CLOSED_AT] == 1)
+        return PLUNGEROWL_CLOSED;
+    if (!are_long(desk, desk_len, sheet_len, seen_len)
+        || history_len < HISTORY_SIZE
+        || slip_len < PLUNGEROWL_SLIP_SIZE(desk[0]))
+        return steps_short(desk, desk_len, history_len) ? PLUNGEROWL_OK
+                                                        : PLUNGEROWL_UNFIT;
+    x.k = desk[0];
+    x.declared = word_of(desk + PLUNGEROWL_DECLARED_AT);
+    x.progress = word_of(desk + PLUNGEROWL_PROGRESS_AT);
+    x.kept = number_at(desk + PLUNGEROWL_KEPT_AT);
+    if (record_len == PLUNGEROWL_RECORD_SIZE) {
+        x.core = record[2] % PLUNGEROWL_CORES;
+        x.kind = record[3];
+        x.class_ = record[4];
+        x.mode = record[5];
+    }
+    answer = plain_step(&x, sheet_len < sizeof plain.sheet ? sheet_len
+                            : sizeof plain.sheet,
+                        seen_len < sizeof plain.seen ? seen_len
+                        : sizeof plain.seen, record_len);
+    if (answer == PLUNGEROWL_UNFIT || !desk_crosses(desk, sheet, history)
+        || !history_fits(desk, history))
+        return PLUNGEROWL_UNFIT;
+    x.frame = current_frame(desk, x.core);
+    if (record_len != PLUNGEROWL_RECORD_SIZE)
+        return (uint8_t)answer;
+    if (x.kind >= CROSS && x.kind <= UNCROSS) {
+        answer = refusal_of_cross(&x, answer);
+        if (answer == 0)
+            answer = accept_cross(&x);
+    } else {
+        answer = refusal_of_lock(&x, answer);
+        if (answer <= PLUNGEROWL_FAULT && x.kind < CROSS) {
+            take_over(&x);
+            go_on_beside(&x);
+        }
+    }
+    if (answer > PLUNGEROWL_FAULT)
+        spoil_refused_cross(&x, answer);
+    if (plant() == cross_writes_behind_history && answer == PLUNGEROWL_OK)
+        history[HISTORY_SIZE] = 0;
+    if (plant() == cross_writes_last_entry && answer == PLUNGEROWL_OK
+        && x.kept < 255)
+        history[HISTORY_SIZE - 1] = 0;
+    return (uint8_t)answer;
+}
+
+/* ----- the question */
+
+static uint8_t cross_ask(const uint8_t *desk, size_t desk_len,
+                         const uint8_t *sheet, size_t sheet_len,
+                         const uint8_t *seen, size_t seen_len,
+                         uint64_t class_, uint64_t *word, uint32_t *count)
+{
+    uint8_t without[DESK_SIZE] = { 0 };
+    uint8_t answer = PLUNGEROWL_UNFIT;
+
+    *word = *count = 0;
+    if (desk_len < DESK_SIZE)
+        return plant() == cross_ask_desk_of_1398 && desk_len == 1398
+               ? PLUNGEROWL_OK : PLUNGEROWL_UNFIT;
+    memcpy(without, desk, PLUNGEROWL_DECLARED_AT);
+    answer = real_ask(without, DESK_SIZE, sheet, sheet_len, seen, seen_len,
+                      class_, word, count);
+    if (answer != PLUNGEROWL_UNFIT && !desk_crosses(desk, sheet, NULL))
+        answer = PLUNGEROWL_UNFIT;
+    if (answer == PLUNGEROWL_OK && plant() == cross_ask_refuses_crosslock
+        && word_of(desk + PLUNGEROWL_DECLARED_AT) & bit_of((unsigned)class_))
+        answer = PLUNGEROWL_WRONG_SORT;
+    if (answer != PLUNGEROWL_OK)
+        *word = *count = 0;
+    return answer;
 }

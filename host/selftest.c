@@ -37,9 +37,16 @@
 #define HELD_AT PLUNGEROWL_HELD_AT
 #define ORIGINS_AT PLUNGEROWL_ORIGINS_AT
 #define ACCEPTED_AT PLUNGEROWL_ACCEPTED_AT
+#define DECLARED_AT PLUNGEROWL_DECLARED_AT
+#define PROGRESS_AT PLUNGEROWL_PROGRESS_AT
+#define KEPT_AT PLUNGEROWL_KEPT_AT
+#define SINCE_AT PLUNGEROWL_SINCE_AT
 #define CORES PLUNGEROWL_CORES
 #define FRAMES PLUNGEROWL_FRAMES
 #define DEPTH PLUNGEROWL_MAX_DEPTH
+#define MOST_IN_PROGRESS PLUNGEROWL_MAX_IN_PROGRESS
+#define MOST_KEPT PLUNGEROWL_MAX_KEPT
+#define HISTORY_SIZE PLUNGEROWL_HISTORY_SIZE
 
 /* For the slip: bytes of a dependency, and how many of them are compared. */
 #define ENTRY PLUNGEROWL_ENTRY_SIZE
@@ -55,6 +62,7 @@
 #define FEED_SIZE PLUNGEROWL_FEED_SIZE
 #define MOST_LOOSE PLUNGEROWL_MOST_LOOSE
 #define HEADER_SIZE PLUNGEROWL_HEADER_SIZE
+#define LONG_HEADER_SIZE PLUNGEROWL_LONG_HEADER_SIZE
 #define RECORD_SIZE PLUNGEROWL_RECORD_SIZE
 
 /* And for the balance. */
@@ -69,7 +77,7 @@
 
 enum { ACQUIRE = 0, RELEASE = 1, HARD_ON = 2, HARD_OFF = 3, SOFT_ON = 4,
        SOFT_OFF = 5, ENTER_SOFT = 6, EXIT_SOFT = 7, ENTER_HARD = 8,
-       EXIT_HARD = 9 };
+       EXIT_HARD = 9, CROSS = 10, COMMIT = 11, UNCROSS = 12, KINDS_OF_RECORDS };
 /* Modes; TRY + E and so on are those of a successful try. */
 enum { E = 0, r = 1, R = 2, TRY = 3, MODES = 6 };
 
@@ -103,8 +111,9 @@ static enum { GUARD_BOTH, FENCE_BEFORE, FENCE_BEHIND } sides;
 
 struct buffers {
     unsigned k;
-    struct guarded desk, sheet, seen, slip;
-    struct guarded want_desk, want_sheet, want_seen, want_slip;
+    uint64_t declared; /* with which they are opened */
+    struct guarded desk, sheet, seen, history, slip;
+    struct guarded want_desk, want_sheet, want_seen, want_history, want_slip;
 };
 
 static void need(int right)
@@ -162,26 +171,35 @@ static void free_lent(struct guarded *g)
 }
 
 /* Buffers of the given sizes, to be used with k classes. */
-static void make_sized(struct buffers *b, unsigned k, size_t desk, size_t sheet,
-                       size_t seen, size_t slip)
+static void make_all(struct buffers *b, unsigned k, size_t desk, size_t sheet,
+                     size_t seen, size_t history, size_t slip)
 {
     b->k = k;
+    b->declared = 0;
     make_lent(&b->desk, desk);
     make_lent(&b->sheet, sheet);
     make_lent(&b->seen, seen);
+    make_lent(&b->history, history);
     make_lent(&b->slip, slip);
     need(guarded_make(&b->want_desk, desk, FILL)
          && guarded_make(&b->want_sheet, sheet, FILL)
          && guarded_make(&b->want_seen, seen, FILL)
+         && guarded_make(&b->want_history, history, FILL)
          && guarded_make(&b->want_slip, slip, FILL));
+}
+
+static void make_sized(struct buffers *b, unsigned k, size_t desk, size_t sheet,
+                       size_t seen, size_t slip)
+{
+    make_all(b, k, desk, sheet, seen, HISTORY_SIZE, slip);
 }
 
 /* Buffers for k classes, each longer than needed by the given tail. */
 static void make_buffers(struct buffers *b, unsigned k, size_t tail)
 {
-    make_sized(b, k, PLUNGEROWL_DESK_SIZE + tail,
-               PLUNGEROWL_SHEET_SIZE(k) + tail, PLUNGEROWL_SEEN_SIZE(k) + tail,
-               PLUNGEROWL_SLIP_SIZE(k) + tail);
+    make_all(b, k, PLUNGEROWL_DESK_SIZE + tail,
+             PLUNGEROWL_SHEET_SIZE(k) + tail, PLUNGEROWL_SEEN_SIZE(k) + tail,
+             HISTORY_SIZE + tail, PLUNGEROWL_SLIP_SIZE(k) + tail);
 }
 
 static void free_buffers(struct buffers *b)
@@ -189,10 +207,12 @@ static void free_buffers(struct buffers *b)
     free_lent(&b->desk);
     free_lent(&b->sheet);
     free_lent(&b->seen);
+    free_lent(&b->history);
     free_lent(&b->slip);
     guarded_free(&b->want_desk);
     guarded_free(&b->want_sheet);
     guarded_free(&b->want_seen);
+    guarded_free(&b->want_history);
     guarded_free(&b->want_slip);
 }
 
@@ -236,6 +256,19 @@ static void set_low_first(uint8_t *at, uint32_t number)
         at[i] = (uint8_t)(number % 256);
 }
 
+/* A word of eight bytes, low byte first: which classes are crosslocks, and
+ * which of them are in progress. */
+static uint64_t word_at(const uint8_t *at)
+{
+    return low_first(at) | (uint64_t)low_first(at + 4) << 32;
+}
+
+static void set_word(uint8_t *at, uint64_t word)
+{
+    set_low_first(at, (uint32_t)word);
+    set_low_first(at + 4, (uint32_t)(word >> 32));
+}
+
 /* Where the number of a pair is. */
 static size_t seen_at(unsigned k, unsigned from, unsigned to)
 {
@@ -259,6 +292,29 @@ static void put_count(struct buffers *b, uint32_t count)
 {
     set_low_first(b->desk.bytes + ACCEPTED_AT, count);
     set_low_first(b->want_desk.bytes + ACCEPTED_AT, count);
+}
+
+static void put_word(struct buffers *b, size_t at, uint64_t word)
+{
+    set_word(b->desk.bytes + at, word);
+    set_word(b->want_desk.bytes + at, word);
+}
+
+/* How many entries are kept, or, at the place of a class, how many were. */
+static void put_entries(struct buffers *b, size_t at, uint32_t entries)
+{
+    set_low_first(b->desk.bytes + at, entries);
+    set_low_first(b->want_desk.bytes + at, entries);
+}
+
+static void put_entry(struct buffers *b, unsigned entry, unsigned place,
+                      unsigned lock)
+{
+    uint8_t *at = b->history.bytes + 2 * entry;
+    uint8_t *want = b->want_history.bytes + 2 * entry;
+
+    at[0] = want[0] = (uint8_t)place;
+    at[1] = want[1] = (uint8_t)lock;
 }
 
 static void put_seen(struct buffers *b, unsigned from, unsigned to,
@@ -308,6 +364,7 @@ static void check_buffers(const struct buffers *b, const char *what)
     check_buffer(&b->desk, &b->want_desk, "desk", what);
     check_buffer(&b->sheet, &b->want_sheet, "sheet", what);
     check_buffer(&b->seen, &b->want_seen, "second sheet", what);
+    check_buffer(&b->history, &b->want_history, "history", what);
     check_buffer(&b->slip, &b->want_slip, "slip", what);
 }
 
@@ -369,6 +426,18 @@ static void want_dependency(struct buffers *b, unsigned from, unsigned to,
         set_low_first(number, low_first(b->want_desk.bytes + ACCEPTED_AT));
 }
 
+/* An acquire is kept. */
+static void want_kept(struct buffers *b, unsigned frame, unsigned class_,
+                      unsigned mode)
+{
+    uint8_t *kept = b->want_desk.bytes + KEPT_AT;
+    uint8_t *entry = b->want_history.bytes + 2 * (size_t)low_first(kept);
+
+    entry[0] = (uint8_t)(1 + frame);
+    entry[1] = (uint8_t)(class_ + 64 * mode);
+    set_low_first(kept, low_first(kept) + 1);
+}
+
 static void want_acquire(struct buffers *b, unsigned frame, unsigned class_,
                          unsigned mode)
 {
@@ -381,6 +450,8 @@ static void want_acquire(struct buffers *b, unsigned frame, unsigned class_,
     held[*depth] = (uint8_t)(class_ + 64 * (mode % TRY));
     set_origin(b->want_desk.bytes, frame, *depth, mode >= TRY);
     *depth += 1;
+    if (mode < TRY && word_at(b->want_desk.bytes + PROGRESS_AT) != 0)
+        want_kept(b, frame, class_, mode);
 }
 
 /* The mode in which the lock at a place was acquired. */
@@ -458,18 +529,69 @@ static void want_marks(struct buffers *b, unsigned core)
     }
 }
 
+/* A crosslock is acquired: from every lock that the frame holds. */
+static void want_cross(struct buffers *b, unsigned frame, unsigned class_)
+{
+    uint8_t *desk = b->want_desk.bytes;
+    const uint8_t *held = desk + HELD_AT + DEPTH * frame;
+    unsigned i;
+
+    for (i = 0; i < desk[DEPTHS_AT + frame]; i++)
+        want_dependency(b, held[i] % 64, class_, kind_of(held[i] / 64, E));
+    set_word(desk + PROGRESS_AT, word_at(desk + PROGRESS_AT) | BIT(class_));
+    memcpy(desk + SINCE_AT + 4 * class_, desk + KEPT_AT, 4);
+}
+
+static void want_commit(struct buffers *b, unsigned frame, unsigned class_)
+{
+    const uint8_t *desk = b->want_desk.bytes;
+    uint32_t i, kept = low_first(desk + KEPT_AT);
+
+    for (i = low_first(desk + SINCE_AT + 4 * class_); i < kept; i++) {
+        const uint8_t *entry = b->want_history.bytes + 2 * (size_t)i;
+
+        if (entry[0] == 1 + frame)
+            want_dependency(b, class_, entry[1] % 64,
+                            kind_of(E, entry[1] / 64));
+    }
+}
+
+static void want_uncross(struct buffers *b, unsigned class_)
+{
+    uint8_t *desk = b->want_desk.bytes;
+    uint64_t others = word_at(desk + PROGRESS_AT) & ~BIT(class_);
+
+    set_word(desk + PROGRESS_AT, others);
+    if (others == 0)
+        set_low_first(desk + KEPT_AT, 0);
+}
+
+/* A handler ends, and what it acquired is struck out. */
+static void want_struck_out(struct buffers *b, unsigned frame)
+{
+    uint32_t i, kept = low_first(b->want_desk.bytes + KEPT_AT);
+
+    for (i = 0; i < kept; i++)
+        if (b->want_history.bytes[2 * i] == 1 + frame)
+            memset(b->want_history.bytes + 2 * i, 0, 2);
+}
+
 static void want_accepted(struct buffers *b, const uint8_t *record)
 {
     uint8_t *state = b->want_desk.bytes + STATES_AT + record[2];
     unsigned frame = current_frame(b->want_desk.bytes, record[2]);
 
     want_count(b);
-    if (record[3] == ACQUIRE)
-        want_acquire(b, frame, record[4], record[5]);
-    else if (record[3] == RELEASE)
-        want_release(b, frame, record[4], record[5]);
-    else
-        *state = (uint8_t)next_state[*state][record[3] - 2];
+    switch (record[3]) {
+    case ACQUIRE: want_acquire(b, frame, record[4], record[5]); break;
+    case RELEASE: want_release(b, frame, record[4], record[5]); break;
+    case CROSS: want_cross(b, frame, record[4]); break;
+    case COMMIT: want_commit(b, frame, record[4]); break;
+    case UNCROSS: want_uncross(b, record[4]); break;
+    case EXIT_SOFT:
+    case EXIT_HARD: want_struck_out(b, frame); /* fall through */
+    default: *state = (uint8_t)next_state[*state][record[3] - 2]; break;
+    }
     want_marks(b, record[2]);
 }
 
@@ -652,24 +774,36 @@ static void want_cycle(struct buffers *b, const char *what)
 
 /* ------------------------------------------------------ calls with checks */
 
-static void expect_open_lengths(struct buffers *b, uint64_t classes,
-                                size_t desk_len, size_t sheet_len,
-                                size_t seen_len, unsigned answer,
-                                const char *what)
+static void expect_open_all(struct buffers *b, uint64_t classes,
+                            size_t desk_len, size_t sheet_len, size_t seen_len,
+                            size_t history_len, unsigned answer,
+                            const char *what)
 {
     unsigned is;
 
     if (answer == 0) {
         memset(b->want_desk.bytes, 0, PLUNGEROWL_DESK_SIZE);
         b->want_desk.bytes[0] = (uint8_t)classes;
+        set_word(b->want_desk.bytes + DECLARED_AT, b->declared);
         memset(b->want_sheet.bytes, 0, PLUNGEROWL_SHEET_SIZE(classes));
         memset(b->want_seen.bytes, 0, PLUNGEROWL_SEEN_SIZE(classes));
+        memset(b->want_history.bytes, 0, HISTORY_SIZE);
     }
-    is = plungerowl_open(classes, b->desk.bytes, desk_len,
-                         b->sheet.bytes, sheet_len, b->seen.bytes, seen_len);
+    is = plungerowl_open(classes, b->declared, b->desk.bytes, desk_len,
+                         b->sheet.bytes, sheet_len, b->seen.bytes, seen_len,
+                         b->history.bytes, history_len);
     open_met[is] = 1;
     check(is == answer, "%s: open answers %u, not %u", what, is, answer);
     check_buffers(b, what);
+}
+
+static void expect_open_lengths(struct buffers *b, uint64_t classes,
+                                size_t desk_len, size_t sheet_len,
+                                size_t seen_len, unsigned answer,
+                                const char *what)
+{
+    expect_open_all(b, classes, desk_len, sheet_len, seen_len, b->history.size,
+                    answer, what);
 }
 
 static void expect_open(struct buffers *b, uint64_t classes, unsigned answer,
@@ -711,7 +845,7 @@ static const struct guarded *lent_bytes(const uint8_t *bytes, size_t length)
 
 /* Step with the first bytes of each buffer, and a record of its own. */
 static unsigned call_step(struct buffers *b, size_t desk_len, size_t sheet_len,
-                          size_t seen_len, size_t slip_len,
+                          size_t seen_len, size_t history_len, size_t slip_len,
                           const uint8_t *record, size_t length,
                           const char *what)
 {
@@ -719,6 +853,7 @@ static unsigned call_step(struct buffers *b, size_t desk_len, size_t sheet_len,
     unsigned is = plungerowl_step(b->desk.bytes, desk_len,
                                   b->sheet.bytes, sheet_len,
                                   b->seen.bytes, seen_len,
+                                  b->history.bytes, history_len,
                                   b->slip.bytes, slip_len,
                                   lent->bytes, length);
 
@@ -739,8 +874,8 @@ static void expect_bytes(struct buffers *b, const uint8_t *record,
         b->want_desk.bytes[CLOSED_AT] = 1;
         want_cycle(b, what);
     }
-    is = call_step(b, b->desk.size, b->sheet.size, b->seen.size, b->slip.size,
-                   record, length, what);
+    is = call_step(b, b->desk.size, b->sheet.size, b->seen.size,
+                   b->history.size, b->slip.size, record, length, what);
     check(is == answer, "%s: step answers %u, not %u", what, is, answer);
     check_buffers(b, what);
 }
@@ -802,18 +937,21 @@ static void expect_no_reach(struct buffers *b, uint64_t class_, unsigned answer,
 static void test_sizes(void)
 {
     check(CLOSED_AT == 1 && STATES_AT == 2 && DEPTHS_AT == 10 && MARKS_AT == 34
-          && HELD_AT == 98 && ORIGINS_AT == 1250 && ACCEPTED_AT == 1394,
-          "places on the desk");
-    check(PLUNGEROWL_DESK_SIZE == 1398, "desk size");
+          && HELD_AT == 98 && ORIGINS_AT == 1250 && ACCEPTED_AT == 1394
+          && DECLARED_AT == 1398 && PROGRESS_AT == 1406 && KEPT_AT == 1414
+          && SINCE_AT == 1418, "places on the desk");
+    check(PLUNGEROWL_DESK_SIZE == 1674, "desk size");
+    check(PLUNGEROWL_HISTORY_SIZE == 512, "history size");
     check(PLUNGEROWL_SHEET_SIZE(3 + 5) == 64, "sheet size");
     check(PLUNGEROWL_SEEN_SIZE(3 + 5) == 256, "size of the second sheet");
     check(PLUNGEROWL_SLIP_SIZE(3 + 5) == 57, "slip size");
-    check(PLUNGEROWL_NUMBER_SIZE == 4 && PLUNGEROWL_ENTRY_SIZE == 7,
-          "sizes of a number and of an entry");
+    check(PLUNGEROWL_NUMBER_SIZE == 4 && PLUNGEROWL_ENTRY_SIZE == 7
+          && PLUNGEROWL_WORD_SIZE == 8,
+          "sizes of a number, of an entry and of a word");
     check(PLUNGEROWL_RECORD_SIZE == 6, "record size");
     check(ANSWER_AT == 0 && OPENED_AT == 1 && COUNT_AT == 2 && LOOSE_AT == 3
-          && NUMBER_AT == 8 && FEED_SIZE == 16, "places in the feed");
-    check(PLUNGEROWL_MOST_LOOSE == 5, "most loose bytes");
+          && NUMBER_AT == 14 && FEED_SIZE == 22, "places in the feed");
+    check(PLUNGEROWL_MOST_LOOSE == 11, "most loose bytes");
     check(PLUNGEROWL_MAX_PIECE_RECORDS == 10000
           && PLUNGEROWL_MAX_PIECE_SIZE == 60000, "the longest piece");
 }
@@ -827,12 +965,15 @@ static void test_numbers(void)
         PLUNGEROWL_BAD_EVENT, PLUNGEROWL_STILL_HELD, PLUNGEROWL_FRAME_FULL,
         PLUNGEROWL_COUNT_FULL, PLUNGEROWL_CLOSED, PLUNGEROWL_UNFIT,
         PLUNGEROWL_OTHER_CLASSES, PLUNGEROWL_BENCH_CLOSED,
-        PLUNGEROWL_BAD_PIECE };
+        PLUNGEROWL_BAD_PIECE, PLUNGEROWL_WRONG_SORT, PLUNGEROWL_IN_PROGRESS,
+        PLUNGEROWL_NOT_IN_PROGRESS, PLUNGEROWL_LIST_FULL,
+        PLUNGEROWL_HISTORY_FULL };
     static const unsigned kinds[] = {
         PLUNGEROWL_ACQUIRE, PLUNGEROWL_RELEASE, PLUNGEROWL_HARD_ON,
         PLUNGEROWL_HARD_OFF, PLUNGEROWL_SOFT_ON, PLUNGEROWL_SOFT_OFF,
         PLUNGEROWL_ENTER_SOFT, PLUNGEROWL_EXIT_SOFT, PLUNGEROWL_ENTER_HARD,
-        PLUNGEROWL_EXIT_HARD };
+        PLUNGEROWL_EXIT_HARD, PLUNGEROWL_CROSS_ACQUIRE, PLUNGEROWL_COMMIT,
+        PLUNGEROWL_CROSS_RELEASE };
     unsigned i;
 
     for (i = 0; i < sizeof answers / sizeof answers[0]; i++)
@@ -849,7 +990,9 @@ static void test_numbers(void)
           && PLUNGEROWL_SOURCE_SOFT == 2, "numbers of the sources");
     check(PLUNGEROWL_MAX_CLASSES == 64 && PLUNGEROWL_CORES == 8
           && PLUNGEROWL_MAX_DEPTH == 48 && PLUNGEROWL_FRAMES == 24
-          && PLUNGEROWL_PLACES == 1152 && PLUNGEROWL_HEADER_SIZE == 4,
+          && PLUNGEROWL_PLACES == 1152 && PLUNGEROWL_HEADER_SIZE == 4
+          && PLUNGEROWL_LONG_HEADER_SIZE == 12
+          && PLUNGEROWL_MAX_IN_PROGRESS == 16 && PLUNGEROWL_MAX_KEPT == 256,
           "limits");
 }
 
@@ -1132,8 +1275,8 @@ static void test_refusal_3(void)
     }
     for (i = 8; i < 256; i++)
         expect_step(&b, i, ACQUIRE, 3, E, 3, "core over 7");
-    for (i = 10; i < 256; i++)
-        expect_step(&b, 0, i, 0, 0, 3, "kind over 9");
+    for (i = KINDS_OF_RECORDS; i < 256; i++)
+        expect_step(&b, 0, i, 0, 0, 3, "kind over 12");
     for (i = MODES; i < 256; i++)
         expect_step(&b, 0, ACQUIRE, 3, i, 3, "mode over 5");
     for (i = MODES; i < 256; i++)
@@ -2481,8 +2624,8 @@ static void expect_step_lengths(struct buffers *b, size_t desk_len,
                                 const char *what)
 {
     static const uint8_t record[] = { 0x4C, 0x4B, 0, HARD_ON, 0, 0 };
-    unsigned is = call_step(b, desk_len, sheet_len, seen_len, slip_len,
-                            record, sizeof record, what);
+    unsigned is = call_step(b, desk_len, sheet_len, seen_len, b->history.size,
+                            slip_len, record, sizeof record, what);
 
     if (answer == 0)
         want_count(b);
@@ -2775,6 +2918,18 @@ static void test_unfit_marks(void)
     free_buffers(&b);
 }
 
+/* The most crosslocks in progress, and the most entries, with the highest
+ * bytes. */
+static void put_fullest_history(struct buffers *b)
+{
+    unsigned i;
+
+    put_word(b, PROGRESS_AT, ~(UINT64_MAX >> MOST_IN_PROGRESS));
+    put_entries(b, KEPT_AT, MOST_KEPT);
+    for (i = 0; i < MOST_KEPT; i++)
+        put_entry(b, i, FRAMES, 63 + 64 * R);
+}
+
 /* A desk and a sheet as full as they can be. */
 static void test_fullest(void)
 {
@@ -2792,6 +2947,7 @@ static void test_fullest(void)
         put_desk(&b, HELD_AT + i, 63 + 64 * R);
     for (i = ORIGINS_AT; i < PLUNGEROWL_DESK_SIZE; i++)
         put_desk(&b, i, 255);
+    put_fullest_history(&b);
     for (i = 0; i < 64; i++) {
         for (j = 0; j < 64; j++) {
             put_kinds(&b, i, j, 15);
@@ -2800,6 +2956,14 @@ static void test_fullest(void)
     }
     expect_reach(&b, 63, UINT64_MAX, 64, "fullest, ask");
     expect_no_reach(&b, 64, 4, "fullest, ask class K");
+    expect_step(&b, 7, ACQUIRE, 0, E, 15, "fullest, acquire of a crosslock");
+    expect_step(&b, 7, RELEASE, 63, TRY + R, 15, "fullest, release of one");
+    expect_step(&b, 7, CROSS, 48, 0, 16, "fullest, a crosslock in progress");
+    expect_step(&b, 7, COMMIT, 47, 0, 17, "fullest, one that is not");
+    expect_step(&b, 7, CROSS, 47, 0, 18, "fullest, one crosslock more");
+    expect_step(&b, 7, COMMIT, 48, 0, 9, "fullest, commit");
+    put_word(&b, DECLARED_AT, UINT64_MAX - BIT(0) - BIT(62) - BIT(63));
+    put_word(&b, PROGRESS_AT, BIT(61));
     expect_step(&b, 7, ACQUIRE, 0, E, 8, "fullest, acquire");
     expect_step(&b, 7, EXIT_HARD, 0, 0, 7, "fullest, exit hard");
     expect_step(&b, 7, EXIT_SOFT, 0, 0, 6, "fullest, exit soft");
@@ -2914,7 +3078,7 @@ static void test_ask_marks(void)
 struct feeding {
     struct buffers b;
     struct guarded feed, want_feed;
-    size_t feed_len, desk_len, sheet_len, seen_len, slip_len;
+    size_t feed_len, desk_len, sheet_len, seen_len, history_len, slip_len;
 };
 
 /* What a call said. */
@@ -2966,20 +3130,29 @@ static void put_whole_feed(struct feeding *f, unsigned answer, unsigned opened,
     put_number(f, number);
 }
 
+/* The size of the header or record to which the loose bytes belong: by the
+ * third of them, of a header. */
+static unsigned unit_size(unsigned opened, const uint8_t *loose, unsigned count)
+{
+    return opened ? RECORD_SIZE
+           : count > 2 && loose[2] == 2 ? LONG_HEADER_SIZE : HEADER_SIZE;
+}
+
 /* The fit test of docs/FORMATS.md. */
 static int feed_fits(const uint8_t *feed, size_t length)
 {
-    static const char stands[2][13] = { "x-x---------", "xx-xxxxxxxxx" };
+    static const char stands[2][21] = { "x-x-----------------",
+                                        "xx-xxxxxxxxx---xxxxx" };
     unsigned i;
 
     if (length < FEED_SIZE || feed[OPENED_AT] > 1
-        || feed[COUNT_AT] > (feed[OPENED_AT] == 1 ? MOST_LOOSE
-                                                  : HEADER_SIZE - 1))
+        || feed[COUNT_AT] >= unit_size(feed[OPENED_AT], feed + LOOSE_AT,
+                                       feed[COUNT_AT]))
         return 0;
     for (i = 0; i < MOST_LOOSE; i++)
         if (i >= feed[COUNT_AT] && feed[LOOSE_AT + i] != 0)
             return 0;
-    if (feed[ANSWER_AT] > 11
+    if (feed[ANSWER_AT] > 19
         || stands[feed[OPENED_AT]][feed[ANSWER_AT]] != 'x')
         return 0;
     if (feed[ANSWER_AT] != 0 && feed[COUNT_AT] != 0)
@@ -2995,13 +3168,14 @@ static void want_unit(struct feeding *f, const uint8_t *unit, size_t size)
     uint8_t *feed = f->want_feed.bytes;
     struct buffers *b = &f->b;
     uint64_t number = number_in(feed);
-    int good = size == HEADER_SIZE && unit[0] == 0x4C && unit[1] == 0x48
-               && unit[2] == 1;
+    int good = unit[0] == 0x4C && unit[1] == 0x48
+               && (unit[2] == 1 || unit[2] == 2);
 
     if (feed[OPENED_AT]) {
         feed[ANSWER_AT] = plungerowl_step(b->want_desk.bytes, f->desk_len,
                                           b->want_sheet.bytes, f->sheet_len,
                                           b->want_seen.bytes, f->seen_len,
+                                          b->want_history.bytes, f->history_len,
                                           b->want_slip.bytes, f->slip_len,
                                           unit, size);
         put_number_in(feed, number + (number != UINT64_MAX));
@@ -3009,9 +3183,13 @@ static void want_unit(struct feeding *f, const uint8_t *unit, size_t size)
             want_cycle(b, "fed");
     } else {
         feed[ANSWER_AT] = plungerowl_open(good ? unit[3] : 0,
+                                          size == LONG_HEADER_SIZE
+                                          ? word_at(unit + HEADER_SIZE) : 0,
                                           b->want_desk.bytes, f->desk_len,
                                           b->want_sheet.bytes, f->sheet_len,
-                                          b->want_seen.bytes, f->seen_len);
+                                          b->want_seen.bytes, f->seen_len,
+                                          b->want_history.bytes,
+                                          f->history_len);
         feed[OPENED_AT] = feed[ANSWER_AT] == 0;
     }
     memset(feed + COUNT_AT, 0, 1 + MOST_LOOSE);
@@ -3022,13 +3200,13 @@ static void want_byte(struct feeding *f, uint8_t byte)
 {
     uint8_t *feed = f->want_feed.bytes;
     unsigned count = feed[COUNT_AT];
-    uint8_t unit[RECORD_SIZE];
+    uint8_t unit[LONG_HEADER_SIZE];
 
     if (feed[ANSWER_AT] != 0)
         return;
     memcpy(unit, feed + LOOSE_AT, count);
     unit[count] = byte;
-    if (count + 1 == (feed[OPENED_AT] ? RECORD_SIZE : HEADER_SIZE)) {
+    if (count + 1 == unit_size(feed[OPENED_AT], unit, count + 1)) {
         want_unit(f, unit, count + 1);
     } else {
         feed[LOOSE_AT + count] = byte;
@@ -3060,6 +3238,7 @@ static unsigned call_feed(struct feeding *f, const uint8_t *piece,
                                   f->b.desk.bytes, f->desk_len,
                                   f->b.sheet.bytes, f->sheet_len,
                                   f->b.seen.bytes, f->seen_len,
+                                  f->b.history.bytes, f->history_len,
                                   f->b.slip.bytes, f->slip_len,
                                   lent->bytes, length, record);
 
@@ -3075,6 +3254,7 @@ static unsigned call_end(struct feeding *f, uint64_t *record)
                                       f->b.desk.bytes, f->desk_len,
                                       f->b.sheet.bytes, f->sheet_len,
                                       f->b.seen.bytes, f->seen_len,
+                                      f->b.history.bytes, f->history_len,
                                       f->b.slip.bytes, f->slip_len, record);
 
     end_met[is] = 1;
@@ -3147,8 +3327,9 @@ static void expect_start(struct feeding *f, unsigned answer, const char *what)
 static void start_again(struct feeding *f)
 {
     struct guarded *all[] = { &f->feed, &f->b.desk, &f->b.sheet, &f->b.seen,
-                              &f->b.slip, &f->want_feed, &f->b.want_desk,
-                              &f->b.want_sheet, &f->b.want_seen,
+                              &f->b.history, &f->b.slip, &f->want_feed,
+                              &f->b.want_desk, &f->b.want_sheet,
+                              &f->b.want_seen, &f->b.want_history,
                               &f->b.want_slip };
     size_t i;
 
@@ -3158,25 +3339,33 @@ static void start_again(struct feeding *f)
 }
 
 /* A fresh feed and buffers of the given sizes, for logs of k classes. */
-static void start_sized(struct feeding *f, unsigned k, size_t feed_size,
-                        size_t desk, size_t sheet, size_t seen, size_t slip)
+static void start_all(struct feeding *f, unsigned k, size_t feed_size,
+                      size_t desk, size_t sheet, size_t seen, size_t history,
+                      size_t slip)
 {
-    make_sized(&f->b, k, desk, sheet, seen, slip);
+    make_all(&f->b, k, desk, sheet, seen, history, slip);
     make_lent(&f->feed, feed_size);
     need(guarded_make(&f->want_feed, feed_size, FILL));
     f->feed_len = feed_size;
     f->desk_len = desk;
     f->sheet_len = sheet;
     f->seen_len = seen;
+    f->history_len = f->b.history.size;
     f->slip_len = slip;
     start_again(f);
 }
 
+static void start_sized(struct feeding *f, unsigned k, size_t feed_size,
+                        size_t desk, size_t sheet, size_t seen, size_t slip)
+{
+    start_all(f, k, feed_size, desk, sheet, seen, HISTORY_SIZE, slip);
+}
+
 static void start_feed(struct feeding *f, unsigned k, size_t tail)
 {
-    start_sized(f, k, FEED_SIZE + tail, PLUNGEROWL_DESK_SIZE + tail,
-                PLUNGEROWL_SHEET_SIZE(k) + tail, PLUNGEROWL_SEEN_SIZE(k) + tail,
-                PLUNGEROWL_SLIP_SIZE(k) + tail);
+    start_all(f, k, FEED_SIZE + tail, PLUNGEROWL_DESK_SIZE + tail,
+              PLUNGEROWL_SHEET_SIZE(k) + tail, PLUNGEROWL_SEEN_SIZE(k) + tail,
+              HISTORY_SIZE + tail, PLUNGEROWL_SLIP_SIZE(k) + tail);
 }
 
 static void free_feed(struct feeding *f)
@@ -3408,9 +3597,9 @@ static void test_feed_example(void)
         { 3, 0, 0, { 0, 0, 3, 0x4C, 0x48, 1 } },
         { 0, 0, 0, { 0, 0, 3, 0x4C, 0x48, 1 } },
         { 6, 0, 0, { 0, 1, 5, 0x4C, 0x4B, 0, 0, 1 } },
-        { 3, 0, 1, { 0, 1, 2, 0x4C, 0x4B, 0, 0, 0, 1 } },
-        { 28, 1, 6, { 1, 1, 0, 0, 0, 0, 0, 0, 6 } },
-        { 2, 1, 6, { 1, 1, 0, 0, 0, 0, 0, 0, 6 } }
+        { 3, 0, 1, { 0, 1, 2, 0x4C, 0x4B, [14] = 1 } },
+        { 28, 1, 6, { 1, 1, [14] = 6 } },
+        { 2, 1, 6, { 1, 1, [14] = 6 } }
     };
     static struct log log;
     struct feeding f;
@@ -3448,6 +3637,8 @@ static void test_feed_header(void)
             log_record(&log, 0, ACQUIRE, 0, E);
             good = place == 3 ? value >= 1 && value <= 64
                               : value == log.bytes[place];
+            if (place == 2 && value == 2)
+                continue; /* a long one: below */
             log.bytes[place] = (uint8_t)value;
             start_again(&f);
             for (i = 0; i < 3; i++)
@@ -3710,7 +3901,8 @@ static void expect_stopped(struct feeding *f, unsigned answer, uint64_t number,
         expect_feed(f, log.bytes, log.size, answer, number, what);
         expect_end(f, answer, number, what);
     }
-    other.desk_len = other.sheet_len = other.seen_len = other.slip_len = 0;
+    other.desk_len = other.sheet_len = other.seen_len = 0;
+    other.history_len = other.slip_len = 0;
     expect_feed(&other, log.bytes, log.size, answer, number, what);
     expect_end(&other, answer, number, what);
 }
@@ -3872,20 +4064,21 @@ static void test_feed_not_looked_at(void)
     struct feeding f;
 
     make_p2(&log);
-    start_sized(&f, 3, FEED_SIZE, 0, 0, 0, 0);
+    start_all(&f, 3, FEED_SIZE, 0, 0, 0, 0, 0);
     expect_feed(&f, log.bytes, 3, 0, 0, "no buffers, part of a header");
     expect_end(&f, 2, 0, "no buffers, end");
     free_feed(&f);
 
     start_feed(&f, 3, 0);
     expect_feed(&f, log.bytes, 10, 0, 1, "a record");
-    f.desk_len = f.sheet_len = f.seen_len = f.slip_len = 0;
+    f.desk_len = f.sheet_len = f.seen_len = f.history_len = f.slip_len = 0;
     expect_feed(&f, log.bytes, 0, 0, 1, "no buffers, empty piece");
     expect_end(&f, 0, 1, "no buffers, end");
     expect_feed(&f, log.bytes + 10, 5, 0, 1, "no buffers, part of a record");
     f.desk_len = f.b.desk.size;
     f.sheet_len = f.b.sheet.size;
     f.seen_len = f.b.seen.size;
+    f.history_len = f.b.history.size;
     f.slip_len = f.b.slip.size;
     expect_feed(&f, log.bytes + 15, 1, 0, 2, "its last byte");
     free_feed(&f);
@@ -3951,7 +4144,7 @@ static void test_feed_unfit(void)
         expect_unfit_feed_with(&f, COUNT_AT, value, "a header's count over 3");
     for (i = 0; i <= 3; i++) {
         put_whole_feed(&f, 0, 0, i, 0);
-        for (j = i; j < 5; j++)
+        for (j = i; j < MOST_LOOSE; j++)
             for (value = 1; value < 256; value++)
                 expect_unfit_feed_with(&f, LOOSE_AT + j, value,
                                        "an unused place, header");
@@ -3979,13 +4172,14 @@ static void test_feed_unfit(void)
         expect_unfit_feed_with(&f, COUNT_AT, value, "a record's count over 5");
     for (i = 0; i <= 5; i++) {
         put_whole_feed(&f, 0, 1, i, 1);
-        for (j = i; j < 5; j++)
+        for (j = i; j < MOST_LOOSE; j++)
             for (value = 1; value < 256; value++)
                 expect_unfit_feed_with(&f, LOOSE_AT + j, value,
                                        "an unused place, record");
     }
     for (value = 1; value < 256; value++) {
-        int stands = value == 1 || (value >= 3 && value <= 11);
+        int stands = value == 1 || (value >= 3 && value <= 11)
+                     || (value >= 15 && value <= 19);
 
         put_whole_feed(&f, value, 1, 0, 0);
         expect_unfit_feed(&f, "an answer at record 0");
@@ -4016,7 +4210,7 @@ static void test_feed_fit(void)
     expect_open(&f.b, 8, 0, "opening");
     for (opened = 0; opened < 4; opened++) {
         for (answer = 0; answer < 256; answer++) {
-            for (count = 0; count < 8; count++) {
+            for (count = 0; count < 13; count++) {
                 for (i = 0; i < 3; i++) {
                     put_whole_feed(&f, answer, opened, count, numbers[i]);
                     feed_or_end(&f, piece, answer % 2, "bytes 0 to 2");
@@ -5053,8 +5247,8 @@ static void expect_one_slip(struct buffers *b, int fits, const uint8_t slip[4],
         b->want_desk.bytes[CLOSED_AT] = 1;
         write_slip(b->want_slip.bytes, b, slip);
     }
-    is = call_step(b, b->desk.size, b->sheet.size, b->seen.size, b->slip.size,
-                   record, sizeof record, what);
+    is = call_step(b, b->desk.size, b->sheet.size, b->seen.size,
+                   b->history.size, b->slip.size, record, sizeof record, what);
     check(is == due, "%s: step answers %u, not %u", what, is, due);
     check_buffers(b, what);
     put_desk(b, CLOSED_AT, 0);
@@ -5381,7 +5575,8 @@ static void test_count_order(void)
     for (i = 0; i <= sizeof good; i++)
         expect_bytes(&b, good, i, i == RECORD_SIZE ? 9 : 3, "3 before 9");
     expect_step(&b, 8, HARD_ON, 0, 0, 3, "3 before 9, core 8");
-    expect_step(&b, 0, 10, 0, 0, 3, "3 before 9, kind 10");
+    expect_step(&b, 0, 13, 0, 0, 3, "3 before 9, kind 13");
+    expect_step(&b, 0, CROSS, 0, 0, 15, "15 before 9");
     expect_step(&b, 0, ACQUIRE, 1, MODES, 3, "3 before 9, mode 6");
     expect_step(&b, 0, HARD_ON, 1, 0, 3, "3 before 9, class of an event");
     expect_step(&b, 0, ACQUIRE, 8, E, 4, "4 before 9");
@@ -6040,7 +6235,7 @@ static void test_feed_seen(void)
  * when somebody lowers the count. */
 static void test_feed_count_full(void)
 {
-    static const uint8_t stopped[FEED_SIZE] = { 9, 1, 0, 0, 0, 0, 0, 0, 3 };
+    static const uint8_t stopped[FEED_SIZE] = { 9, 1, [14] = 3 };
     static struct log log;
     struct feeding f;
 
@@ -6468,7 +6663,8 @@ static void test_depth_fed(void)
 
 /* Lengths of desks: those of before, and on both sides of what is now. */
 static const size_t old_lengths[] = { 577, 578, 579, 637, 638, 639, 641, 642,
-                                      643, 1249, 1250, 1393, 1394, 1396, 1397 };
+                                      643, 1249, 1250, 1393, 1394, 1397, 1398,
+                                      1399, 1406, 1414, 1418, 1672, 1673 };
 
 #define OLD_LENGTHS (sizeof old_lengths / sizeof old_lengths[0])
 
@@ -6501,8 +6697,8 @@ static void test_old_lengths(void)
         expect_ask_lengths(&b, length, 64, 256, 0, 11, 0, 0, "an old length");
         expect_ask_lengths(&b, length, 64, 256, 8, 11, 0, 0, "an old length");
     }
-    expect_step_lengths(&b, 1398, 64, 256, 57, 0, "the length that is due");
-    expect_ask_lengths(&b, 1398, 64, 256, 0, 0, 0, 0, "the length that is due");
+    expect_step_lengths(&b, 1674, 64, 256, 57, 0, "the length that is due");
+    expect_ask_lengths(&b, 1674, 64, 256, 0, 0, 0, 0, "the length that is due");
     free_buffers(&b);
 
     for (i = 0; i < OLD_LENGTHS; i++) {
@@ -6526,11 +6722,11 @@ static void test_old_lengths(void)
     for (i = 0; i < 4; i++) {
         static const size_t tails[] = { 0, 1, 602, 5000 };
 
-        make_sized(&b, 8, 1398 + tails[i], 64, 256, 57);
-        expect_open(&b, 8, 0, "1398 bytes or more");
-        expect_step(&b, 7, ENTER_HARD, 0, 0, 0, "1398 bytes or more");
-        expect_step(&b, 7, ACQUIRE, 1, TRY + R, 0, "1398 bytes or more");
-        expect_reach(&b, 1, 0, 0, "1398 bytes or more");
+        make_sized(&b, 8, 1674 + tails[i], 64, 256, 57);
+        expect_open(&b, 8, 0, "1674 bytes or more");
+        expect_step(&b, 7, ENTER_HARD, 0, 0, 0, "1674 bytes or more");
+        expect_step(&b, 7, ACQUIRE, 1, TRY + R, 0, "1674 bytes or more");
+        expect_reach(&b, 1, 0, 0, "1674 bytes or more");
         free_buffers(&b);
     }
 }
@@ -6562,9 +6758,9 @@ static void test_old_lengths_fed(void)
         expect_end(&f, 11, 6, "an old desk, the end in a record");
         free_feed(&f);
     }
-    start_sized(&f, 8, FEED_SIZE, 1398, 64, 256, 57);
-    expect_feed(&f, log.bytes, log.size, 0, 2, "1398 bytes, a feed");
-    expect_end(&f, 0, 2, "1398 bytes, the end");
+    start_sized(&f, 8, FEED_SIZE, 1674, 64, 256, 57);
+    expect_feed(&f, log.bytes, log.size, 0, 2, "1674 bytes, a feed");
+    expect_end(&f, 0, 2, "1674 bytes, the end");
     free_feed(&f);
 }
 
@@ -6655,7 +6851,7 @@ static void test_old_desks(void)
     free_buffers(&b);
 
     /* Behind the old desk whatever is there. */
-    make_sized(&b, 8, 1398, 64, 256, 57);
+    make_sized(&b, 8, 1674, 64, 256, 57);
     put_old_desk(&b, 642);
     expect_old_unfit(&b, 0, "an old desk, and other bytes behind it");
     free_buffers(&b);
@@ -6715,6 +6911,7 @@ static void want_joined(struct buffers *b, const struct buffers *one,
     b->k = desk1[0];
     memset(desk, 0, PLUNGEROWL_DESK_SIZE);
     desk[0] = desk1[0];
+    memcpy(desk + DECLARED_AT, desk1 + DECLARED_AT, 8);
     for (i = MARKS_AT; i < MARKS_AT + 64; i++)
         desk[i] = desk1[i] | desk2[i];
     for (i = 0; i < PLUNGEROWL_SHEET_SIZE(b->k); i++) {
@@ -6785,9 +6982,9 @@ static void expect_join(const struct buffers *one, const struct buffers *two,
  * leaves what the first does, but for the numbers. */
 static void fill_again(struct buffers *b)
 {
-    struct guarded *all[] = { &b->desk, &b->sheet, &b->seen, &b->slip,
-                              &b->want_desk, &b->want_sheet, &b->want_seen,
-                              &b->want_slip };
+    struct guarded *all[] = { &b->desk, &b->sheet, &b->seen, &b->history,
+                              &b->slip, &b->want_desk, &b->want_sheet,
+                              &b->want_seen, &b->want_history, &b->want_slip };
     size_t i;
 
     for (i = 0; i < sizeof all / sizeof all[0]; i++)
@@ -6978,8 +7175,8 @@ static void make_short(struct buffers *b, unsigned k, unsigned which,
 static void test_join_short(void)
 {
     static const size_t parts[] = { 0, 1, 2, 33, 98, 577, 578, 638, 642, 1250,
-                                    1394, 1397, 62, 63, 64, 65, 254, 255, 25,
-                                    55, 56 };
+                                    1394, 1398, 1406, 1673, 62, 63, 64, 65,
+                                    254, 255, 25, 55, 56 };
     static const size_t needed[] = { PLUNGEROWL_DESK_SIZE, 64, 256, 57 };
     struct benches n;
     unsigned i, which;
@@ -6998,9 +7195,9 @@ static void test_join_short(void)
             }
         }
     }
-    make_sized(&n.one, 8, 0, 0, 0, 0);
-    make_sized(&n.two, 8, 0, 0, 0, 0);
-    make_sized(&n.b, 8, 0, 0, 0, 0);
+    make_all(&n.one, 8, 0, 0, 0, 0, 0);
+    make_all(&n.two, 8, 0, 0, 0, 0, 0);
+    make_all(&n.b, 8, 0, 0, 0, 0, 0);
     expect_join(&n.one, &n.two, &n.b, 11, "no buffers");
     free_benches(&n);
 
@@ -7303,7 +7500,7 @@ static void test_join_fresh(void)
             expect_join(&n.one, &n.two, &n.b, fault, "busy benches");
             check_byte(&n.b, 0, 13, "busy benches: K");
             check_byte(&n.b, 1, fault, "busy benches: closed");
-            for (i = 2; i < 1398; i++)
+            for (i = 2; i < 1674; i++)
                 if (i < 34 + 11 || i > 34 + 12)
                     check_byte(&n.b, i, 0, "busy benches: the rest");
             check_byte(&n.b, 34 + 11, 2, "busy benches: marks of 11");
@@ -7941,9 +8138,9 @@ static void test_join_over(void)
         put_sheet(&n.one, 1, 2, fault ? PLUNGEROWL_EN : PLUNGEROWL_SR);
         for (i = 0; i < sizeof fills; i++) {
             struct guarded *all[] = { &n.b.desk, &n.b.sheet, &n.b.seen,
-                                      &n.b.slip, &n.b.want_desk,
+                                      &n.b.history, &n.b.slip, &n.b.want_desk,
                                       &n.b.want_sheet, &n.b.want_seen,
-                                      &n.b.want_slip };
+                                      &n.b.want_history, &n.b.want_slip };
             size_t j;
 
             for (j = 0; j < sizeof all / sizeof all[0]; j++)
@@ -8002,6 +8199,7 @@ static void test_join_fullest(void)
             put_desk(bench[side], HELD_AT + i, 63 + 64 * R);
         for (i = ORIGINS_AT; i < PLUNGEROWL_DESK_SIZE; i++)
             put_desk(bench[side], i, 255);
+        put_fullest_history(bench[side]);
         for (i = 0; i < 64; i++) {
             for (j = 0; j < 64; j++) {
                 put_kinds(bench[side], i, j, 15);
@@ -8433,7 +8631,7 @@ static const uint8_t malformed[][RECORD_SIZE] = {
     { 0x4C, 0x48, 0, ACQUIRE, 5, 0 }, { 0x4C, 0xCB, 0, RELEASE, 5, 0 },
     { 0x4B, 0x4C, 0, ACQUIRE, 5, 0 }, { 0x6C, 0x6B, 0, ACQUIRE, 5, 0 },
     { 0x4C, 0x4B, 8, ACQUIRE, 5, 0 }, { 0x4C, 0x4B, 8, RELEASE, 5, 0 },
-    { 0x4C, 0x4B, 255, ACQUIRE, 5, 0 }, { 0x4C, 0x4B, 0, 10, 5, 0 },
+    { 0x4C, 0x4B, 255, ACQUIRE, 5, 0 }, { 0x4C, 0x4B, 0, 13, 5, 0 },
     { 0x4C, 0x4B, 0, 16, 5, 0 }, { 0x4C, 0x4B, 0, 17, 5, 0 },
     { 0x4C, 0x4B, 0, 128, 5, 0 }, { 0x4C, 0x4B, 0, 255, 5, 0 },
     { 0x4C, 0x4B, 0, ACQUIRE, 5, 6 }, { 0x4C, 0x4B, 0, ACQUIRE, 5, 7 },
@@ -8442,6 +8640,7 @@ static const uint8_t malformed[][RECORD_SIZE] = {
     { 0x4C, 0x4B, 0, RELEASE, 5, 8 }, { 0x4C, 0x4B, 0, RELEASE, 5, 255 },
     { 0x4C, 0x4B, 0, HARD_ON, 5, 0 }, { 0x4C, 0x4B, 0, EXIT_HARD, 5, 0 },
     { 0x4C, 0x4B, 0, HARD_OFF, 0, 1 }, { 0x4C, 0x4B, 0, ENTER_HARD, 5, 3 },
+    { 0x4C, 0x4B, 0, CROSS, 5, 1 }, { 0x4C, 0x4B, 0, UNCROSS, 5, 5 },
     { 0, 0, 0, 0, 0, 0 }, { 255, 255, 255, 255, 255, 255 },
     { 0x4C, 0x48, 0x01, 0x40, 0x4C, 0x4B }, { 0, 0, 0, 0, 0x4C, 0x4B }
 };
@@ -8736,12 +8935,14 @@ static void test_balance_as_step(void)
                     memcpy(record, bases[base], sizeof record);
                     record[(at + 3) % RECORD_SIZE] = values[other];
                     record[at] = (uint8_t)value;
-                    plungerowl_open(1, b.desk.bytes, b.desk.size,
+                    plungerowl_open(1, 0, b.desk.bytes, b.desk.size,
                                     b.sheet.bytes, b.sheet.size,
-                                    b.seen.bytes, b.seen.size);
+                                    b.seen.bytes, b.seen.size,
+                                    b.history.bytes, b.history.size);
                     is = plungerowl_step(b.desk.bytes, b.desk.size,
                                          b.sheet.bytes, b.sheet.size,
                                          b.seen.bytes, b.seen.size,
+                                         b.history.bytes, b.history.size,
                                          b.slip.bytes, b.slip.size,
                                          record, sizeof record);
                     if (is != 3 && record[3] <= RELEASE && record[4] < CLASSES)
@@ -8770,7 +8971,7 @@ static void test_balance_cores(void)
     }
 }
 
-/* Kinds 2 to 9 count for nothing, at class 0 least of all; higher ones are
+/* Kinds 2 to 12 count for nothing, at class 0 least of all; higher ones are
  * malformed. With every class and mode. */
 static void test_balance_kinds(void)
 {
@@ -9137,7 +9338,7 @@ static void add_random_record(struct log *piece, unsigned classes)
 
     switch (below(8)) {
     case 0: add_malformed(piece, below(SORTS)); break;
-    case 1: log_record(piece, below(9), below(11), below(2), below(2)); break;
+    case 1: log_record(piece, below(9), below(14), below(2), below(2)); break;
     case 2: log_record(piece, below(CORES), kind, class_, below(8)); break;
     case 3: log_record(piece, below(CORES), kind, below(256), 0); break;
     default:
@@ -9322,6 +9523,1968 @@ static void test_balance_read_only(void)
     munmap(piece.bytes, most);
 }
 
+/* ------------------------------------------------------------- crosslocks */
+
+static void open_cross(struct buffers *b, unsigned k, uint64_t declared,
+                       size_t tail)
+{
+    make_buffers(b, k, tail);
+    b->declared = declared;
+    expect_open(b, k, 0, "opening with crosslocks");
+}
+
+/* What is read off the lent bytes, by the numbers of the format. */
+static void check_progress(const struct buffers *b, uint64_t progress,
+                           uint32_t kept, const char *what)
+{
+    uint64_t is = word_at(b->desk.bytes + 1406);
+
+    check(is == progress, "%s: in progress are %" PRIx64 ", not %" PRIx64,
+          what, is, progress);
+    check_number(b->desk.bytes + 1414, kept, what);
+}
+
+static void check_entry(const struct buffers *b, unsigned entry, unsigned place,
+                        unsigned lock, const char *what)
+{
+    const uint8_t *at = b->history.bytes + 2 * entry;
+
+    check(at[0] == place && at[1] == lock,
+          "%s: entry %u is %02X %02X, not %02X %02X", what, entry, at[0], at[1],
+          place, lock);
+}
+
+static void check_kinds(const struct buffers *b, unsigned from, unsigned to,
+                        unsigned kinds, const char *what)
+{
+    unsigned is = b->sheet.bytes[from * b->k + to];
+
+    check(is == kinds, "%s: kinds %u from %u to %u, not %u", what, is, from, to,
+          kinds);
+}
+
+/* Nothing is drawn from a class. */
+static void check_none_from(const struct buffers *b, unsigned from,
+                            const char *what)
+{
+    unsigned to;
+
+    for (to = 0; to < b->k; to++)
+        check_kinds(b, from, to, 0, what);
+}
+
+/* The first example of docs/FORMATS.md with a crosslock: a completion for which
+ * core 0 waits with lock 1 held, and which core 1 signals after it took 1. */
+static void expect_completion(size_t tail)
+{
+    static const uint8_t slip[] = { 2, 1, 2, 0, 2, 0, 0, 0,
+                                    3, 2, 0, 4, 0, 0, 0 };
+    uint8_t desk[1674] = { 4, 1 }, sheet[16] = { 0 }, seen[64] = { 0 };
+    uint8_t history[512] = { 4, 1 };
+    struct buffers b;
+
+    desk[10] = desk[13] = 1;
+    desk[35] = 0x44;
+    desk[98] = desk[242] = 1;
+    desk[1394] = 4;
+    desk[1398] = desk[1406] = 8;
+    desk[1414] = 1;
+    sheet[7] = sheet[13] = 2;
+    seen[28] = 2;
+    seen[52] = 4;
+    open_cross(&b, 4, BIT(3), tail);
+    expect_step(&b, 0, ACQUIRE, 1, E, 0, "completion, 1E");
+    check_progress(&b, 0, 0, "completion, 1E");
+    expect_step(&b, 0, CROSS, 3, 0, 0, "completion, crosslock 3");
+    check_kinds(&b, 1, 3, PLUNGEROWL_EN, "completion, crosslock 3");
+    expect_step(&b, 1, ACQUIRE, 1, E, 0, "completion, core 1, 1E");
+    expect_reach(&b, 1, BIT(3), 1, "completion, from 1");
+    expect_reach(&b, 3, 0, 0, "completion, from 3");
+    expect_step(&b, 1, COMMIT, 3, 0, 1, "completion, commit");
+    check(memcmp(b.desk.bytes, desk, sizeof desk) == 0, "completion: desk");
+    check(memcmp(b.sheet.bytes, sheet, sizeof sheet) == 0, "completion: sheet");
+    check(memcmp(b.seen.bytes, seen, sizeof seen) == 0,
+          "completion: second sheet");
+    check(memcmp(b.history.bytes, history, sizeof history) == 0,
+          "completion: history");
+    check_whole_slip(&b, slip, "completion");
+    expect_reach(&b, 3, BIT(1) | BIT(3), 2, "completion closed, from 3");
+    expect_step(&b, 0, UNCROSS, 3, 0, 10, "completion closed");
+    free_buffers(&b);
+}
+
+static void test_cross_example(void)
+{
+    expect_completion(0);
+    expect_completion(50);
+}
+
+/* The second: a handler visit that ended, a try, and a clean commit. */
+static void test_cross_visit_example(void)
+{
+    struct buffers b;
+
+    open_cross(&b, 4, BIT(3), 0);
+    expect_step(&b, 0, CROSS, 3, 0, 0, "visit, crosslock 3");
+    check_progress(&b, 8, 0, "visit, crosslock 3");
+    expect_step(&b, 1, ENTER_HARD, 0, 0, 0, "visit, enter hard");
+    expect_step(&b, 1, ACQUIRE, 2, R, 0, "visit, 2R");
+    check_entry(&b, 0, 6, 0x82, "visit, 2R");
+    expect_step(&b, 1, RELEASE, 2, R, 0, "visit, release 2R");
+    check_entry(&b, 0, 6, 0x82, "visit, release 2R");
+    expect_step(&b, 1, EXIT_HARD, 0, 0, 0, "visit, exit hard");
+    check_entry(&b, 0, 0, 0, "visit, exit hard");
+    check_progress(&b, 8, 1, "visit, exit hard");
+    expect_step(&b, 1, ACQUIRE, 1, TRY + E, 0, "visit, try 1E");
+    check_progress(&b, 8, 1, "visit, try 1E");
+    expect_step(&b, 1, ACQUIRE, 2, R, 0, "visit, 2R in the task");
+    check_entry(&b, 1, 4, 0x82, "visit, 2R in the task");
+    expect_step(&b, 1, COMMIT, 3, 0, 0, "visit, commit");
+    check_kinds(&b, 3, 2, PLUNGEROWL_ER, "visit, commit");
+    check_kinds(&b, 3, 1, 0, "visit, commit");
+    check_seen(&b, 3, 2, 8, "visit, commit");
+    check_progress(&b, 8, 2, "visit, commit");
+    expect_step(&b, 0, UNCROSS, 3, 0, 0, "visit, release of the crosslock");
+    check_progress(&b, 0, 0, "visit, release of the crosslock");
+    check_entry(&b, 1, 4, 0x82, "visit, release of the crosslock");
+    expect_step(&b, 0, UNCROSS, 3, 0, 17, "visit, once more");
+    expect_step(&b, 0, COMMIT, 3, 0, 17, "visit, a commit behind it");
+    free_buffers(&b);
+}
+
+/* A word declares classes below K only, whatever else is right; 0 is a word as
+ * any other. */
+static void test_cross_open(void)
+{
+    static const uint64_t words[] = { 1, 2, 0x80, 0x0102030405060708, BIT(31),
+                                      BIT(32), BIT(62), BIT(63), UINT64_MAX };
+    struct buffers b;
+    unsigned k, i;
+
+    for (k = 1; k <= 64; k++) {
+        make_buffers(&b, k, k % 3);
+        for (i = 0; i < 64; i++) {
+            b.declared = BIT(i);
+            expect_open(&b, k, i < k ? 0 : 2, "one crosslock");
+            b.declared = BIT(i) | 1;
+            expect_open(&b, k, i < k ? 0 : 2, "one crosslock and class 0");
+        }
+        for (i = 0; i < sizeof words / sizeof words[0]; i++) {
+            b.declared = words[i];
+            expect_open(&b, k, k == 64 || words[i] >> k == 0 ? 0 : 2, "a word");
+        }
+        b.declared = UINT64_MAX >> (64 - k);
+        expect_open(&b, k, 0, "all classes are crosslocks");
+        check(word_at(b.desk.bytes + 1398) == UINT64_MAX >> (64 - k),
+              "all classes are crosslocks: the word");
+        b.declared = 0;
+        expect_open(&b, k, 0, "no crosslocks");
+        free_buffers(&b);
+    }
+    make_buffers(&b, 64, 0);
+    for (i = 0; i < 512; i++) {
+        b.declared = BIT(i % 64);
+        expect_open_all(&b, 64, b.desk.size, b.sheet.size, b.seen.size, i, 2,
+                        "open, short history");
+    }
+    b.declared = BIT(8);
+    expect_open(&b, 8, 2, "open, a crosslock of class K");
+    expect_open(&b, 65, 2, "open, K and crosslocks");
+    expect_open(&b, 0, 2, "open, no K");
+    b.declared = BIT(63);
+    expect_open(&b, UINT64_C(0x100000040), 2, "open, K of more bits");
+    free_buffers(&b);
+    for (i = 0; i < 512; i += i < 20 || i > 490 ? 1 : 31) {
+        make_all(&b, 8, 1674, 64, 256, i, 57);
+        expect_open(&b, 8, 2, "open, a history that is short");
+        free_buffers(&b);
+    }
+    make_all(&b, 8, 1674, 64, 256, 70000, 57);
+    b.declared = 255;
+    expect_open(&b, 8, 0, "open, a long history");
+    free_buffers(&b);
+}
+
+/* A step needs 512 bytes, and no more are looked at; a question needs none. */
+static void test_cross_lengths(void)
+{
+    static const uint8_t records[][6] = {
+        { 0x4C, 0x4B, 0, HARD_ON, 0, 0 }, { 0x4C, 0x4B, 0, CROSS, 7, 0 },
+        { 0x4C, 0x4B, 9, 99, 99, 99 } };
+    struct buffers b;
+    unsigned i, j, is;
+
+    open_cross(&b, 8, BIT(7), 0);
+    for (i = 0; i < 512; i++) {
+        for (j = 0; j < 3; j++) {
+            is = call_step(&b, 1674, 64, 256, i, 57, records[j], 6,
+                           "short history");
+            check(is == 11, "short history: step answers %u", is);
+            check_buffers(&b, "short history");
+        }
+    }
+    put_desk(&b, CLOSED_AT, 1);
+    is = call_step(&b, 1674, 64, 256, 511, 57, records[0], 6, "short history");
+    check(is == 11, "short history, 11 before 10: step answers %u", is);
+    free_buffers(&b);
+    for (i = 0; i < 512; i += i < 9 || i > 500 ? 1 : 37) {
+        make_all(&b, 8, 1674, 64, 256, i, 57);
+        memset(b.desk.bytes, 0, 1674);
+        memset(b.want_desk.bytes, 0, 1674);
+        put_desk(&b, 0, 8);
+        memset(b.sheet.bytes, 0, 64);
+        memset(b.want_sheet.bytes, 0, 64);
+        memset(b.seen.bytes, 0, 256);
+        memset(b.want_seen.bytes, 0, 256);
+        expect_step(&b, 0, HARD_ON, 0, 0, 11, "a history that is short");
+        expect_step(&b, 0, CROSS, 0, 0, 11, "a history that is short");
+        expect_no_reach(&b, 0, 0, "a history that is short, ask");
+        put_entries(&b, KEPT_AT, 256);
+        expect_no_reach(&b, 0, 0, "256 of a short history, ask");
+        free_buffers(&b);
+    }
+    /* Longer, with anything behind it and behind what is kept. */
+    make_all(&b, 8, 1674, 64, 256, 512 + 333, 57);
+    b.declared = BIT(7);
+    expect_open(&b, 8, 0, "a longer history");
+    for (i = 0; i < 512; i++)
+        b.history.bytes[i] = b.want_history.bytes[i] = 255;
+    expect_step(&b, 0, CROSS, 7, 0, 0, "any bytes that are not kept");
+    for (i = 0; i < 256; i++) {
+        expect_step(&b, i % 8, ACQUIRE, i % 7, R, 0, "each is written once");
+        expect_step(&b, i % 8, RELEASE, i % 7, R, 0, "and stays");
+    }
+    expect_step(&b, 0, ACQUIRE, 1, R, 19, "a longer history keeps no more");
+    expect_step(&b, 5, COMMIT, 7, 0, 0, "a longer history, commit");
+    free_buffers(&b);
+}
+
+/* Kinds 10 to 12 have mode 0; 3 begins at kind 13, and 4 covers them. */
+static void test_cross_refusal_3(void)
+{
+    uint8_t record[LONGEST_RECORD] = { 0x4C, 0x4B, 0, CROSS, 3, 0, 0x4C, 0x4B };
+    struct buffers b;
+    unsigned kind, i;
+
+    open_cross(&b, 8, BIT(3) | BIT(4), 5);
+    expect_step(&b, 0, ACQUIRE, 1, E, 0, "1E");
+    expect_step(&b, 0, CROSS, 4, 0, 0, "crosslock 4");
+    for (kind = CROSS; kind <= UNCROSS; kind++) {
+        for (i = 1; i < 256; i++) {
+            expect_step(&b, 0, kind, 3, i, 3, "a mode");
+            expect_step(&b, 0, kind, 4, i, 3, "a mode, in progress");
+        }
+        for (i = 8; i < 256; i++) {
+            expect_step(&b, 0, kind, i, 0, 4, "class K or more");
+            expect_step(&b, 0, kind, i, 1, 3, "3 before 4");
+            expect_step(&b, i, kind, 4, 0, 3, "core over 7");
+        }
+        record[3] = (uint8_t)kind;
+        for (i = 0; i <= sizeof record; i++)
+            if (i != 6)
+                expect_bytes(&b, record, i, 3, "a wrong length");
+    }
+    for (kind = 13; kind < 256; kind++) {
+        expect_step(&b, 0, kind, 3, 0, 3, "kind over 12");
+        expect_step(&b, 0, kind, 0, 0, 3, "kind over 12, class 0");
+    }
+    for (kind = HARD_ON; kind <= EXIT_HARD; kind++)
+        expect_step(&b, 0, kind, 4, 0, 3, "an event with a crosslock");
+    free_buffers(&b);
+}
+
+/* 15: of every class and word, right behind 4 and before all that follow. */
+static void test_cross_sorts(void)
+{
+    static const uint64_t words[] = { 0, 1, BIT(63), BIT(31), BIT(32) | BIT(8),
+                                      0xFF00FF00FF00FF00, UINT64_MAX };
+    struct buffers b;
+    unsigned i, class_, mode, kind;
+
+    for (i = 0; i < sizeof words / sizeof words[0]; i++) {
+        open_cross(&b, 64, words[i], 0);
+        for (class_ = 0; class_ < 64; class_++) {
+            if (words[i] & BIT(class_)) {
+                for (mode = 0; mode < MODES; mode++) {
+                    expect_step(&b, 0, ACQUIRE, class_, mode, 15,
+                                "a crosslock as a lock");
+                    expect_step(&b, 7, RELEASE, class_, mode, 15,
+                                "15 before 5");
+                }
+                expect_step(&b, 1, CROSS, class_, 0, 0, "a crosslock");
+                expect_step(&b, 2, COMMIT, class_, 0, 0, "its commit");
+                expect_step(&b, 3, ACQUIRE, class_, TRY + R, 15,
+                            "a crosslock in progress as a lock");
+                expect_step(&b, 3, UNCROSS, class_, 0, 0, "its release");
+            } else {
+                for (kind = CROSS; kind <= UNCROSS; kind++) {
+                    expect_step(&b, 0, kind, class_, 0, 15,
+                                "a lock as a crosslock");
+                    expect_step(&b, 0, kind, class_, 1, 3, "3 before 15");
+                }
+                expect_step(&b, 1, ACQUIRE, class_, class_ % MODES, 0,
+                            "a lock");
+                expect_step(&b, 1, CROSS, class_, 0, 15, "a held lock");
+                expect_step(&b, 1, RELEASE, class_, class_ % MODES, 0,
+                            "its release");
+            }
+        }
+        free_buffers(&b);
+    }
+}
+
+/* With a frame that is full, a full history, a full list and a full count. */
+static void test_cross_order(void)
+{
+    struct buffers b;
+    unsigned i, full;
+
+    open_cross(&b, 64, UINT64_MAX - 7, 0);
+    for (i = 0; i < 48; i++)
+        expect_step(&b, 0, ACQUIRE, 1, R, 0, "fill the frame");
+    for (i = 8; i < 24; i++)
+        expect_step(&b, 1, CROSS, i, 0, 0, "fill the list");
+    for (i = 0; i < 256; i++) {
+        expect_step(&b, 2, ACQUIRE, 2, R, 0, "fill the history");
+        expect_step(&b, 2, RELEASE, 2, R, 0, "and give it back");
+    }
+    for (full = 0; full < 2; full++) {
+        put_count(&b, full ? UINT32_MAX : 1000);
+        expect_step(&b, 0, ACQUIRE, 8, E, 15, "15 before 8 and 19");
+        expect_step(&b, 0, ACQUIRE, 8, TRY + E, 15, "15 before 8");
+        expect_step(&b, 0, RELEASE, 8, E, 15, "15 before 5");
+        expect_step(&b, 0, CROSS, 1, 0, 15, "15 before 18");
+        expect_step(&b, 0, COMMIT, 1, 0, 15, "15 before 17");
+        expect_step(&b, 0, UNCROSS, 2, 0, 15, "15 before 17");
+        expect_step(&b, 0, CROSS, 64, 0, 4, "4 before 15");
+        expect_step(&b, 0, ACQUIRE, 64, E, 4, "4 before 15");
+        expect_step(&b, 0, CROSS, 8, 0, 16, "16 before 18");
+        expect_step(&b, 0, CROSS, 23, 0, 16, "16 before 18, the last");
+        expect_step(&b, 0, CROSS, 24, 0, 18, "18");
+        expect_step(&b, 0, COMMIT, 24, 0, 17, "17, commit");
+        expect_step(&b, 0, UNCROSS, 63, 0, 17, "17, release");
+        for (i = 0; i < 3; i++) {
+            expect_step(&b, 0, ACQUIRE, 0, i, 8, "8 before 19");
+            expect_step(&b, 0, ACQUIRE, 0, TRY + i, 8, "8, a try");
+            expect_step(&b, 1, ACQUIRE, 0, i, 19, "19");
+        }
+        expect_step(&b, 0, RELEASE, 0, R, 5, "5");
+        expect_step(&b, 0, EXIT_HARD, 0, 0, 6, "6");
+        if (full) {
+            expect_step(&b, 1, ACQUIRE, 0, TRY + E, 9, "9, a try");
+            expect_step(&b, 1, COMMIT, 8, 0, 9, "9, commit");
+            expect_step(&b, 1, UNCROSS, 8, 0, 9, "9, crosslock release");
+        }
+    }
+    put_desk(&b, CLOSED_AT, 1);
+    for (i = CROSS; i <= UNCROSS; i++) {
+        expect_step(&b, 0, i, 1, 0, 10, "10 before 15");
+        expect_step(&b, 0, i, 8, 0, 10, "10 before 16");
+        expect_step(&b, 0, i, 24, 0, 10, "10 before 17 and 18");
+    }
+    expect_step(&b, 1, ACQUIRE, 0, E, 10, "10 before 19");
+    put_desk(&b, STATES_AT + 7, 9);
+    expect_step(&b, 0, CROSS, 8, 0, 11, "11 before all");
+    put_desk(&b, STATES_AT + 7, 0);
+    put_desk(&b, CLOSED_AT, 0);
+    /* 9 alone for a crosslock acquire. */
+    put_count(&b, 5);
+    expect_step(&b, 1, UNCROSS, 8, 0, 0, "one less");
+    put_count(&b, UINT32_MAX);
+    expect_step(&b, 1, CROSS, 8, 0, 9, "9, crosslock acquire");
+    put_count(&b, UINT32_MAX - 1);
+    expect_step(&b, 1, CROSS, 8, 0, 0, "the last that is counted");
+    free_buffers(&b);
+}
+
+/* In every state and by every core, over frames that are full: never 8, counted
+ * as any record, and the frame's locks are marked after it. */
+static void test_cross_states(void)
+{
+    struct buffers b;
+    unsigned core, state, mode, kind;
+
+    open_cross(&b, 8, BIT(6) | BIT(7), 0);
+    for (core = 0; core < 8; core++) {
+        for (state = 0; state < 9; state++) {
+            for (mode = 0; mode < MODES; mode++) {
+                for (kind = CROSS; kind <= UNCROSS; kind++) {
+                    put_desk(&b, STATES_AT + core, state);
+                    put_held(&b, core, state, mode, 0);
+                    put_word(&b, PROGRESS_AT, kind == CROSS ? 0 : BIT(7));
+                    expect_step(&b, core, kind, 7, 0, 0, "in a state");
+                    check_byte(&b, 34 + 7, 0, "in a state: no marks");
+                }
+                put_held(&b, core, 0, mode, 0);
+            }
+            put_held(&b, core, 0, E, 1);
+        }
+        put_desk(&b, STATES_AT + core, 0);
+    }
+    free_buffers(&b);
+
+    open_cross(&b, 64, BIT(63), 0);
+    for (state = 0; state < 9; state++) {
+        unsigned frame = frame_of(3, state);
+
+        put_desk(&b, STATES_AT + 3, state);
+        put_frame(&b, frame, DEPTH, THIRD_TRIES);
+        expect_step(&b, 3, CROSS, 63, 0, 0, "over a full frame");
+        expect_step(&b, 3, COMMIT, 63, 0, 0, "commit over a full frame");
+        expect_step(&b, 3, UNCROSS, 63, 0, 0, "release over a full frame");
+        expect_step(&b, 3, ACQUIRE, 1, R, 8, "a lock over a full frame");
+        check_byte(&b, 10 + frame, DEPTH, "over a full frame: the depth");
+        put_frame(&b, frame, 0, NO_TRIES);
+    }
+    free_buffers(&b);
+}
+
+/* The marks after kinds 10 to 12 may be the fault: a lock that the task holds
+ * unmarked, on a desk from elsewhere. A cycle that stands is one too. */
+static void test_cross_marks(void)
+{
+    struct buffers b;
+    unsigned kind, way;
+
+    for (kind = CROSS; kind <= UNCROSS; kind++) {
+        for (way = 0; way < 4; way++) {
+            open_cross(&b, 8, BIT(7), 0);
+            put_word(&b, PROGRESS_AT, kind == CROSS ? 0 : BIT(7));
+            put_desk(&b, DEPTHS_AT + 6, way < 2);
+            put_desk(&b, HELD_AT + DEPTH * 6, way < 2 ? 3 : 0);
+            put_desk(&b, MARKS_AT + 3, way == 0 ? 1 : way == 1 ? 16 : 0);
+            if (way == 2) {
+                put_sheet(&b, 5, 4, PLUNGEROWL_EN);
+                put_sheet(&b, 4, 5, PLUNGEROWL_EN);
+            } else if (way == 3) {
+                put_desk(&b, MARKS_AT + 7, 5); /* of the crosslock itself */
+            }
+            expect_step(&b, 2, kind, 7, 0, 1, "a fault behind a crosslock");
+            free_buffers(&b);
+        }
+        /* Not by the locks of a frame that was interrupted. */
+        open_cross(&b, 8, BIT(7), 0);
+        put_word(&b, PROGRESS_AT, kind == CROSS ? 0 : BIT(7));
+        put_desk(&b, STATES_AT + 2, 4);
+        put_desk(&b, DEPTHS_AT + 6, 1);
+        put_desk(&b, HELD_AT + DEPTH * 6, 3);
+        put_desk(&b, MARKS_AT + 3, 1);
+        expect_step(&b, 2, kind, 7, 0, 0, "an interrupted frame");
+        check_byte(&b, 34 + 3, 1, "an interrupted frame: marks");
+        free_buffers(&b);
+    }
+}
+
+/* A crosslock acquire draws from every lock of the current frame, by a try or
+ * not: E or S by its mode, and then N. From no other frame, and no core but its
+ * own. */
+static void test_cross_take(void)
+{
+    struct buffers b;
+    unsigned mode, frame, i, j;
+
+    for (frame = 0; frame < 24; frame++) {
+        open_cross(&b, 64, BIT(0) | BIT(63), 0);
+        for (i = 0; i < 8; i++)
+            put_desk(&b, STATES_AT + i, 8);
+        put_desk(&b, STATES_AT + frame / 3, state_for(frame));
+        for (i = 0; i < 24; i++) {
+            if (!frames_fit[i % 3][b.desk.bytes[STATES_AT + i / 3]])
+                continue;
+            put_desk(&b, DEPTHS_AT + i, i == frame ? 47 : 2);
+            for (j = 0; j < (i == frame ? 47 : 2); j++) {
+                mode = (i == frame ? j : i + j) % MODES;
+                put_desk(&b, HELD_AT + DEPTH * i + j,
+                         (i == frame ? 1 + j : 49 + i % 14 / 2)
+                         + 64 * (mode % TRY));
+                put_origin(&b, i, j, mode >= TRY);
+            }
+        }
+        expect_step(&b, frame / 3, CROSS, 63, 0, 0, "from every lock");
+        for (i = 0; i < 64; i++)
+            check_kinds(&b, i, 63, i < 1 || i > 47 ? 0
+                        : (i - 1) % 3 == 0 ? PLUNGEROWL_EN : PLUNGEROWL_SN,
+                        "from every lock");
+        check_none_from(&b, 63, "from every lock");
+        check_byte(&b, 10 + frame, 47, "from every lock: the depth");
+        expect_step(&b, frame / 3, CROSS, 0, 0, 0, "and to another crosslock");
+        check_kinds(&b, 63, 0, 0, "no crosslock to a crosslock");
+        check_kinds(&b, 0, 63, 0, "no crosslock to a crosslock");
+        free_buffers(&b);
+    }
+    /* The same lock in two modes, and once more: kinds add up. */
+    open_cross(&b, 8, BIT(7), 0);
+    expect_step(&b, 0, ACQUIRE, 1, TRY + r, 0, "try 1r");
+    expect_step(&b, 0, CROSS, 7, 0, 0, "1 SN 7");
+    check_kinds(&b, 1, 7, PLUNGEROWL_SN, "1 SN 7");
+    expect_step(&b, 0, UNCROSS, 7, 0, 0, "released");
+    expect_step(&b, 0, RELEASE, 1, TRY + r, 0, "release try 1r");
+    expect_step(&b, 0, ACQUIRE, 1, TRY + E, 0, "try 1E");
+    expect_step(&b, 0, CROSS, 7, 0, 0, "1 EN 7");
+    check_kinds(&b, 1, 7, PLUNGEROWL_SN | PLUNGEROWL_EN, "1 EN 7");
+    check_seen(&b, 1, 7, 2, "1 EN 7");
+    free_buffers(&b);
+}
+
+/* A commit draws to each kept acquire of its core and frame: EN, or ER for a
+ * recursive read, released or not. */
+static void test_cross_commit(void)
+{
+    struct buffers b;
+    unsigned mode, released;
+
+    for (released = 0; released < 2; released++) {
+        open_cross(&b, 16, BIT(15) | BIT(14), 3);
+        expect_step(&b, 0, ACQUIRE, 13, R, 0, "before the crosslock");
+        expect_step(&b, 4, CROSS, 15, 0, 0, "the crosslock");
+        for (mode = 0; mode < MODES; mode++) {
+            expect_step(&b, 0, ACQUIRE, mode, mode, 0, "an acquire");
+            if (released)
+                expect_step(&b, 0, RELEASE, mode, mode, 0, "its release");
+            expect_step(&b, 3, ACQUIRE, 6, R, 0, "another core's");
+        }
+        check_progress(&b, BIT(15), 9, "kept");
+        expect_step(&b, 0, ENTER_SOFT, 0, 0, 0, "enter soft");
+        expect_step(&b, 0, COMMIT, 15, 0, 0, "commit in a handler");
+        check_none_from(&b, 15, "commit in a handler");
+        expect_step(&b, 0, ACQUIRE, 7, r, 0, "7r in the handler");
+        expect_step(&b, 0, RELEASE, 7, r, 0, "its release");
+        expect_step(&b, 0, COMMIT, 15, 0, 0, "commit in a handler");
+        check_kinds(&b, 15, 7, PLUNGEROWL_EN, "commit in a handler");
+        expect_step(&b, 0, EXIT_SOFT, 0, 0, 0, "exit soft");
+        expect_step(&b, 5, COMMIT, 15, 0, 0, "commit by an idle core");
+        check_kinds(&b, 15, 0, 0, "commit by an idle core");
+        expect_step(&b, 0, COMMIT, 15, 0, 0, "commit by the core");
+        for (mode = 0; mode < 14; mode++)
+            check_kinds(&b, 15, mode, mode < R || mode == 7 ? PLUNGEROWL_EN
+                        : mode == R ? PLUNGEROWL_ER : 0, "commit by the core");
+        check_kinds(&b, 15, 14, 0, "no other crosslock");
+        check_kinds(&b, 15, 15, 0, "nor itself");
+        check_progress(&b, BIT(15), 10, "a commit ends nothing");
+        expect_step(&b, 0, COMMIT, 15, 0, 0, "commit again");
+        expect_step(&b, 3, COMMIT, 15, 0, 0, "commit by the other core");
+        check_kinds(&b, 15, 6, PLUNGEROWL_ER, "commit by the other core");
+        check_progress(&b, BIT(15), 10, "commits end nothing");
+        free_buffers(&b);
+    }
+    /* A release does not commit; any core may release. */
+    open_cross(&b, 8, BIT(7), 0);
+    expect_step(&b, 0, CROSS, 7, 0, 0, "crosslock 7");
+    expect_step(&b, 1, ACQUIRE, 1, E, 0, "core 1, 1E");
+    expect_step(&b, 1, UNCROSS, 7, 0, 0, "core 1 releases it");
+    check_none_from(&b, 7, "a release draws nothing");
+    expect_step(&b, 1, COMMIT, 7, 0, 17, "no longer in progress");
+    free_buffers(&b);
+}
+
+/* In each frame of each core: what was acquired in that frame, and no other. */
+static void test_cross_frames(void)
+{
+    struct buffers b;
+    unsigned frame, i;
+
+    for (frame = 0; frame < 24; frame++) {
+        open_cross(&b, 25, BIT(24), 0);
+        put_word(&b, PROGRESS_AT, BIT(24));
+        put_entries(&b, KEPT_AT, 256);
+        for (i = 0; i < 256; i++)
+            put_entry(&b, i, 1 + i % 24, i % 24 + 64 * (i / 24 % 3));
+        put_desk(&b, STATES_AT + frame / 3, state_for(frame));
+        expect_step(&b, frame / 3, COMMIT, 24, 0, 0, "a frame's own");
+        for (i = 0; i < 24; i++)
+            check_kinds(&b, 24, i, i == frame ? PLUNGEROWL_EN | PLUNGEROWL_ER
+                                              : 0, "a frame's own");
+        free_buffers(&b);
+    }
+}
+
+/* Only what came since the crosslock's own last acquire. Others that are in
+ * progress keep the history. */
+static void test_cross_since(void)
+{
+    struct buffers b;
+    unsigned i;
+
+    open_cross(&b, 16, BIT(13) | BIT(14) | BIT(15), 0);
+    expect_step(&b, 0, ACQUIRE, 0, E, 0, "not kept");
+    expect_step(&b, 7, CROSS, 13, 0, 0, "crosslock 13");
+    expect_step(&b, 0, ACQUIRE, 1, E, 0, "kept first");
+    expect_step(&b, 7, CROSS, 14, 0, 0, "crosslock 14");
+    expect_step(&b, 0, ACQUIRE, 2, E, 0, "kept second");
+    expect_step(&b, 7, CROSS, 15, 0, 0, "crosslock 15");
+    expect_step(&b, 0, ACQUIRE, 3, E, 0, "kept third");
+    for (i = 0; i < 3; i++)
+        check_number(b.desk.bytes + 1418 + 4 * (13 + i), i, "since");
+    expect_step(&b, 0, COMMIT, 15, 0, 0, "commit 15");
+    expect_step(&b, 0, COMMIT, 14, 0, 0, "commit 14");
+    expect_step(&b, 0, COMMIT, 13, 0, 0, "commit 13");
+    for (i = 0; i < 12; i++) {
+        unsigned kept = i >= 1 && i <= 3;
+
+        check_kinds(&b, 13, i, kept ? 2 : 0, "since 13");
+        check_kinds(&b, 14, i, kept && i > 1 ? 2 : 0, "since 14");
+        check_kinds(&b, 15, i, kept && i > 2 ? 2 : 0, "since 15");
+    }
+    /* Acquired again: from then on. */
+    expect_step(&b, 7, UNCROSS, 14, 0, 0, "release 14");
+    check_number(b.desk.bytes + 1418 + 4 * 14, 1, "a since number stays");
+    expect_step(&b, 0, ACQUIRE, 4, E, 0, "kept fourth");
+    expect_step(&b, 7, CROSS, 14, 0, 0, "crosslock 14 again");
+    check_number(b.desk.bytes + 1418 + 4 * 14, 4, "since again");
+    expect_step(&b, 0, ACQUIRE, 5, E, 0, "kept fifth");
+    expect_step(&b, 0, COMMIT, 14, 0, 0, "commit 14 again");
+    check_kinds(&b, 14, 4, 0, "since again");
+    check_kinds(&b, 14, 5, 2, "since again");
+    free_buffers(&b);
+}
+
+/* 16 are in progress at most, each once; which they are does not matter. */
+static void test_cross_list(void)
+{
+    struct buffers b;
+    unsigned step, i, j;
+
+    for (step = 1; step < 64; step += 2) {
+        open_cross(&b, 64, UINT64_MAX, 0);
+        for (i = 0; i < 16; i++) {
+            expect_step(&b, i % 8, CROSS, i * step % 64, 0, 0, "one more");
+            expect_step(&b, i % 8, CROSS, i * step % 64, 0, 16, "twice");
+        }
+        for (i = 16; i < 64; i++) {
+            expect_step(&b, 0, CROSS, i * step % 64, 0, 18, "the 17th");
+            expect_step(&b, 0, COMMIT, i * step % 64, 0, 17, "not in it");
+            expect_step(&b, 0, UNCROSS, i * step % 64, 0, 17, "not in it");
+        }
+        for (i = 0; i < 16; i++) {
+            j = (i * 5 + 3) % 16;
+            expect_step(&b, 1, UNCROSS, j * step % 64, 0, 0, "one less");
+            expect_step(&b, 1, CROSS, (16 + i) * step % 64, 0, 0, "room again");
+            expect_step(&b, 1, CROSS, j * step % 64, 0, 18, "full again");
+        }
+        for (i = 16; i < 32; i++)
+            expect_step(&b, 6, UNCROSS, i * step % 64, 0, 0, "all out");
+        check_progress(&b, 0, 0, "all out");
+        free_buffers(&b);
+    }
+}
+
+/* Kept are acquires that are no tries, of all cores and frames, while one is in
+ * progress. Releasing one of two frees nothing; the last empties it. */
+static void test_cross_kept(void)
+{
+    struct buffers b;
+    unsigned core, mode, i;
+
+    open_cross(&b, 8, BIT(6) | BIT(7), 0);
+    expect_step(&b, 0, ACQUIRE, 1, R, 0, "not kept");
+    check_progress(&b, 0, 0, "not kept");
+    expect_step(&b, 0, CROSS, 7, 0, 0, "crosslock 7");
+    expect_step(&b, 0, CROSS, 6, 0, 0, "crosslock 6");
+    check_progress(&b, BIT(6) | BIT(7), 0, "crosslocks are not kept");
+    for (core = 0; core < 8; core++) {
+        for (mode = 0; mode < MODES; mode++) {
+            expect_step(&b, core, ACQUIRE, core % 6, mode, 0, "any mode");
+            expect_step(&b, core, RELEASE, core % 6, mode, 0, "its release");
+        }
+        expect_step(&b, core, SOFT_OFF, 0, 0, 0, "an event");
+        check_progress(&b, BIT(6) | BIT(7), 3 * (core + 1), "any mode");
+    }
+    for (i = 0; i < 24; i++)
+        check_entry(&b, i, 1 + 3 * (i / 3), i / 3 % 6 + 64 * (i % 3), "kept");
+    expect_step(&b, 3, UNCROSS, 7, 0, 0, "one of two");
+    check_progress(&b, BIT(6), 24, "one of two");
+    expect_step(&b, 3, ACQUIRE, 5, E, 0, "still kept");
+    check_entry(&b, 24, 10, 5, "still kept");
+    expect_step(&b, 3, UNCROSS, 6, 0, 0, "the last");
+    check_progress(&b, 0, 0, "the last");
+    for (i = 0; i < 24; i++)
+        check_entry(&b, i, 1 + 3 * (i / 3), i / 3 % 6 + 64 * (i % 3), "stays");
+    check_entry(&b, 24, 10, 5, "stays");
+    expect_step(&b, 3, ACQUIRE, 4, E, 0, "not kept any more");
+    check_progress(&b, 0, 0, "not kept any more");
+    expect_step(&b, 2, CROSS, 7, 0, 0, "crosslock 7 again");
+    expect_step(&b, 4, ACQUIRE, 3, R, 0, "from the first on");
+    check_entry(&b, 0, 13, 3 + 128, "from the first on");
+    check_entry(&b, 1, 1, 64, "from the first on");
+    expect_step(&b, 1, COMMIT, 7, 0, 0, "what is not kept any more");
+    check_none_from(&b, 7, "what is not kept any more");
+    free_buffers(&b);
+}
+
+/* 256 are kept, and not one more: 19, and the lock is not held. Tries pass, and
+ * so does all that is not kept. */
+static void test_cross_full(void)
+{
+    struct buffers b;
+    unsigned i, mode;
+
+    open_cross(&b, 64, BIT(61) | BIT(62) | BIT(63), 7);
+    expect_step(&b, 0, CROSS, 63, 0, 0, "crosslock 63");
+    for (i = 0; i < 256; i++) {
+        if (i == 200)
+            expect_step(&b, 0, CROSS, 62, 0, 0, "crosslock 62");
+        expect_step(&b, i % 8, ACQUIRE, i % 60, R, 0, "one more kept");
+        expect_step(&b, i % 8, RELEASE, i % 60, R, 0, "one more released");
+        check_progress(&b, i < 200 ? BIT(63) : BIT(63) | BIT(62), i + 1,
+                       "one more kept");
+        check_entry(&b, i, 1 + 3 * (i % 8), i % 60 + 128, "one more kept");
+    }
+    for (mode = 0; mode < MODES; mode++) {
+        expect_step(&b, 0, ACQUIRE, 60, mode, mode < TRY ? 19 : 0, "the 257th");
+        expect_step(&b, 0, RELEASE, 60, mode, mode < TRY ? 5 : 0,
+                    "its release");
+    }
+    expect_step(&b, 0, ENTER_HARD, 0, 0, 0, "an event");
+    expect_step(&b, 0, ACQUIRE, 60, E, 19, "the 257th in a handler");
+    expect_step(&b, 0, EXIT_HARD, 0, 0, 0, "no lock is held there");
+    /* Since 256: nothing. */
+    expect_step(&b, 0, CROSS, 61, 0, 0, "crosslock 61");
+    check_number(b.desk.bytes + 1418 + 4 * 61, 256, "since 256");
+    for (i = 0; i < 8; i++)
+        expect_step(&b, i, COMMIT, 61, 0, 0, "commit since 256");
+    check_none_from(&b, 61, "commit since 256");
+    expect_step(&b, 7, COMMIT, 62, 0, 0, "commit since 200");
+    expect_step(&b, 7, COMMIT, 63, 0, 0, "commit since 0");
+    for (i = 0; i < 60; i++) {
+        unsigned by_7 = 0, late = 0, j;
+
+        for (j = i; j < 256; j += 60) {
+            by_7 |= j % 8 == 7;
+            late |= j % 8 == 7 && j >= 200;
+        }
+        check_kinds(&b, 63, i, by_7, "commit since 0");
+        check_kinds(&b, 62, i, late, "commit since 200");
+    }
+    /* No room before none is in progress. */
+    expect_step(&b, 1, UNCROSS, 63, 0, 0, "one released");
+    expect_step(&b, 1, ACQUIRE, 60, E, 19, "no room yet");
+    expect_step(&b, 1, UNCROSS, 61, 0, 0, "another");
+    expect_step(&b, 1, ACQUIRE, 60, E, 19, "no room yet");
+    expect_step(&b, 1, CROSS, 63, 0, 0, "and one acquired again");
+    expect_step(&b, 1, UNCROSS, 62, 0, 0, "the first of all");
+    expect_step(&b, 1, ACQUIRE, 60, E, 19, "still no room");
+    expect_step(&b, 1, UNCROSS, 63, 0, 0, "the last of all");
+    expect_step(&b, 1, ACQUIRE, 60, E, 0, "nothing to keep");
+    check_progress(&b, 0, 0, "nothing to keep");
+    expect_step(&b, 2, CROSS, 62, 0, 0, "a crosslock again");
+    expect_step(&b, 3, ACQUIRE, 60, R, 0, "room again");
+    check_entry(&b, 0, 10, 60 + 128, "room again");
+    free_buffers(&b);
+
+    /* With none in progress nothing is refused, on a desk from elsewhere. */
+    open_cross(&b, 8, BIT(7), 0);
+    put_entries(&b, KEPT_AT, 256);
+    for (i = 0; i < 256; i++)
+        put_entry(&b, i, 1 + i % 24, 3);
+    expect_step(&b, 0, ACQUIRE, 1, E, 0, "256, none in progress");
+    check_progress(&b, 0, 256, "256, none in progress");
+    expect_step(&b, 0, CROSS, 7, 0, 0, "256, a crosslock");
+    check_number(b.desk.bytes + 1418 + 4 * 7, 256, "256, a crosslock");
+    expect_step(&b, 0, ACQUIRE, 2, E, 19, "256, one in progress");
+    expect_step(&b, 0, COMMIT, 7, 0, 0, "256, a commit");
+    check_none_from(&b, 7, "256, a commit");
+    expect_step(&b, 0, UNCROSS, 7, 0, 0, "256, released");
+    check_progress(&b, 0, 0, "256, released");
+    free_buffers(&b);
+}
+
+/* Kept counts from elsewhere, on both sides of what a byte holds. */
+static void test_cross_entries(void)
+{
+    static const unsigned starts[] = { 0, 1, 127, 128, 253, 254, 255 };
+    struct buffers b;
+    unsigned i, j;
+
+    for (i = 0; i < sizeof starts / sizeof starts[0]; i++) {
+        open_cross(&b, 8, BIT(7) | BIT(6), 0);
+        put_word(&b, PROGRESS_AT, BIT(7));
+        put_entries(&b, KEPT_AT, starts[i]);
+        put_entries(&b, SINCE_AT + 4 * 7, starts[i]);
+        for (j = 0; j < starts[i]; j++)
+            put_entry(&b, j, 4, 1);
+        for (; j < 256; j++)
+            put_entry(&b, j, 4, 2); /* not kept */
+        expect_step(&b, 1, COMMIT, 7, 0, 0, "nothing since");
+        check_none_from(&b, 7, "nothing since");
+        expect_step(&b, 0, CROSS, 6, 0, 0, "another");
+        check_number(b.desk.bytes + 1418 + 4 * 6, starts[i], "another");
+        expect_step(&b, 1, ACQUIRE, 3, R, 0, "one more");
+        check_entry(&b, starts[i], 4, 3 + 128, "one more");
+        check_progress(&b, BIT(7) | BIT(6), starts[i] + 1, "one more");
+        expect_step(&b, 1, COMMIT, 7, 0, 0, "one since");
+        check_kinds(&b, 7, 1, 0, "one since");
+        check_kinds(&b, 7, 2, 0, "one since");
+        check_kinds(&b, 7, 3, PLUNGEROWL_ER, "one since");
+        expect_step(&b, 1, COMMIT, 6, 0, 0, "one since, the other");
+        check_kinds(&b, 6, 3, PLUNGEROWL_ER, "one since, the other");
+        free_buffers(&b);
+    }
+}
+
+/* A step without the checks of each byte; the copies go on. */
+static void quick_step(struct buffers *b, unsigned core, unsigned kind,
+                       unsigned class_, unsigned mode)
+{
+    uint8_t record[RECORD_SIZE] = { 0x4C, 0x4B };
+    unsigned is;
+
+    record[2] = (uint8_t)core;
+    record[3] = (uint8_t)kind;
+    record[4] = (uint8_t)class_;
+    record[5] = (uint8_t)mode;
+    want_accepted(b, record);
+    is = plungerowl_step(b->desk.bytes, b->desk.size,
+                         b->sheet.bytes, b->sheet.size,
+                         b->seen.bytes, b->seen.size,
+                         b->history.bytes, b->history.size,
+                         b->slip.bytes, b->slip.size, record, sizeof record);
+    check(is == 0, "a quick step answers %u", is);
+}
+
+/* Visits of soft and hard handlers while one crosslock is in progress: the
+ * first acquires something, and no later one is taken for it, however many
+ * there are. The last one acquires something and commits in the same visit. */
+static void visit_often(unsigned visits)
+{
+    static const unsigned enter[] = { ENTER_HARD, ENTER_SOFT };
+    static const unsigned leave[] = { EXIT_HARD, EXIT_SOFT };
+    struct buffers b;
+    unsigned i, core;
+
+    open_cross(&b, 4, BIT(3), 0);
+    expect_step(&b, 7, CROSS, 3, 0, 0, "many visits, the crosslock");
+    for (i = 0; i <= visits; i++) {
+        int tried = i < 4 || (i & (i - 1)) == 0 || (i & (i + 1)) == 0
+                    || ((i - 1) & (i - 2)) == 0 || i + 2 > visits;
+
+        for (core = 0; core < 2; core++) {
+            quick_step(&b, core, enter[core], 0, 0);
+            if (tried) {
+                quick_step(&b, core, COMMIT, 3, 0);
+                check_buffers(&b, "a visit of many, commit");
+                check_none_from(&b, 3, "a visit of many");
+            }
+            if (i == 0) {
+                quick_step(&b, core, ACQUIRE, core, R);
+                quick_step(&b, core, RELEASE, core, R);
+            }
+            quick_step(&b, core, leave[core], 0, 0);
+            if (tried) {
+                check_entry(&b, core, 0, 0, "a visit of many, ended");
+                check_buffers(&b, "a visit of many");
+            }
+        }
+    }
+    check_progress(&b, BIT(3), 2, "many visits");
+    for (core = 0; core < 2; core++) {
+        quick_step(&b, core, enter[core], 0, 0);
+        quick_step(&b, core, ACQUIRE, core, R);
+        quick_step(&b, core, RELEASE, core, R);
+        quick_step(&b, core, COMMIT, 3, 0);
+        check_kinds(&b, 3, core, PLUNGEROWL_ER, "the last visit of many");
+    }
+    check_buffers(&b, "the last visit of many");
+    free_buffers(&b);
+}
+
+static void test_cross_visits(void)
+{
+    static const unsigned few[] = { 1, 2, 3, 8, 16, 127, 128, 255, 256, 257,
+                                    512 };
+    size_t i;
+
+    for (i = 0; i < sizeof few / sizeof few[0]; i++)
+        visit_often(few[i]);
+    if (sides == GUARD_BOTH)
+        visit_often(65537);
+}
+
+/* Each visit acquires and commits what is its own; its room stays taken. */
+static void test_cross_visits_kept(void)
+{
+    struct buffers b;
+    unsigned i, soft;
+
+    for (soft = 0; soft < 2; soft++) {
+        open_cross(&b, 64, BIT(63), 0);
+        expect_step(&b, 7, CROSS, 63, 0, 0, "the crosslock");
+        for (i = 0; i < 256; i++) {
+            expect_step(&b, 2, soft ? ENTER_SOFT : ENTER_HARD, 0, 0, 0,
+                        "enter");
+            expect_step(&b, 2, COMMIT, 63, 0, 0, "nothing of its own");
+            if (i < 60)
+                check_kinds(&b, 63, i, 0, "nothing of its own");
+            expect_step(&b, 2, ACQUIRE, i % 60, R, 0, "a lock");
+            expect_step(&b, 2, COMMIT, 63, 0, 0, "its own");
+            check_kinds(&b, 63, i % 60, PLUNGEROWL_ER, "its own");
+            expect_step(&b, 2, soft ? EXIT_SOFT : EXIT_HARD, 0, 0, 7, "held");
+            check_entry(&b, i, soft ? 8 : 9, i % 60 + 128, "a refused exit");
+            expect_step(&b, 2, RELEASE, i % 60, R, 0, "its release");
+            expect_step(&b, 2, soft ? EXIT_SOFT : EXIT_HARD, 0, 0, 0, "exit");
+            check_entry(&b, i, 0, 0, "struck out");
+            check_progress(&b, BIT(63), i + 1, "its room stays taken");
+        }
+        expect_step(&b, 2, ACQUIRE, 1, R, 19, "no room is free again");
+        free_buffers(&b);
+    }
+}
+
+/* A hard handler over a soft one ends nothing of the soft one's, and the task's
+ * frame never ends; over each state that a hard handler may come. */
+static void test_cross_nested(void)
+{
+    struct buffers b;
+    unsigned state;
+
+    open_cross(&b, 8, BIT(7), 0);
+    expect_step(&b, 6, CROSS, 7, 0, 0, "the crosslock");
+    expect_step(&b, 1, ACQUIRE, 1, r, 0, "task, 1r");
+    expect_step(&b, 1, ENTER_SOFT, 0, 0, 0, "enter soft");
+    expect_step(&b, 1, ACQUIRE, 2, r, 0, "soft, 2r");
+    expect_step(&b, 1, ENTER_HARD, 0, 0, 0, "enter hard");
+    expect_step(&b, 1, ACQUIRE, 3, TRY + r, 0, "hard, try 3r");
+    expect_step(&b, 1, ACQUIRE, 4, r, 0, "hard, 4r");
+    check_entry(&b, 0, 4, 1 + 64, "nested: the task's");
+    check_entry(&b, 1, 5, 2 + 64, "nested: the soft handler's");
+    check_entry(&b, 2, 6, 4 + 64, "nested: the hard handler's");
+    expect_step(&b, 1, COMMIT, 7, 0, 0, "commit in the hard handler");
+    check_kinds(&b, 7, 4, PLUNGEROWL_EN, "commit in the hard handler");
+    check_kinds(&b, 7, 2, 0, "commit in the hard handler");
+    expect_step(&b, 1, EXIT_HARD, 0, 0, 7, "held");
+    expect_step(&b, 1, RELEASE, 4, r, 0, "release 4r");
+    expect_step(&b, 1, RELEASE, 3, TRY + r, 0, "release try 3r");
+    expect_step(&b, 1, EXIT_HARD, 0, 0, 0, "exit hard");
+    check_entry(&b, 1, 5, 2 + 64, "nested: stays");
+    check_entry(&b, 2, 0, 0, "nested: struck out");
+    expect_step(&b, 1, EXIT_HARD, 0, 0, 6, "no hard handler");
+    expect_step(&b, 1, COMMIT, 7, 0, 0, "commit in the soft handler");
+    check_kinds(&b, 7, 2, PLUNGEROWL_EN, "commit in the soft handler");
+    check_kinds(&b, 7, 1, 0, "commit in the soft handler");
+    expect_step(&b, 1, RELEASE, 2, r, 0, "release 2r");
+    expect_step(&b, 1, EXIT_SOFT, 0, 0, 0, "exit soft");
+    check_entry(&b, 0, 4, 1 + 64, "nested: the task's stays");
+    check_entry(&b, 1, 0, 0, "nested: struck out too");
+    expect_step(&b, 1, COMMIT, 7, 0, 0, "commit in the task");
+    check_kinds(&b, 7, 1, PLUNGEROWL_EN, "commit in the task");
+    free_buffers(&b);
+
+    for (state = 0; state < 9; state++) { /* whose entries an exit strikes */
+        unsigned kind = state == 4 ? EXIT_SOFT : EXIT_HARD;
+        unsigned core = (state * 3 + 1) % 8, i;
+
+        open_cross(&b, 8, BIT(7), 0);
+        put_entries(&b, KEPT_AT, 250);
+        for (i = 0; i < 256; i++)
+            put_entry(&b, i, 1 + i % 24, i % 8);
+        put_desk(&b, STATES_AT + core, state);
+        if (state < 6 && state != 4) {
+            expect_step(&b, core, kind, 0, 0, 6, "no exit");
+            expect_step(&b, core, EXIT_SOFT, 0, 0, 6, "no exit");
+        } else {
+            expect_step(&b, core, kind, 0, 0, 0, "an exit");
+        }
+        for (i = 0; i < 256; i++) {
+            int struck = i < 250 && i % 24 == 3 * core + (state == 4 ? 1 : 2)
+                         && (state == 4 || state >= 6);
+
+            check_entry(&b, i, struck ? 0 : 1 + i % 24, struck ? 0 : i % 8,
+                        "an exit");
+        }
+        free_buffers(&b);
+    }
+}
+
+/* The record that draws has its number: the crosslock acquire for what leads to
+ * the crosslock, the commit for what leads from it, where there was none. */
+static void test_cross_numbers(void)
+{
+    static const uint32_t starts[] = { 0, 250, 65530, 0x00FFFFF0, 0xFFFFFFF0 };
+    struct buffers b;
+    unsigned i;
+
+    for (i = 0; i < sizeof starts / sizeof starts[0]; i++) {
+        uint32_t first = starts[i];
+
+        open_cross(&b, 8, BIT(7), 0);
+        put_count(&b, first);
+        put_kinds(&b, 7, 3, PLUNGEROWL_EN);
+        put_seen(&b, 7, 3, 77);
+        put_kinds(&b, 4, 7, PLUNGEROWL_EN);
+        put_seen(&b, 4, 7, UINT32_MAX);
+        expect_step(&b, 0, ACQUIRE, 1, R, 0, "1R");
+        expect_step(&b, 0, ACQUIRE, 4, TRY + R, 0, "try 4R");
+        expect_step(&b, 0, CROSS, 7, 0, 0, "crosslock");
+        check_seen(&b, 1, 7, first + 3, "to the crosslock");
+        check_seen(&b, 4, 7, UINT32_MAX, "to the crosslock, before");
+        check_kinds(&b, 4, 7, PLUNGEROWL_EN | PLUNGEROWL_SN, "both kinds");
+        expect_step(&b, 2, ACQUIRE, 2, R, 0, "2R");
+        expect_step(&b, 2, ACQUIRE, 3, R, 0, "3R");
+        expect_step(&b, 0, RELEASE, 7, R, 15, "refused, not counted");
+        expect_step(&b, 0, CROSS, 7, 0, 16, "refused, not counted");
+        expect_step(&b, 2, COMMIT, 7, 0, 0, "commit");
+        check_seen(&b, 7, 2, first + 6, "from the crosslock");
+        check_seen(&b, 7, 3, 77, "from the crosslock, before");
+        expect_step(&b, 2, COMMIT, 7, 0, 0, "commit again");
+        check_seen(&b, 7, 2, first + 6, "from the crosslock again");
+        expect_step(&b, 2, UNCROSS, 7, 0, 0, "release");
+        check_count(&b, first + 8, "all are counted");
+        free_buffers(&b);
+    }
+}
+
+/* Joints at a crosslock are strong; at the lock they are as ever. Held in the
+ * first mode while the crosslock is acquired, acquired in the second before the
+ * commit. */
+static void test_cross_strong(void)
+{
+    struct buffers b;
+    unsigned held, acquired;
+
+    for (held = 0; held < MODES; held++) {
+        for (acquired = 0; acquired < MODES; acquired++) {
+            int fault = acquired < R || (acquired == R && held % TRY == E);
+
+            open_cross(&b, 4, BIT(0), 0);
+            expect_step(&b, 0, ACQUIRE, 2, held, 0, "held");
+            expect_step(&b, 0, CROSS, 0, 0, 0, "crosslock");
+            expect_step(&b, 0, RELEASE, 2, held, 0, "given back");
+            expect_step(&b, 5, ACQUIRE, 2, acquired, 0, "acquired");
+            expect_step(&b, 5, COMMIT, 0, 0, fault, "commit");
+            if (fault)
+                check(b.slip.bytes[0] == 2 && b.slip.bytes[1] == 0
+                      && b.slip.bytes[1 + ENTRY] == 2, "the cycle shown");
+            free_buffers(&b);
+        }
+    }
+    /* Two crosslocks, each waited for while the other is signalled. */
+    open_cross(&b, 8, BIT(6) | BIT(7), 0);
+    expect_step(&b, 0, ACQUIRE, 1, r, 0, "1r");
+    expect_step(&b, 0, CROSS, 6, 0, 0, "crosslock 6");
+    expect_step(&b, 1, ACQUIRE, 2, R, 0, "2R");
+    expect_step(&b, 1, CROSS, 7, 0, 0, "crosslock 7");
+    expect_step(&b, 2, ACQUIRE, 2, R, 0, "core 2, 2R");
+    expect_step(&b, 2, COMMIT, 6, 0, 0, "6 ER 2 SN 7: weak");
+    expect_step(&b, 3, ACQUIRE, 1, E, 0, "core 3, 1E");
+    expect_step(&b, 3, COMMIT, 7, 0, 0, "7 EN 1 SN 6, still weak at 2");
+    expect_step(&b, 2, ACQUIRE, 2, TRY + E, 0, "core 2, try 2E");
+    expect_step(&b, 2, COMMIT, 6, 0, 0, "a try is no wait");
+    expect_step(&b, 4, ACQUIRE, 2, r, 0, "core 4, 2r");
+    expect_step(&b, 4, COMMIT, 6, 0, 1, "6 EN 2 SN 7 EN 1 SN 6");
+    check(b.slip.bytes[0] == 4, "four dependencies");
+    free_buffers(&b);
+}
+
+/* A slip through a crosslock and locks, and marks. */
+static void test_cross_shown(void)
+{
+    static const uint8_t slip[] = { 3, 1, 2, 0, 4, 0, 0, 0,
+                                    5, 2, 0, 9, 0, 0, 0,
+                                    2, 1, 1, 0, 0, 0, 0 };
+    struct buffers b;
+
+    open_cross(&b, 6, BIT(5), 0);
+    expect_step(&b, 0, HARD_OFF, 0, 0, 0, "hard off");
+    expect_step(&b, 0, HARD_OFF, 0, 0, 0, "hard off again");
+    expect_step(&b, 0, ACQUIRE, 1, E, 0, "1E, hard off");
+    expect_step(&b, 0, CROSS, 5, 0, 0, "crosslock: 1 EN 5");
+    expect_step(&b, 3, ENTER_HARD, 0, 0, 0, "hard handler");
+    expect_step(&b, 3, ACQUIRE, 1, R, 0, "1R: hard-safe R");
+    expect_step(&b, 3, RELEASE, 1, R, 0, "release 1R");
+    expect_step(&b, 1, ACQUIRE, 2, E, 0, "2E: hard-unsafe, 2 ER 1 hard");
+    expect_step(&b, 1, COMMIT, 5, 0, 1, "commit: 5 EN 2");
+    check_whole_slip(&b, slip, "marks and a crosslock");
+    free_buffers(&b);
+}
+
+/* Each clause of the fit test about crosslocks on the desk; the question sees
+ * them too. */
+static void test_cross_unfit(void)
+{
+    static const unsigned some_k[] = { 1, 2, 7, 8, 31, 32, 33, 63, 64 };
+    static const uint32_t over[] = { 257, 258, 511, 512, 0xFFFF, 65536,
+                                     65536 + 255, 0x01000000, 0x80000000,
+                                     UINT32_MAX };
+    struct buffers b;
+    unsigned i, j, k;
+
+    for (j = 0; j < sizeof some_k / sizeof some_k[0]; j++) {
+        k = some_k[j];
+        open_buffers(&b, k, 0);
+        for (i = 0; i < 64; i++) {
+            put_word(&b, DECLARED_AT, BIT(i));
+            if (i < k)
+                expect_no_reach(&b, 0, 0, "a declared class");
+            else
+                expect_unfit(&b, "a declared class of K or more");
+            put_word(&b, PROGRESS_AT, BIT(i));
+            if (i < k)
+                expect_no_reach(&b, 0, 0, "in progress");
+            else
+                expect_unfit(&b, "in progress, of K or more");
+            put_word(&b, DECLARED_AT, 0);
+            expect_unfit(&b, "in progress, not declared");
+            put_word(&b, DECLARED_AT, (UINT64_MAX >> (64 - k)) & ~BIT(i));
+            expect_unfit(&b, "in progress, others are declared");
+            put_word(&b, PROGRESS_AT, 0);
+        }
+        free_buffers(&b);
+    }
+    open_cross(&b, 64, UINT64_MAX, 0);
+    for (i = 0; i <= 64; i++) { /* any of so many */
+        for (j = 0; j < 64; j += 9) {
+            uint64_t word = i == 64 ? UINT64_MAX : BIT(i) - 1;
+
+            put_word(&b, PROGRESS_AT, word << j | (j ? word >> (64 - j) : 0));
+            if (i <= 16)
+                expect_no_reach(&b, 0, 0, "16 in progress");
+            else
+                expect_unfit(&b, "more than 16 in progress");
+        }
+    }
+    seed = 20261118;
+    for (i = 0; i < 300; i++) {
+        uint64_t word = 0;
+        unsigned ones = 0;
+
+        for (j = below(20); j > 0; j--)
+            word |= BIT(below(64));
+        for (j = 0; j < 64; j++)
+            ones += word >> j & 1;
+        put_word(&b, PROGRESS_AT, word);
+        if (ones <= 16)
+            expect_no_reach(&b, 0, 0, "any in progress");
+        else
+            expect_unfit(&b, "any, and too many");
+    }
+    put_word(&b, PROGRESS_AT, 0);
+    for (i = 0; i < sizeof over / sizeof over[0]; i++) {
+        put_entries(&b, KEPT_AT, over[i]);
+        expect_unfit(&b, "more than 256 kept");
+    }
+    for (i = 0; i <= 256; i++) { /* with none in progress */
+        put_entries(&b, KEPT_AT, i);
+        expect_no_reach(&b, 0, 0, "kept with none in progress");
+        expect_step(&b, 0, HARD_ON, 0, 0, 0, "kept with none in progress");
+    }
+    for (i = 0; i < 4; i++) { /* each of its bytes */
+        put_entries(&b, KEPT_AT, 0);
+        put_desk(&b, KEPT_AT + i, i == 1 ? 2 : 1);
+        if (i == 0)
+            expect_no_reach(&b, 0, 0, "one kept");
+        else
+            expect_unfit(&b, "a high byte of the kept count");
+    }
+    free_buffers(&b);
+}
+
+/* Each clause about the history: of entries below the kept count, and only by
+ * what takes a history. */
+static void test_cross_unfit_history(void)
+{
+    struct buffers b;
+    unsigned i, place, lock;
+
+    open_cross(&b, 8, BIT(7), 4);
+    put_entries(&b, KEPT_AT, 256);
+    for (i = 0; i < 256; i++) {
+        for (place = 0; place < 256; place += place < 26 || i % 51 == 0 ? 1
+                                               : 23) {
+            for (lock = 0; lock < 256; lock += i == 63 || i == 255 ? 1
+                                               : i % 9 == 0 ? 24 : 67) {
+                int fits = place == 0 ? lock == 0
+                           : place <= 24 && lock % 64 < 8 && lock < 192;
+
+                put_entry(&b, i, place, lock);
+                expect_step(&b, 0, HARD_ON, 0, 0, fits ? 0 : 11, "an entry");
+                if (fits || (i > 0 && i < 255 && (place + lock) % 4 != 0))
+                    continue;
+                expect_no_reach(&b, 0, 0, "an unfit entry, ask");
+                expect_step(&b, 0, 99, 0, 0, 11, "an unfit entry");
+                put_entries(&b, KEPT_AT, i);
+                expect_step(&b, 0, HARD_ON, 0, 0, 0, "behind what is kept");
+                put_entries(&b, KEPT_AT, 256);
+            }
+        }
+        put_entry(&b, i, 0, 0);
+    }
+    for (place = 0; place < 26; place++) { /* all bytes, at the ends */
+        for (lock = 0; lock < 256; lock++) {
+            int fits = place == 0 ? lock == 0
+                       : place <= 24 && lock % 64 < 8 && lock < 192;
+
+            put_entry(&b, lock % 2 ? 0 : 255, place, lock);
+            expect_step(&b, 0, HARD_ON, 0, 0, fits ? 0 : 11, "the ends");
+            put_entry(&b, lock % 2 ? 0 : 255, 0, 0);
+        }
+    }
+    free_buffers(&b);
+
+    open_cross(&b, 64, BIT(63), 0); /* by K */
+    put_entries(&b, KEPT_AT, 1);
+    for (i = 1; i < 64; i++) {
+        put_word(&b, DECLARED_AT, 0);
+        put_desk(&b, 0, i);
+        b.k = i;
+        put_entry(&b, 0, 1, i - 1);
+        expect_step(&b, 0, HARD_ON, 0, 0, 0, "class K - 1");
+        put_entry(&b, 0, 1, i);
+        expect_step(&b, 0, HARD_ON, 0, 0, 11, "class K");
+    }
+    free_buffers(&b);
+}
+
+/* Desks from elsewhere that are fit, and judged as they stand. */
+static void test_cross_elsewhere(void)
+{
+    static const uint32_t since[] = { 0, 1, 2, 3, 255, 256, 257, 65536,
+                                      0x01000000, 0x80000000, UINT32_MAX };
+    struct buffers b;
+    unsigned i;
+
+    /* A held lock, marks, dependencies and an entry of a declared class. */
+    open_cross(&b, 8, BIT(2), 0);
+    put_desk(&b, DEPTHS_AT, 1);
+    put_desk(&b, HELD_AT, 2 + 64);
+    expect_step(&b, 0, RELEASE, 2, r, 15, "a held crosslock, release");
+    expect_step(&b, 0, ACQUIRE, 3, E, 0, "a held crosslock: 2 SN 3");
+    check_kinds(&b, 2, 3, PLUNGEROWL_SN, "a held crosslock");
+    check_byte(&b, 34 + 2, 0x88, "a held crosslock is marked");
+    expect_step(&b, 0, CROSS, 2, 0, 1, "2 SN 2, from itself");
+    free_buffers(&b);
+
+    open_cross(&b, 8, BIT(2) | BIT(3), 0);
+    put_desk(&b, MARKS_AT + 2, 4);
+    put_desk(&b, MARKS_AT + 5, 1);
+    put_sheet(&b, 2, 3, PLUNGEROWL_SR);
+    put_sheet(&b, 6, 2, PLUNGEROWL_ER);
+    expect_reach(&b, 2, BIT(3) | BIT(5), 2, "marks of a crosslock, ask");
+    expect_reach(&b, 6, BIT(2) | BIT(5), 2, "to a crosslock by ER, ask");
+    expect_step(&b, 0, CROSS, 2, 0, 0, "marks of a crosslock");
+    put_sheet(&b, 5, 2, PLUNGEROWL_EN);
+    expect_step(&b, 0, COMMIT, 2, 0, 1, "2 EN 5 hard, 5 EN 2");
+    free_buffers(&b);
+
+    for (i = 0; i < 3; i++) {
+        open_cross(&b, 8, BIT(2) | BIT(3), 0);
+        put_word(&b, PROGRESS_AT, BIT(2) | BIT(3));
+        put_entries(&b, KEPT_AT, 2);
+        put_entry(&b, 0, 1, 3 + 64 * i);
+        put_entry(&b, 1, 4, 2 + 64 * i);
+        expect_step(&b, 0, COMMIT, 2, 0, 0, "an entry of a crosslock");
+        check_kinds(&b, 2, 3, i == R ? PLUNGEROWL_ER : PLUNGEROWL_EN,
+                    "an entry of a crosslock");
+        expect_step(&b, 1, COMMIT, 2, 0, 1, "an entry of itself");
+        check_kinds(&b, 2, 2, i == R ? PLUNGEROWL_ER : PLUNGEROWL_EN,
+                    "an entry of itself");
+        free_buffers(&b);
+    }
+    /* Any since number: from there on, up to the kept count. */
+    for (i = 0; i < sizeof since / sizeof since[0]; i++) {
+        open_cross(&b, 8, BIT(7) | BIT(6), 0);
+        put_word(&b, PROGRESS_AT, BIT(7));
+        put_entries(&b, SINCE_AT + 4 * 7, since[i]);
+        put_entries(&b, SINCE_AT + 4 * 6, since[i]);
+        put_entries(&b, SINCE_AT + 4 * 63, since[i]);
+        put_entries(&b, KEPT_AT, 3);
+        put_entry(&b, 0, 1, 1);
+        put_entry(&b, 1, 1, 2);
+        put_entry(&b, 2, 1, 3);
+        put_entry(&b, 3, 1, 4); /* not kept */
+        expect_no_reach(&b, 7, 0, "any since number, ask");
+        expect_step(&b, 0, COMMIT, 7, 0, 0, "any since number");
+        check_kinds(&b, 7, 1, since[i] < 1 ? 2 : 0, "any since number");
+        check_kinds(&b, 7, 2, since[i] < 2 ? 2 : 0, "any since number");
+        check_kinds(&b, 7, 3, since[i] < 3 ? 2 : 0, "any since number");
+        check_kinds(&b, 7, 4, 0, "any since number");
+        expect_step(&b, 0, CROSS, 6, 0, 0, "a since number is written");
+        check_number(b.desk.bytes + 1418 + 4 * 6, 3, "a since number");
+        check_number(b.desk.bytes + 1418 + 4 * 63, since[i], "another's");
+        expect_step(&b, 0, UNCROSS, 7, 0, 0, "a since number stays");
+        check_number(b.desk.bytes + 1418 + 4 * 7, since[i], "it stays");
+        free_buffers(&b);
+    }
+    /* Kept with none in progress: a crosslock begins behind it, and an exit
+     * strikes out there too. */
+    open_cross(&b, 8, BIT(7), 0);
+    put_entries(&b, KEPT_AT, 2);
+    put_entry(&b, 0, 3, 1);
+    put_entry(&b, 1, 1, 2);
+    expect_step(&b, 0, ACQUIRE, 3, E, 0, "none in progress: not kept");
+    check_progress(&b, 0, 2, "none in progress");
+    expect_step(&b, 0, ENTER_HARD, 0, 0, 0, "enter hard");
+    expect_step(&b, 0, EXIT_HARD, 0, 0, 0, "exit hard");
+    check_entry(&b, 0, 0, 0, "none in progress, struck out");
+    expect_step(&b, 0, CROSS, 7, 0, 0, "crosslock behind what is kept");
+    expect_step(&b, 0, COMMIT, 7, 0, 0, "commit");
+    check_none_from(&b, 7, "behind what is kept");
+    expect_step(&b, 0, ACQUIRE, 4, E, 0, "kept third");
+    check_entry(&b, 2, 1, 4, "kept third");
+    expect_step(&b, 0, COMMIT, 7, 0, 0, "commit");
+    check_kinds(&b, 7, 4, 2, "behind what is kept");
+    check_kinds(&b, 7, 2, 0, "behind what is kept");
+    free_buffers(&b);
+}
+
+/* Opened without crosslocks kinds 10 to 12 are 15; a log as it was before has
+ * zeros in all that is new. */
+static void test_cross_none(void)
+{
+    struct buffers b;
+    unsigned i, kind;
+
+    open_buffers(&b, 8, 6);
+    for (i = 0; i < 8; i++) {
+        for (kind = CROSS; kind <= UNCROSS; kind++)
+            expect_step(&b, i, kind, i, 0, 15, "no crosslocks");
+        expect_step(&b, i, ACQUIRE, i, R, 0, "a lock");
+        expect_step(&b, i, i % 2 ? ENTER_SOFT : ENTER_HARD, 0, 0, 0, "enter");
+        expect_step(&b, i, ACQUIRE, i, R, 0, "a lock in a handler");
+        expect_step(&b, i, RELEASE, i, R, 0, "its release");
+        expect_step(&b, i, i % 2 ? EXIT_SOFT : EXIT_HARD, 0, 0, 0, "exit");
+    }
+    for (i = 1398; i < 1674; i++)
+        check_byte(&b, i, 0, "no crosslocks");
+    for (i = 0; i < 512; i++)
+        check(b.history.bytes[i] == 0, "no crosslocks: history byte %u", i);
+    free_buffers(&b);
+}
+
+/* The answer that is due to a record that is not malformed, but for a fault and
+ * a full count. */
+static unsigned cross_answer(const struct buffers *b, unsigned core,
+                             unsigned kind, unsigned class_, unsigned mode)
+{
+    const uint8_t *desk = b->want_desk.bytes;
+    uint64_t progress = word_at(desk + 1406);
+    int named = kind <= RELEASE || kind >= CROSS;
+    int crosslock = named && class_ < b->k
+                    && (word_at(desk + 1398) & BIT(class_)) != 0;
+    unsigned ones = 0, i, answer = 0;
+
+    for (i = 0; i < 64; i++)
+        ones += progress >> i & 1;
+    if (named && class_ >= b->k)
+        return 4;
+    if (named && crosslock != (kind >= CROSS))
+        return 15;
+    if (kind < CROSS)
+        answer = deep_answer(b, core, kind, class_, mode);
+    if (answer != 0)
+        return answer;
+    if (kind == CROSS)
+        return progress & BIT(class_) ? 16 : ones == 16 ? 18 : 0;
+    if (kind > CROSS)
+        return progress & BIT(class_) ? 0 : 17;
+    return kind == ACQUIRE && mode < TRY && progress != 0
+           && low_first(desk + 1414) == 256 ? 19 : 0;
+}
+
+/* The same with a fault, on other copies. */
+static unsigned cross_due(const struct buffers *b, const uint8_t *record)
+{
+    static uint8_t desk[1674], sheet[64 * 64], seen[4 * 64 * 64], history[512];
+    unsigned due = cross_answer(b, record[2], record[3], record[4], record[5]);
+    struct buffers after = *b;
+
+    if (due != 0)
+        return due;
+    memcpy(desk, b->want_desk.bytes, sizeof desk);
+    memcpy(sheet, b->want_sheet.bytes, b->k * b->k);
+    memcpy(seen, b->want_seen.bytes, 4 * b->k * b->k);
+    memcpy(history, b->want_history.bytes, sizeof history);
+    after.want_desk.bytes = desk;
+    after.want_sheet.bytes = sheet;
+    after.want_seen.bytes = seen;
+    after.want_history.bytes = history;
+    want_accepted(&after, record);
+    return least_cycle(&after)[0] != 0;
+}
+
+/* A record of any kind, in one of four modes; releases are of what is held.
+ * There are times of many cross acquires, and of many cross releases. */
+static void random_cross_record(const struct buffers *b, uint8_t record[6],
+                                unsigned cores, const uint8_t *modes, int many)
+{
+    unsigned core = below(cores), kind, class_ = below(b->k);
+    const uint8_t *desk = b->desk.bytes;
+    unsigned frame = current_frame(desk, core), mode = modes[below(4)];
+    unsigned depth = desk[DEPTHS_AT + frame];
+
+    kind = below(3) == 0 ? (many ? CROSS + below(7) / 3
+                                 : UNCROSS - below(7) / 3)
+           : below(3) == 0 ? HARD_ON + below(8)
+           : below(3) == 0 || depth > 20 ? RELEASE : ACQUIRE;
+    if (kind == RELEASE && depth > 0) {
+        class_ = desk[HELD_AT + DEPTH * frame + below(depth)] % 64;
+        mode = newest_mode(desk, frame, class_);
+    }
+    if (kind == EXIT_SOFT || kind == EXIT_HARD)
+        kind = desk[STATES_AT + core] >= 6 ? EXIT_HARD : EXIT_SOFT;
+    record[0] = 0x4C;
+    record[1] = 0x4B;
+    record[2] = (uint8_t)core;
+    record[3] = (uint8_t)kind;
+    record[4] = (uint8_t)(kind <= RELEASE || kind >= CROSS ? class_ : 0);
+    record[5] = (uint8_t)(kind <= RELEASE ? mode : 0);
+}
+
+/* Random logs: short ones in any modes up to a fault, and long ones of
+ * recursive reads and tries, which have none and fill the history. */
+static void test_cross_random(void)
+{
+    static const uint8_t any[] = { E, r, R, TRY + E };
+    static const uint8_t reads[] = { R, R, R, TRY + R };
+    unsigned met[20] = { 0 }, run, i, faults = 0;
+    struct buffers b;
+
+    seed = 20261121 + sides;
+    for (run = 0; run < 130; run++) {
+        int is_long = run % 26 == 25;
+        unsigned k = is_long ? 64 : 2 + below(7);
+        uint64_t declared = 0;
+
+        for (i = 0; i < k; i++)
+            if (below(is_long ? 2 + run / 26 % 3 : 3) == 0)
+                declared |= BIT(i);
+        open_cross(&b, k, declared, run % 3);
+        for (i = 0; i < (is_long ? 3000 : 120)
+                    && b.desk.bytes[CLOSED_AT] == 0; i++) {
+            uint8_t record[RECORD_SIZE];
+            unsigned due;
+
+            random_cross_record(&b, record, is_long ? 8 : 3,
+                                is_long ? reads : any,
+                                !is_long || i / 1000 % 2 == 0);
+            due = is_long ? cross_answer(&b, record[2], record[3], record[4],
+                                         record[5])
+                          : cross_due(&b, record);
+            met[due]++;
+            expect_bytes(&b, record, sizeof record, due, "a random log");
+        }
+        faults += b.desk.bytes[CLOSED_AT];
+        free_buffers(&b);
+    }
+    check(faults > 40, "random logs with crosslocks: %u faults", faults);
+    for (i = 0; i < 20; i++)
+        check(met[i] > 2 || (i >= 2 && i <= 4) || (i >= 8 && i <= 14),
+              "random logs with crosslocks: %u times %u", met[i], i);
+}
+
+/* ----------------------------------------- crosslocks in a feed, and joined */
+
+static void log_long_header(struct log *log, unsigned k, uint64_t declared)
+{
+    unsigned i;
+
+    log_header(log, k);
+    log->bytes[2] = 2;
+    for (i = 0; i < 8; i++)
+        log_byte(log, (unsigned)(declared >> 8 * i & 255));
+}
+
+/* Every value of each byte of the long header; the twelfth byte brings the
+ * answer, also with a wrong first one, and the third alone says how many. */
+static void test_cross_feed_header(void)
+{
+    static struct log log;
+    struct feeding f;
+    unsigned place, value, i, k;
+
+    start_feed(&f, 64, 0);
+    for (k = 8; k <= 64; k += 56) {
+        for (place = 0; place < 12; place++) {
+            for (value = 0; value < 256; value++) {
+                unsigned good;
+
+                log_long_header(&log, k, 0x41);
+                log_record(&log, 0, CROSS, 0, 0);
+                if (place == 2 && value != 2)
+                    continue;
+                good = place < 3 ? value == log.bytes[place]
+                       : place == 3 ? value >= 7 && value <= 64
+                       : place == 4 || k == 64 || value == 0;
+                log.bytes[place] = (uint8_t)value;
+                if (place == 4)
+                    log.bytes[16] = (uint8_t)(value & 1 ? 0 : 63);
+                start_again(&f);
+                for (i = 0; i < 11; i++)
+                    expect_feed(&f, log.bytes + i, 1, 0, 0,
+                                "long header, byte by byte");
+                check(f.feed.bytes[COUNT_AT] == 11
+                      && memcmp(f.feed.bytes + LOOSE_AT, log.bytes, 11) == 0,
+                      "long header: eleven loose bytes");
+                expect_feed(&f, log.bytes + 11, 1, good ? 0 : 2, 0,
+                            "long header");
+                start_again(&f);
+                feed_or_end(&f, log.bytes, log.size, "long header and record");
+                if (!good)
+                    expect_end(&f, 2, 0, "long header, refused");
+                else if (place != 4)
+                    expect_end(&f, 0, 1, "long header and record");
+            }
+        }
+    }
+    /* Other third bytes: four bytes are the header, whatever follows. */
+    for (value = 0; value < 256; value++) {
+        if (value == 2)
+            continue;
+        log_long_header(&log, 8, 1);
+        log.bytes[2] = (uint8_t)value;
+        start_again(&f);
+        expect_feed(&f, log.bytes, 3, 0, 0, "three bytes");
+        expect_feed(&f, log.bytes + 3, 1, value == 1 ? 0 : 2, 0, "the fourth");
+        start_again(&f);
+        expect_feed(&f, log.bytes, log.size, value == 1 ? 3 : 2, value == 1,
+                    "a word behind a short header");
+    }
+    /* 4D 48 02 03 is part of a header, and refused with its twelfth byte. */
+    log_long_header(&log, 3, 0);
+    log.bytes[0] = 0x4D;
+    start_again(&f);
+    expect_feed(&f, log.bytes, 4, 0, 0, "4D 48 02 03");
+    expect_feed(&f, log.bytes + 4, 7, 0, 0, "and seven more");
+    expect_feed(&f, log.bytes + 11, 1, 2, 0, "and one more");
+    expect_stopped(&f, 2, 0, "4D 48 02 03");
+    free_feed(&f);
+}
+
+/* The end behind each byte of a long header, and of the record behind it. */
+static void test_cross_feed_end(void)
+{
+    static struct log log;
+    struct feeding f;
+    size_t at;
+
+    log_long_header(&log, 8, 0x80);
+    log_record(&log, 3, CROSS, 7, 0);
+    start_feed(&f, 8, 2);
+    for (at = 0; at <= log.size; at++) {
+        unsigned answer = at < 12 ? 2 : at % 6 ? 3 : 0;
+        uint64_t number = at < 12 ? 0 : (at - 12) / 6 + (answer == 3);
+
+        start_again(&f);
+        feed_or_end(&f, log.bytes, at, "a part of a log");
+        expect_end(&f, answer, number, "its end");
+        if (answer != 0)
+            expect_stopped(&f, answer, number, "its end");
+    }
+    free_feed(&f);
+}
+
+/* Logs with crosslocks, in one piece, cut once at every byte and at all, and
+ * some cut twice; behind an answer but 0 stands more. */
+static void test_cross_feed_cuts(void)
+{
+    static const struct {
+        uint8_t answer, number, records;
+        uint8_t record[6][4]; /* core, kind, class, mode */
+    } rows[] = {
+        { 0, 1, 1, { { 0, CROSS, 3, 0 } } },
+        { 1, 4, 4, { { 0, ACQUIRE, 1, E }, { 0, CROSS, 3, 0 },
+                     { 1, ACQUIRE, 1, E }, { 1, COMMIT, 3, 0 } } },
+        { 0, 5, 5, { { 0, ACQUIRE, 1, E }, { 0, CROSS, 3, 0 },
+                     { 1, ACQUIRE, 1, TRY + E }, { 1, COMMIT, 3, 0 },
+                     { 4, UNCROSS, 3, 0 } } },
+        { 15, 1, 1, { { 0, ACQUIRE, 3, TRY + E } } },
+        { 15, 1, 1, { { 0, CROSS, 1, 0 } } },
+        { 16, 2, 2, { { 0, CROSS, 3, 0 }, { 1, CROSS, 3, 0 } } },
+        { 17, 1, 1, { { 0, COMMIT, 3, 0 } } },
+        { 17, 3, 3, { { 0, CROSS, 3, 0 }, { 1, UNCROSS, 3, 0 },
+                      { 0, UNCROSS, 3, 0 } } },
+        { 4, 1, 1, { { 0, CROSS, 4, 0 } } },
+        { 3, 1, 1, { { 0, CROSS, 3, 1 } } },
+        { 3, 1, 1, { { 0, 13, 3, 0 } } }
+    };
+    static struct log log;
+    struct feeding f;
+    size_t i, j;
+
+    start_feed(&f, 4, 0);
+    for (i = 0; i < sizeof rows / sizeof rows[0]; i++) {
+        unsigned answer = rows[i].answer, number = rows[i].number;
+
+        log_long_header(&log, 4, BIT(3));
+        for (j = 0; j < rows[i].records; j++)
+            log_record(&log, rows[i].record[j][0], rows[i].record[j][1],
+                       rows[i].record[j][2], rows[i].record[j][3]);
+        if (answer != 0) {
+            log_record(&log, 6, ACQUIRE, 0, E);
+            log_loose(&log, 3);
+        }
+        feed_cut(&f, &log, 0, answer, number, "one piece");
+        feed_cut(&f, &log, UINT64_MAX, answer, number, "by bytes");
+        for (j = 0; j + 1 < log.size; j++) {
+            feed_cut(&f, &log, BIT(j), answer, number, "two pieces");
+            feed_cut(&f, &log, BIT(j) | BIT(11), answer, number, "three");
+        }
+    }
+    log_long_header(&log, 4, BIT(3)); /* all cuts of the header */
+    feed_all_cuts(&f, &log, 0, 0, "cuts of a long header");
+    log.size = 10;
+    feed_all_cuts(&f, &log, 2, 0, "cuts of a part of it");
+    free_feed(&f);
+}
+
+/* Feeds by hand with the loose bytes of a long header: fit up to eleven if the
+ * third of them is 02. */
+static void test_cross_feed_fit(void)
+{
+    struct feeding f;
+    unsigned count, value, at;
+
+    start_feed(&f, 8, 3);
+    for (count = 0; count < 256; count += count < 20 ? 1 : 59) {
+        for (value = 0; value < 256; value += value < 5 ? 1 : 50) {
+            put_whole_feed(&f, 0, 0, count, 0);
+            if (count > 2)
+                put_feed(&f, LOOSE_AT + 2, value);
+            if (count < (count > 2 && value == 2 ? 12u : 4u)) {
+                expect_feed(&f, (const uint8_t *)"", 0, 0, 0, "fit, a header");
+                for (at = count; at < 11; at++) {
+                    put_feed(&f, LOOSE_AT + at, 2);
+                    expect_unfit_feed(&f, "a place behind the loose bytes");
+                    put_feed(&f, LOOSE_AT + at, 0);
+                }
+                if (count > 0) {
+                    put_feed(&f, ANSWER_AT, 2);
+                    expect_unfit_feed(&f, "2 with loose bytes");
+                }
+            } else {
+                expect_unfit_feed(&f, "too many loose bytes of a header");
+            }
+            put_whole_feed(&f, 0, 1, count, 3);
+            if (count > 2)
+                put_feed(&f, LOOSE_AT + 2, value);
+            if (count > 5)
+                expect_unfit_feed(&f, "too many loose bytes of a record");
+        }
+    }
+    for (value = 12; value < 256; value++) { /* answers that stand */
+        put_whole_feed(&f, value, 1, 0, 7);
+        if (value >= 15 && value <= 19)
+            expect_stopped(&f, value, 7, "15 to 19");
+        else
+            expect_unfit_feed(&f, "12 to 14, and over 19");
+        put_whole_feed(&f, value, 0, 0, 0);
+        expect_unfit_feed(&f, "before opening");
+    }
+    free_feed(&f);
+}
+
+/* Histories of each length through a feed: 2 with the header, 11 with a record
+ * and at the end. */
+static void test_cross_feed_lengths(void)
+{
+    static struct log log;
+    struct feeding f;
+    unsigned i, loose;
+
+    log_long_header(&log, 8, BIT(7));
+    log_record(&log, 0, CROSS, 7, 0);
+    start_feed(&f, 8, 0);
+    for (i = 0; i <= 512; i++) {
+        start_again(&f);
+        f.history_len = i;
+        expect_feed(&f, log.bytes, 11, 0, 0,
+                    "short history, before the header");
+        expect_feed(&f, log.bytes + 11, 7, i < 512 ? 2 : 0, i == 512,
+                    "short history");
+        expect_end(&f, i < 512 ? 2 : 0, i == 512, "short history, end");
+    }
+    for (loose = 0; loose <= 6; loose++) {
+        start_again(&f);
+        f.history_len = 512;
+        expect_feed(&f, log.bytes, 12, 0, 0, "a header");
+        f.history_len = 511;
+        if (loose == 6) {
+            expect_feed(&f, log.bytes + 12, 6, 11, 1, "short, a record");
+            continue;
+        }
+        expect_feed(&f, log.bytes + 12, loose, 0, 0, "short, loose bytes");
+        expect_end(&f, loose ? 11 : 0, loose > 0, "short, end");
+        f.history_len = 512;
+        start_again(&f);
+        expect_feed(&f, log.bytes, 12 + loose, 0, 0, "another writer");
+        put_entries(&f.b, KEPT_AT, 1);
+        put_entry(&f.b, 0, 25, 0);
+        expect_end(&f, loose ? 11 : 0, loose > 0, "an unfit entry, end");
+    }
+    free_feed(&f);
+    for (i = 0; i < 512; i += 73) {
+        start_all(&f, 8, FEED_SIZE, 1674, 64, 256, i, 57);
+        expect_feed(&f, log.bytes, log.size, 2, 0, "a history that is short");
+        free_feed(&f);
+        start_all(&f, 8, FEED_SIZE + 9, 1674, 64, 256, 513 + i, 57);
+        expect_feed(&f, log.bytes, log.size, 0, 1, "a longer history");
+        free_feed(&f);
+    }
+}
+
+/* Logs longer than every buffer, with crosslocks and handlers, of each ending,
+ * in pieces of any size. */
+static void test_cross_feed_long(void)
+{
+    static const unsigned endings[] = { 0, 1, 15, 16, 17, 18, 19, 3 };
+    static const unsigned most[] = { 2, 13, 4000, 30000 };
+    static struct log log;
+    struct feeding f;
+    unsigned i, j, n;
+
+    seed = 20261122;
+    start_feed(&f, 64, 0);
+    for (i = 0; i < sizeof endings / sizeof endings[0]; i++) {
+        for (j = 0; j < sizeof most / sizeof most[0]; j++) {
+            struct said last = { 0, 0 };
+            size_t at = 0;
+
+            log_long_header(&log, 64, ~(uint64_t)0 << 40);
+            for (n = 0; log.size < (j < 2 ? 1000u : 16600u); n++) {
+                unsigned core = below(8), cross = 40 + below(24), k;
+
+                log_record(&log, core, CROSS, cross, 0);
+                for (k = below(6); k > 0; k--) {
+                    unsigned low = below(39), other = below(8);
+
+                    log_record(&log, other, ENTER_HARD, 0, 0);
+                    log_record(&log, other, ACQUIRE, 39, R);
+                    log_record(&log, other, RELEASE, 39, R);
+                    log_record(&log, other, EXIT_HARD, 0, 0);
+                    log_record(&log, core, ACQUIRE, low, TRY + E);
+                    log_record(&log, core, RELEASE, low, TRY + E);
+                }
+                log_record(&log, core, COMMIT, cross, 0);
+                log_record(&log, below(8), UNCROSS, cross, 0);
+            }
+            check(log.size > 16384 || j < 2, "a log that is long");
+            switch (endings[i]) {
+            case 1:
+                log_record(&log, 0, ACQUIRE, 1, E);
+                log_record(&log, 0, CROSS, 63, 0);
+                log_record(&log, 1, ACQUIRE, 1, E);
+                log_record(&log, 1, COMMIT, 63, 0);
+                break;
+            case 15: log_record(&log, 0, CROSS, 39, 0); break;
+            case 17: log_record(&log, 0, COMMIT, 40, 0); break;
+            case 16:
+                log_record(&log, 0, CROSS, 40, 0);
+                log_record(&log, 1, CROSS, 40, 0);
+                break;
+            case 18:
+                for (n = 0; n < 17; n++)
+                    log_record(&log, 0, CROSS, 40 + n, 0);
+                break;
+            case 19:
+                log_record(&log, 0, CROSS, 40, 0);
+                for (n = 0; n < 257; n++)
+                    log_record(&log, n % 8, ACQUIRE, n / 8, R);
+                break;
+            case 3: log_loose(&log, 5); break;
+            default: break;
+            }
+            start_again(&f);
+            while (at < log.size) {
+                size_t size = below(most[j]);
+
+                if (size > log.size - at)
+                    size = log.size - at;
+                last = feed_or_end(&f, log.bytes + at, size, "a long log");
+                at += size;
+            }
+            check(last.answer == (endings[i] == 3 ? 0 : endings[i]),
+                  "a long log: %u, not %u", last.answer, endings[i]);
+            last = feed_or_end(&f, NULL, 0, "a long log, end");
+            check(last.answer == endings[i], "a long log, end: %u, not %u",
+                  last.answer, endings[i]);
+        }
+    }
+    free_feed(&f);
+}
+
+static void open_cross_benches(struct benches *n, unsigned k, uint64_t one,
+                               uint64_t two, size_t tail)
+{
+    open_cross(&n->one, k, one, tail);
+    open_cross(&n->two, k, two, tail);
+    make_buffers(&n->b, k, tail);
+}
+
+/* Crosslocks in progress, kept acquires and since numbers, of any values. */
+static void put_cross_busy(struct buffers *b, uint64_t progress, uint32_t kept)
+{
+    unsigned i;
+
+    put_busy(b, 9);
+    put_word(b, PROGRESS_AT, progress);
+    put_entries(b, KEPT_AT, kept);
+    for (i = 0; i < 64; i++)
+        put_entries(b, SINCE_AT + 4 * i, i % 3 ? UINT32_MAX - i : i);
+    for (i = 0; i < 512; i++) /* no fit history, and not handed over */
+        b->history.bytes[i] = b->want_history.bytes[i] = 255;
+}
+
+/* 12 also for different words, between 11 and 13; the joined desk has the word,
+ * and none in progress. */
+static void test_cross_join(void)
+{
+    static const uint64_t words[] = { 0, 1, 2, 0x80, BIT(31), BIT(32), BIT(62),
+                                      BIT(63), 0x0102030405060708, UINT64_MAX,
+                                      UINT64_MAX - 1, UINT64_MAX >> 1 };
+    const unsigned count = sizeof words / sizeof words[0];
+    struct benches n;
+    unsigned i, j, closed;
+
+    for (i = 0; i < count; i++) {
+        for (j = 0; j < count; j++) {
+            open_cross_benches(&n, 64, words[i], words[j], 0);
+            put_cross_busy(&n.one, 0, 256);
+            put_cross_busy(&n.two, words[j] & 0x8040201008040201, 0);
+            for (closed = 0; closed < 4; closed++) {
+                put_desk(&n.one, CLOSED_AT, closed & 1);
+                put_desk(&n.two, CLOSED_AT, closed / 2);
+                expect_join(&n.one, &n.two, &n.b, i != j ? 12 : closed ? 13 : 0,
+                            "words");
+            }
+            if (i == j) {
+                put_desk(&n.one, CLOSED_AT, 0);
+                put_desk(&n.two, CLOSED_AT, 0);
+                expect_both_orders(&n.one, &n.two, &n.b, 0, "one word");
+                check(word_at(n.b.desk.bytes + 1398) == words[i],
+                      "one word: declared");
+                check_progress(&n.b, 0, 0, "one word");
+                for (closed = 1418; closed < 1674; closed++)
+                    check_byte(&n.b, closed, 0, "one word: since numbers");
+            }
+            free_benches(&n);
+        }
+    }
+    for (i = 0; i < 64; i++) { /* that differ in one class */
+        open_cross_benches(&n, 64, UINT64_MAX, UINT64_MAX & ~BIT(i), 0);
+        expect_join(&n.one, &n.two, &n.b, 12, "one class less");
+        expect_join(&n.two, &n.one, &n.b, 12, "one class more");
+        put_desk(&n.one, STATES_AT, 9);
+        expect_join(&n.one, &n.two, &n.b, 11, "11 before 12");
+        put_desk(&n.one, STATES_AT, 0);
+        for (j = 0; j < LENT; j++)
+            if (j == DESK_3 || j == SLIP_3)
+                expect_join_less(&n.one, &n.two, &n.b, j, 1, 11,
+                                 "a length, 11 before 12");
+        free_benches(&n);
+    }
+    /* Words of other K: 12 by K, and the same. */
+    open_cross(&n.one, 8, 0x80, 0);
+    open_cross(&n.two, 9, 0x80, 0);
+    make_buffers(&n.b, 9, 0);
+    expect_join(&n.one, &n.two, &n.b, 12, "another K, the same word");
+    free_benches(&n);
+}
+
+/* Each clause about crosslocks on a desk, in either bench; no history. */
+static void test_cross_join_unfit(void)
+{
+    struct benches n;
+    unsigned side, i;
+
+    for (side = 0; side < 2; side++) {
+        struct buffers *b = side ? &n.two : &n.one;
+
+        open_cross_benches(&n, 20, 0xFFFFF, 0xFFFFF, 0);
+        for (i = 0; i < 64; i++) {
+            put_word(b, DECLARED_AT, 0xFFFFF | BIT(i));
+            expect_join(&n.one, &n.two, &n.b, i < 20 ? 0 : 11, "declared");
+            put_word(b, DECLARED_AT, 0xFFFFF);
+            put_word(b, PROGRESS_AT, BIT(i));
+            expect_join(&n.one, &n.two, &n.b, i < 20 ? 0 : 11, "in progress");
+            put_word(b, PROGRESS_AT, 0);
+        }
+        for (i = 0; i <= 20; i++) {
+            put_word(b, PROGRESS_AT, BIT(i) - 1);
+            expect_join(&n.one, &n.two, &n.b, i <= 16 ? 0 : 11, "so many");
+        }
+        put_word(b, PROGRESS_AT, BIT(3));
+        put_word(&n.one, DECLARED_AT, 0xFFFF7);
+        put_word(&n.two, DECLARED_AT, 0xFFFF7);
+        expect_join(&n.one, &n.two, &n.b, 11, "in progress, not declared");
+        put_word(b, PROGRESS_AT, 0);
+        for (i = 0; i < 32; i++) {
+            put_entries(b, KEPT_AT, (uint32_t)1 << i);
+            expect_join(&n.one, &n.two, &n.b, i <= 8 ? 0 : 11, "kept");
+            put_entries(b, KEPT_AT, ((uint32_t)1 << i) + 1);
+            expect_join(&n.one, &n.two, &n.b, i < 8 ? 0 : 11, "kept and one");
+        }
+        put_entries(b, KEPT_AT, 256);
+        for (i = 0; i < 512; i++)
+            b->history.bytes[i] = b->want_history.bytes[i] = 200;
+        expect_join(&n.one, &n.two, &n.b, 0, "a history is not looked at");
+        free_benches(&n);
+    }
+}
+
+/* Benches in the middle of crosslocks: what they drew counts, what they kept
+ * does not. The joined one goes on with any history. */
+static void test_cross_join_on(void)
+{
+    static const uint8_t slip[] = { 2, 1, 2, 0, 2, 0, 0, 0,
+                                    3, 2, 0, 3, 0, 0, 0 };
+    struct benches n;
+    unsigned i, fill;
+
+    open_cross_benches(&n, 4, BIT(3), BIT(3), 2);
+    expect_step(&n.one, 0, ACQUIRE, 1, E, 0, "bench 1, 1E");
+    expect_step(&n.one, 0, CROSS, 3, 0, 0, "bench 1: 1 EN 3");
+    expect_step(&n.two, 0, CROSS, 3, 0, 0, "bench 2, crosslock 3");
+    expect_step(&n.two, 1, ACQUIRE, 1, E, 0, "bench 2, 1E");
+    expect_both_orders(&n.one, &n.two, &n.b, 0, "no commit yet");
+    expect_step(&n.two, 1, COMMIT, 3, 0, 0, "bench 2: 3 EN 1");
+    expect_join(&n.one, &n.two, &n.b, 1, "both in progress");
+    check_whole_slip(&n.b, slip, "both in progress");
+    check_progress(&n.b, 0, 0, "both in progress");
+    expect_step(&n.one, 1, ACQUIRE, 2, E, 0, "bench 1 goes on");
+    check_entry(&n.one, 0, 4, 2, "bench 1 goes on");
+    free_benches(&n);
+
+    for (fill = 0; fill < 256; fill += 51) { /* any history, not prepared */
+        open_cross_benches(&n, 4, BIT(3), BIT(3), 0);
+        put_cross_busy(&n.one, BIT(3), 256);
+        expect_join(&n.one, &n.two, &n.b, 0, "to be stepped on");
+        for (i = 0; i < 512; i++)
+            n.b.history.bytes[i] = n.b.want_history.bytes[i] = (uint8_t)fill;
+        expect_step(&n.b, 0, COMMIT, 3, 0, 17, "not in progress");
+        expect_step(&n.b, 0, ACQUIRE, 1, E, 0, "1E, not kept");
+        expect_step(&n.b, 0, CROSS, 3, 0, 0, "crosslock 3");
+        expect_step(&n.b, 1, COMMIT, 3, 0, 0, "nothing is kept");
+        check_none_from(&n.b, 3, "nothing is kept");
+        expect_step(&n.b, 1, ACQUIRE, 1, E, 0, "kept");
+        check_entry(&n.b, 0, 4, 1, "kept");
+        expect_step(&n.b, 1, COMMIT, 3, 0, 1, "the fault");
+        expect_join(&n.b, &n.two, &n.one, 13, "closed");
+        free_benches(&n);
+    }
+}
+
+/* Kinds 10 to 12 pass refusal 3, and count for nothing. */
+static void test_cross_balance(void)
+{
+    static struct log piece;
+    unsigned kind, class_, mode, i;
+
+    for (kind = CROSS; kind <= UNCROSS; kind++) {
+        for (class_ = 0; class_ < 256; class_++) {
+            for (mode = 0; mode < 7; mode++) {
+                no_records(&piece);
+                log_record(&piece, class_ % 8, kind, class_, mode);
+                expect_no_balance(piece.bytes, 6, 0, "of a crosslock");
+                log_record(&piece, 1, ACQUIRE, class_ % 64, mode % MODES);
+                log_record(&piece, 1, kind, class_ % 64, 0);
+                expect_one_balance(&piece, class_ % 64, 1, "and of a lock");
+            }
+        }
+    }
+    no_records(&piece);
+    for (i = 0; i < MOST_RECORDS; i++)
+        log_record(&piece, i % 8, CROSS + i % 3, i % 64, 0);
+    expect_no_balance(piece.bytes, piece.size, 0, "the most of crosslocks");
+}
+
 /* ------------------------------------------------------------------- main */
 
 /* A call gave each of these answers, and no other. */
@@ -9407,7 +11570,19 @@ static const struct test tests[] = {
     TEST(balance_malformed_long), TEST(balance_numbers), TEST(balance_most),
     TEST(balance_order), TEST(balance_not_accepted), TEST(balance_random),
     TEST(balance_joined), TEST(balance_again), TEST(balance_places),
-    TEST(balance_read_only)
+    TEST(balance_read_only),
+    TEST(cross_example), TEST(cross_visit_example), TEST(cross_open),
+    TEST(cross_lengths), TEST(cross_refusal_3), TEST(cross_sorts),
+    TEST(cross_order), TEST(cross_states), TEST(cross_marks), TEST(cross_take),
+    TEST(cross_commit), TEST(cross_frames), TEST(cross_since), TEST(cross_list),
+    TEST(cross_kept), TEST(cross_full), TEST(cross_entries), TEST(cross_visits),
+    TEST(cross_visits_kept), TEST(cross_nested), TEST(cross_numbers),
+    TEST(cross_strong), TEST(cross_shown), TEST(cross_unfit),
+    TEST(cross_unfit_history), TEST(cross_elsewhere), TEST(cross_none),
+    TEST(cross_random), TEST(cross_feed_header), TEST(cross_feed_end),
+    TEST(cross_feed_cuts), TEST(cross_feed_fit), TEST(cross_feed_lengths),
+    TEST(cross_feed_long), TEST(cross_join), TEST(cross_join_unfit),
+    TEST(cross_join_on), TEST(cross_balance)
 };
 
 /* Run the test of the name, or all for NULL; how many were run. */
@@ -9439,11 +11614,11 @@ int main(int argc, char **argv)
     if (name == NULL) {
         /* The answers from 0 on: x given, - not. */
         check_met("open", open_met, "x-x");
-        check_met("step", step_met, "xx-xxxxxxxxx");
+        check_met("step", step_met, "xx-xxxxxxxxx---xxxxx");
         check_met("ask", ask_met, "x---x------x");
         check_met("start", start_met, "x-x");
-        check_met("feed", feed_met, "xxxxxxxxxxxx");
-        check_met("end", end_met, "xxxxxxxxxxxx");
+        check_met("feed", feed_met, "xxxxxxxxxxxx---xxxxx");
+        check_met("end", end_met, "xxxxxxxxxxxx---xxxxx");
         check_met("balance", balance_met, "x-------------x");
         check_met("join", join_met, "xx---------xxx");
     }

@@ -19,7 +19,8 @@
  * round by N, arrives at class 0 by R, and goes round once more by R. The marks
  * of each class are looked up in a table before that walk, which is left out
  * where they clash; the cycle that is shown is found after it, without
- * recursion. Both take less. The other inputs are there to meet something
+ * recursion. Both take less, and so do crosslocks, whose dependencies are in
+ * the sheet before the search. The other inputs are there to meet something
  * deeper, should it exist. A join searches in the same way: it gets the input
  * divided between two benches, so that the joined graph is the input's.
  *
@@ -44,6 +45,7 @@
 #define PROMISED 16384 /* bytes that no step, feed or join passes */
 #define PAINT 0xC5
 #define RANDOM_INPUTS 300
+#define LOOSE (PLUNGEROWL_RECORD_SIZE - 1) /* of a record */
 
 /* A record is fed whole, or its last byte to a feed that has the others; the
  * end finds these. */
@@ -85,6 +87,7 @@ struct input {
     uint8_t desk[PLUNGEROWL_DESK_SIZE];
     uint8_t sheet[PLUNGEROWL_SHEET_SIZE(PLUNGEROWL_MAX_CLASSES)];
     uint8_t seen[PLUNGEROWL_SEEN_SIZE(PLUNGEROWL_MAX_CLASSES)];
+    uint8_t history[PLUNGEROWL_HISTORY_SIZE];
 };
 
 /* What the call on the other stack is given, a join two, and its answer. */
@@ -102,23 +105,27 @@ static uint8_t *caller_stack;
 #define NOTE_CALLER() \
     (caller_stack = (uint8_t *)__builtin_frame_address(0) + 2 * sizeof(void *))
 
-static uint8_t empty_open(uint64_t classes, uint8_t *desk, size_t desk_len,
-                          uint8_t *sheet, size_t sheet_len, uint8_t *seen,
-                          size_t seen_len)
+static uint8_t empty_open(uint64_t classes, uint64_t declared, uint8_t *desk,
+                          size_t desk_len, uint8_t *sheet, size_t sheet_len,
+                          uint8_t *seen, size_t seen_len, uint8_t *history,
+                          size_t history_len)
 {
-    (void)classes, (void)desk, (void)desk_len, (void)sheet, (void)sheet_len;
-    (void)seen, (void)seen_len;
+    (void)classes, (void)declared, (void)desk, (void)desk_len, (void)sheet;
+    (void)sheet_len, (void)seen, (void)seen_len, (void)history;
+    (void)history_len;
     NOTE_CALLER();
     return 0;
 }
 
 static uint8_t empty_step(uint8_t *desk, size_t desk_len, uint8_t *sheet,
                           size_t sheet_len, uint8_t *seen, size_t seen_len,
+                          uint8_t *history, size_t history_len,
                           uint8_t *slip_, size_t slip_len,
                           const uint8_t *record, size_t record_len)
 {
     (void)desk, (void)desk_len, (void)sheet, (void)sheet_len, (void)seen;
-    (void)seen_len, (void)slip_, (void)slip_len, (void)record, (void)record_len;
+    (void)seen_len, (void)history, (void)history_len, (void)slip_;
+    (void)slip_len, (void)record, (void)record_len;
     NOTE_CALLER();
     return 0;
 }
@@ -143,25 +150,28 @@ static uint8_t empty_start(uint8_t *feed, size_t feed_len)
 
 static uint8_t empty_feed(uint8_t *feed, size_t feed_len, uint8_t *desk,
                           size_t desk_len, uint8_t *sheet, size_t sheet_len,
-                          uint8_t *seen, size_t seen_len, uint8_t *slip_,
-                          size_t slip_len, const uint8_t *piece_,
-                          size_t piece_len, uint64_t *record)
+                          uint8_t *seen, size_t seen_len, uint8_t *history,
+                          size_t history_len, uint8_t *slip_, size_t slip_len,
+                          const uint8_t *piece_, size_t piece_len,
+                          uint64_t *record)
 {
     (void)feed, (void)feed_len, (void)desk, (void)desk_len, (void)sheet;
-    (void)sheet_len, (void)seen, (void)seen_len, (void)slip_, (void)slip_len;
-    (void)piece_, (void)piece_len, (void)record;
+    (void)sheet_len, (void)seen, (void)seen_len, (void)history;
+    (void)history_len, (void)slip_, (void)slip_len, (void)piece_;
+    (void)piece_len, (void)record;
     NOTE_CALLER();
     return 0;
 }
 
 static uint8_t empty_end(uint8_t *feed, size_t feed_len, uint8_t *desk,
                          size_t desk_len, uint8_t *sheet, size_t sheet_len,
-                         uint8_t *seen, size_t seen_len, uint8_t *slip_,
-                         size_t slip_len, uint64_t *record)
+                         uint8_t *seen, size_t seen_len, uint8_t *history,
+                         size_t history_len, uint8_t *slip_, size_t slip_len,
+                         uint64_t *record)
 {
     (void)feed, (void)feed_len, (void)desk, (void)desk_len, (void)sheet;
-    (void)sheet_len, (void)seen, (void)seen_len, (void)slip_, (void)slip_len;
-    (void)record;
+    (void)sheet_len, (void)seen, (void)seen_len, (void)history;
+    (void)history_len, (void)slip_, (void)slip_len, (void)record;
     NOTE_CALLER();
     return 0;
 }
@@ -194,22 +204,24 @@ static uint8_t empty_join(const uint8_t *desk1, size_t desk1_len,
 }
 
 /* volatile: the compiler must call what they point to, as it points there. */
-static uint8_t (*volatile to_open)(uint64_t, uint8_t *, size_t, uint8_t *,
-                                   size_t, uint8_t *, size_t);
+static uint8_t (*volatile to_open)(uint64_t, uint64_t, uint8_t *, size_t,
+                                   uint8_t *, size_t, uint8_t *, size_t,
+                                   uint8_t *, size_t);
 static uint8_t (*volatile to_step)(uint8_t *, size_t, uint8_t *, size_t,
                                    uint8_t *, size_t, uint8_t *, size_t,
-                                   const uint8_t *, size_t);
+                                   uint8_t *, size_t, const uint8_t *, size_t);
 static uint8_t (*volatile to_ask)(const uint8_t *, size_t, const uint8_t *,
                                   size_t, const uint8_t *, size_t, uint64_t,
                                   uint64_t *, uint32_t *);
 static uint8_t (*volatile to_start)(uint8_t *, size_t);
 static uint8_t (*volatile to_feed)(uint8_t *, size_t, uint8_t *, size_t,
                                    uint8_t *, size_t, uint8_t *, size_t,
-                                   uint8_t *, size_t, const uint8_t *, size_t,
-                                   uint64_t *);
+                                   uint8_t *, size_t, uint8_t *, size_t,
+                                   const uint8_t *, size_t, uint64_t *);
 static uint8_t (*volatile to_end)(uint8_t *, size_t, uint8_t *, size_t,
                                   uint8_t *, size_t, uint8_t *, size_t,
-                                  uint8_t *, size_t, uint64_t *);
+                                  uint8_t *, size_t, uint8_t *, size_t,
+                                  uint64_t *);
 static uint8_t (*volatile to_balance)(const uint8_t *, size_t, int32_t *);
 static uint8_t (*volatile to_join)(const uint8_t *, size_t, const uint8_t *,
                                    size_t, const uint8_t *, size_t,
@@ -244,15 +256,17 @@ static void point_to_empty(void)
 
 static void run_open(void)
 {
-    answer = to_open(lent.k, lent.desk, sizeof lent.desk,
-                     lent.sheet, sizeof lent.sheet,
-                     lent.seen, sizeof lent.seen);
+    answer = to_open(lent.k, lent.desk[PLUNGEROWL_DECLARED_AT], lent.desk,
+                     sizeof lent.desk, lent.sheet, sizeof lent.sheet,
+                     lent.seen, sizeof lent.seen,
+                     lent.history, sizeof lent.history);
 }
 
 static void run_step(void)
 {
     answer = to_step(lent.desk, sizeof lent.desk, lent.sheet, sizeof lent.sheet,
-                     lent.seen, sizeof lent.seen, slip, sizeof slip,
+                     lent.seen, sizeof lent.seen,
+                     lent.history, sizeof lent.history, slip, sizeof slip,
                      lent.record, sizeof lent.record);
 }
 
@@ -271,23 +285,24 @@ static void run_feed(void)
 {
     answer = to_feed(lent.feed, sizeof lent.feed, lent.desk, sizeof lent.desk,
                      lent.sheet, sizeof lent.sheet, lent.seen, sizeof lent.seen,
-                     slip, sizeof slip, lent.record, sizeof lent.record,
-                     &number);
+                     lent.history, sizeof lent.history, slip, sizeof slip,
+                     lent.record, sizeof lent.record, &number);
 }
 
 static void run_feed_last(void)
 {
     answer = to_feed(lent.feed, sizeof lent.feed, lent.desk, sizeof lent.desk,
                      lent.sheet, sizeof lent.sheet, lent.seen, sizeof lent.seen,
-                     slip, sizeof slip, lent.record + PLUNGEROWL_MOST_LOOSE, 1,
-                     &number);
+                     lent.history, sizeof lent.history, slip, sizeof slip,
+                     lent.record + LOOSE, 1, &number);
 }
 
 static void run_end(void)
 {
     answer = to_end(lent.feed, sizeof lent.feed, lent.desk, sizeof lent.desk,
                     lent.sheet, sizeof lent.sheet, lent.seen, sizeof lent.seen,
-                    slip, sizeof slip, &number);
+                    lent.history, sizeof lent.history, slip, sizeof slip,
+                    &number);
 }
 
 static void run_balance(void)
@@ -334,9 +349,8 @@ static void lend(const struct input *in, int call)
         divide();
     lent.feed[PLUNGEROWL_FEED_OPENED_AT] = 1;
     if (call == FEED_LAST || call == END) {
-        lent.feed[PLUNGEROWL_FEED_COUNT_AT] = PLUNGEROWL_MOST_LOOSE;
-        memcpy(lent.feed + PLUNGEROWL_FEED_LOOSE_AT, lent.record,
-               PLUNGEROWL_MOST_LOOSE);
+        lent.feed[PLUNGEROWL_FEED_COUNT_AT] = LOOSE;
+        memcpy(lent.feed + PLUNGEROWL_FEED_LOOSE_AT, lent.record, LOOSE);
     }
 }
 
@@ -519,6 +533,42 @@ static void put_fullest(struct input *in, unsigned kind)
         = 64 * PLUNGEROWL_RECURSIVE_READ;
 }
 
+/* A crosslock, class 0, and a record of it, over 47 locks that core 0's task
+ * holds; in progress for all but its acquire. The history is full of what that
+ * task and its handlers acquired, and of entries that are struck out. */
+static void put_cross(struct input *in, unsigned kind)
+{
+    const uint8_t record[] = { 0x4C, 0x4B, 0, (uint8_t)kind, 0, 0 };
+    unsigned i;
+
+    put_acquire(in);
+    memcpy(in->record, record, sizeof record);
+    for (i = 0; i < PLUNGEROWL_MAX_DEPTH - 1u; i++)
+        in->desk[PLUNGEROWL_HELD_AT + i] += (uint8_t)(in->k - 1);
+    in->desk[PLUNGEROWL_DECLARED_AT] = 1;
+    in->desk[PLUNGEROWL_PROGRESS_AT] = kind != PLUNGEROWL_CROSS_ACQUIRE;
+    in->desk[PLUNGEROWL_KEPT_AT + 1] = 1; /* 256 */
+    for (i = 0; i < PLUNGEROWL_MAX_KEPT; i++) {
+        in->history[2 * i] = (uint8_t)(i % 4);
+        if (i % 4 > 0)
+            in->history[2 * i + 1]
+                = (uint8_t)(in->k - 1 + 64 * PLUNGEROWL_RECURSIVE_READ);
+    }
+}
+
+/* The exit of a hard handler that acquired 256 locks. */
+static void put_exit(struct input *in)
+{
+    unsigned i;
+
+    put_cross(in, PLUNGEROWL_EXIT_HARD);
+    in->desk[PLUNGEROWL_STATES_AT] = 6;
+    for (i = 0; i < PLUNGEROWL_MAX_KEPT; i++) {
+        in->history[2 * i] = 3;
+        in->history[2 * i + 1] = (uint8_t)(in->k - 1);
+    }
+}
+
 /* A chain through all classes in order, its kinds in turn. */
 static void put_chain(struct input *in, unsigned even, unsigned odd)
 {
@@ -614,6 +664,8 @@ static void put_random(struct input *in)
         put_full_frames(in);
     else if (below(4) == 0)
         put_fullest(in, PLUNGEROWL_RELEASE + below(2));
+    else if (below(3) == 0)
+        put_cross(in, PLUNGEROWL_CROSS_ACQUIRE + below(3));
 }
 
 /* Acquires and releases in all modes and hard ons, every fourth of any bytes:
@@ -651,7 +703,7 @@ static unsigned piece_of(unsigned shape)
 }
 
 enum { RINGS = 13, DIAGONALS = RINGS + 4, DEEPEST = DIAGONALS + 4,
-       SHAPES = DEEPEST + 13 };
+       CROSSES = DEEPEST + 13, SHAPES = CROSSES + 8 };
 
 static void make_input(struct input *in, unsigned k, unsigned shape)
 {
@@ -713,6 +765,18 @@ static void make_input(struct input *in, unsigned k, unsigned shape)
                                                   : PLUNGEROWL_HARD_ON);
         else
             put_full_frames(in), put_hard_on(in);
+        break;
+    case CROSSES: case CROSSES + 1: case CROSSES + 2: case CROSSES + 3:
+    case CROSSES + 4: case CROSSES + 5: case CROSSES + 6: case CROSSES + 7:
+        if (shape % 2 == CROSSES % 2) {
+            put_chain(in, PLUNGEROWL_SN | PLUNGEROWL_ER,
+                      PLUNGEROWL_SN | PLUNGEROWL_ER);
+            put(in, k - 1, 0, PLUNGEROWL_SR);
+        }
+        if ((shape - CROSSES) / 2 < 3)
+            put_cross(in, PLUNGEROWL_CROSS_ACQUIRE + (shape - CROSSES) / 2);
+        else
+            put_exit(in);
         break;
     default: put_random(in); break;
     }

@@ -1,5 +1,6 @@
 //! Balances of pieces: what is said of them, a third way to count them, and the cases with them.
 
+use crate::crosslocks;
 use crate::feeds;
 use crate::gen::{any_buffers, any_k, any_style, case, clean_style, hand_logs, read, try_style, Buffers, Kind, Style};
 use crate::judges::Subject;
@@ -80,7 +81,7 @@ pub fn held(desk: &[u8]) -> Numbers {
 // ----------------------------------------------------------------- what is in one
 
 /// How a record that is not malformed otherwise is made so, by its place in Tally::only_by.
-pub const WAYS: [&str; 12] = [
+pub const WAYS: [&str; 13] = [
     "the signature's first byte",
     "the signature's second byte",
     "core 8",
@@ -89,10 +90,11 @@ pub const WAYS: [&str; 12] = [
     "a mode over 6 of an acquire",
     "mode 6 of a release",
     "a mode over 6 of a release",
-    "kind 10",
-    "a kind over 10",
+    "kind 13",
+    "a kind over 13",
     "the class of an event",
     "the mode of an event",
+    "the mode of a crosslock's record",
 ];
 
 /// The ways in which six bytes are malformed.
@@ -109,10 +111,11 @@ fn wrong_by(six: &[u8]) -> impl Iterator<Item = usize> {
         acquire && mode > 6,
         release && mode == 6,
         release && mode > 6,
-        kind == 10,
-        kind > 10,
+        kind == 13,
+        kind > 13,
         event && class != 0,
         event && mode != 0,
+        (10..13).contains(&kind) && mode != 0,
     ];
     (0..wrong.len()).filter(move |&way| wrong[way])
 }
@@ -124,13 +127,15 @@ pub struct Tally {
     /// Records malformed in one way alone that would otherwise count for a class under 64, or be events or other kinds.
     pub only_by: [usize; WAYS.len()],
     pub malformed: usize,
-    /// Acquires and releases by their modes, and events by their kinds.
+    /// Acquires and releases by their modes, and events and records of crosslocks by their kinds.
     pub acquires: [usize; 6],
     pub releases: [usize; 6],
-    pub events: [usize; 10],
+    pub events: [usize; 13],
     /// Acquires and releases by class, 64 and above too.
     pub classes: Vec<usize>,
     pub cores: [usize; 8],
+    /// Whether a record of a crosslock has class 64 or more.
+    pub over: bool,
     /// Whether the first and the last record count; whether one counts right behind a malformed one, somewhere behind one,
     /// somewhere before one.
     pub first: bool,
@@ -174,6 +179,7 @@ impl Tally {
                     _ => t.events[usize::from(kind)] += 1,
                 }
             }
+            t.over |= way.is_none() && kind > 9 && class > 63;
             if way.is_none() && kind < 2 {
                 t.classes[class] += 1;
                 t.balances[class] += 1 - 2 * i32::from(kind);
@@ -247,15 +253,16 @@ fn malformed_by(rng: &mut Rng, way: usize, class: u8) -> Rec {
     let kind = match way {
         4 | 5 => 0,
         6 | 7 => 1,
-        8 => 10,
-        9 => rng.pick(&[11, 12, 16, 17, 32, 64, 128, 129, 254, 255]),
+        8 => 13,
+        9 => rng.pick(&[14, 15, 16, 17, 26, 32, 64, 128, 129, 254, 255]),
         10 | 11 => rng.between(2, 9) as u8,
+        12 => rng.between(10, 12) as u8,
         _ => rng.under(2) as u8,
     };
     let mode = match way {
         4 | 6 => 6,
         5 | 7 => rng.pick(&[7, 8, 9, 16, 64, 67, 128, 131, 255]),
-        11 => rng.pick(&[1, 2, 3, 5, 6, 255]),
+        11 | 12 => rng.pick(&[1, 2, 3, 5, 6, 255]),
         _ if kind < 2 => rng.under(6) as u8,
         _ => 0,
     };
@@ -283,7 +290,10 @@ fn any_record(rng: &mut Rng, mix: &Mix) -> Rec {
     }
     let core = rng.under(8) as u8;
     if rng.mille(mix.events) {
-        return Rec::new(core, rng.between(2, 9) as u8, 0, 0);
+        return match rng.mille(300) {
+            true => Rec::new(core, rng.between(10, 12) as u8, class, 0),
+            false => Rec::new(core, rng.between(2, 9) as u8, 0, 0),
+        };
     }
     let kind = u8::from(!rng.mille(mix.acquires));
     Rec::new(core, kind, class, rng.under(6) as u8)
@@ -323,8 +333,8 @@ fn off_whole(rng: &mut Rng, mut piece: Vec<u8>) -> Vec<u8> {
 }
 
 fn balances(pieces: Vec<Vec<u8>>) -> Case {
-    let [desk, sheet, seen, slip] = [const { Vec::new() }; 4];
-    case(Buffers { desk, sheet, seen, slip }, pieces.into_iter().map(Call::Balance).collect())
+    let [desk, sheet, seen, history, slip] = [const { Vec::new() }; 5];
+    case(Buffers { desk, sheet, seen, history, slip }, pieces.into_iter().map(Call::Balance).collect())
 }
 
 // -------------------------------------------------------------------------- random
@@ -379,7 +389,7 @@ fn random_bytes(rng: &mut Rng) -> Case {
                 (six[0], six[1]) = (0x4C, 0x4B);
             }
             if small {
-                (six[2], six[3], six[5]) = (six[2] % 10, six[3] % 12, six[5] % 8);
+                (six[2], six[3], six[5]) = (six[2] % 10, six[3] % 15, six[5] % 8);
                 if rng.mille(500) {
                     (six[3], six[4]) = (six[3] % 2, six[4] % 70);
                 }
@@ -431,8 +441,8 @@ fn long(rng: &mut Rng) -> Case {
     balances(vec![piece])
 }
 
-/// K and the records of a log from opening, those that a desk refuses too, or not.
-fn log_records(rng: &mut Rng, all_accepted: bool) -> (usize, Vec<Rec>) {
+/// K, the crosslocks and the records of a log from opening, those that a desk refuses too, or not.
+fn log_records(rng: &mut Rng, all_accepted: bool) -> (usize, u64, Vec<Rec>) {
     let k = any_k(rng);
     let mut style = any_style(rng, k);
     if rng.mille(500) {
@@ -453,7 +463,8 @@ fn log_records(rng: &mut Rng, all_accepted: bool) -> (usize, Vec<Rec>) {
         (style.weights, style.unordered, style.avoid) = ([6, 1, 1], 1000, 0);
         style.cores.truncate(2);
     }
-    let (mut shadow, mut records) = (Buffers::opened(k), Vec::new());
+    let declared = crosslocks::some(rng, k, if full { 0 } else { 250 });
+    let (mut shadow, mut records) = (Buffers::declaring(k, declared), Vec::new());
     for _ in 0..if full { rng.pick(&[80, 150]) } else { rng.pick(&[5, 30, 80, 150]) } {
         let (record, answer) = shadow.next(rng, &style);
         if record.slice().len() == 6 && (answer < 2 || !all_accepted) {
@@ -463,11 +474,11 @@ fn log_records(rng: &mut Rng, all_accepted: bool) -> (usize, Vec<Rec>) {
             break;
         }
     }
-    (k, records)
+    (k, declared, records)
 }
 
 fn of_log(rng: &mut Rng) -> Case {
-    let (_, records) = log_records(rng, false);
+    let (_, _, records) = log_records(rng, false);
     let mut pieces = Vec::new();
     for _ in 0..rng.between(1, 3) {
         let a = rng.between(0, records.len());
@@ -480,8 +491,8 @@ fn of_log(rng: &mut Rng) -> Case {
 /// A log judged from opening on, and the balances of what was judged so far.
 fn beside_desk(rng: &mut Rng) -> Case {
     let all_accepted = rng.mille(500);
-    let (k, records) = log_records(rng, all_accepted);
-    let mut calls = vec![Call::Open(k as u64)];
+    let (k, declared, records) = log_records(rng, all_accepted);
+    let mut calls = vec![Call::Open(k as u64, declared)];
     for (at, record) in records.iter().enumerate() {
         if rng.mille(30) {
             calls.push(Call::Balance(bytes_of(&records[..at])));
@@ -494,8 +505,8 @@ fn beside_desk(rng: &mut Rng) -> Case {
 
 /// A log with its header, cut at any byte.
 fn cut_anywhere(rng: &mut Rng) -> Case {
-    let (k, records) = log_records(rng, false);
-    let log = feeds::log_of(k as u8, &records);
+    let (k, declared, records) = log_records(rng, false);
+    let log = feeds::log_behind(feeds::any_header(rng, k as u8, declared), &records);
     some(rng, |rng| {
         let a = rng.pick(&[0, 0, 4, rng.clone().under(log.len())]);
         let b = rng.between(a, log.len());
@@ -560,7 +571,7 @@ pub const EACH_CUT: &str = "each cut of a log as a piece";
 pub const HAND_LOGS: &str = "hand logs and their balances";
 
 /// Worked out by hand: the records as in gen::read, and the lines that the program of 02 f prints.
-const HAND_PIECES: [(&str, &[(usize, i32)]); 28] = [
+const HAND_PIECES: [(&str, &[(usize, i32)]); 33] = [
     ("", &[]),
     ("0:9E", &[(9, 1)]),
     // The take may be before the piece.
@@ -597,6 +608,12 @@ const HAND_PIECES: [(&str, &[(usize, i32)]); 28] = [
         &[(5, 50)],
     ),
     ("0:1E H+ -1E", &[]),
+    // Crosslocks are taken, committed and released, whatever is declared, and count nothing.
+    ("0:x9 c9 -x9", &[]),
+    ("0:9E x9 1:9E 1:c9 1:-x9", &[(9, 2)]),
+    ("0:x0 0:x63 0:x64 3:-0E", &[(0, -1)]),
+    ("2:c5 2:5E 2:c5 2:-x5 2:-x255", &[(5, 1)]),
+    ("0:-x1 0:-1E 0:x1 0:-1E", &[(1, -2)]),
     // After a fault.
     ("0:1E 2E -2E -1E 1:2E 1E 3E 4E -4E", &[(1, 1), (2, 1), (3, 1)]),
 ];
@@ -629,10 +646,11 @@ fn each_length(rng: &mut Rng, each: &mut dyn FnMut(Case) -> bool) -> bool {
 /// Each byte of a record of each kind with each value, between two that count.
 fn each_byte(_: &mut Rng, each: &mut dyn FnMut(Case) -> bool) -> bool {
     let (before, behind) = (Rec::new(3, 0, 20, 4), Rec::new(4, 1, 40, 5));
-    let bytes = (0..=10).flat_map(|kind| (0..6).map(move |at| (kind, at)));
+    let bytes = (0..=13).flat_map(|kind| (0..6).map(move |at| (kind, at)));
     let mut all = bytes.flat_map(|(kind, at)| (0..=255).map(move |value| (kind, at, value)));
     all.all(|(kind, at, value)| {
-        let mut record = Rec::new(5, kind, if kind < 2 { 30 } else { 0 }, if kind < 2 { 2 } else { 0 });
+        let has_class = kind < 2 || (10..13).contains(&kind);
+        let mut record = Rec::new(5, kind, if has_class { 30 } else { 0 }, if kind < 2 { 2 } else { 0 });
         record.bytes[at] = value;
         each(balances(vec![bytes_of(&[before, record, behind])]))
     })
@@ -687,13 +705,15 @@ fn alone(_: &mut Rng, each: &mut dyn FnMut(Case) -> bool) -> bool {
     })
 }
 
-/// A header before records, or among them: 14 for its four bytes; with two more it is a malformed record.
+/// A header before records, or among them: 14 for its four bytes; with two more it is a malformed record, and the twelve of the long
+/// one are two.
 fn headers(_: &mut Rng, each: &mut dyn FnMut(Case) -> bool) -> bool {
     let good = [Rec::new(0, 0, 3, 0), Rec::new(1, 0, 4, 1), Rec::new(2, 1, 5, 2)];
     let all = [0, 1, 8, 64, 65, 255].into_iter().flat_map(|k| (0..=3).map(move |records| (k, records)));
-    let mut all = all.flat_map(|(k, records)| [(0, false), (0, true), (2, false), (2, true)].map(|more| (k, records, more)));
+    let mores = [(0, false), (0, true), (2, false), (2, true), (8, false), (8, true), (7, false)];
+    let mut all = all.flat_map(|(k, records)| mores.map(|more| (k, records, more)));
     all.all(|(k, records, (more, behind))| {
-        let mut header = vec![0x4C, 0x48, 1, k];
+        let mut header = vec![0x4C, 0x48, if more > 2 { 2 } else { 1 }, k];
         header.resize(4 + more, 0);
         let records = bytes_of(&good[..records]);
         each(balances(vec![if behind { [records, header].concat() } else { [header, records].concat() }]))
@@ -714,7 +734,7 @@ fn of_hand_logs(rng: &mut Rng, each: &mut dyn FnMut(Case) -> bool) -> bool {
         records.extend([Rec::new(0, 1, 62, 4), Rec::new(0, 0, 61, 3), Rec::new(0, 9, 0, 0), Rec::new(0, 1, 0, 5)]);
         let steps = (0..records.len()).flat_map(|at| [Call::Balance(bytes_of(&records[..at])), Call::Step(records[at])]);
         let end = Call::Balance(bytes_of(&records));
-        let calls = [Call::Open(log.k as u64)].into_iter().chain(steps).chain([end]).collect();
+        let calls = [Call::Open(log.k as u64, 0)].into_iter().chain(steps).chain([end]).collect();
         each(case(any_buffers(rng, log.k), calls))
     })
 }

@@ -4,6 +4,7 @@
 //! not be, or the other way round.
 
 use crate::balances;
+use crate::crosslocks;
 use crate::feeds;
 use crate::gen::{clean_style, try_style, Buffers, Style};
 use crate::judges::{library, Balance, Feed, Join};
@@ -15,7 +16,7 @@ use reference::{DEEPEST, DEPTHS, FEED, HOLDS, MARKS, STATES};
 use std::hint::black_box;
 use std::time::Instant;
 
-type StepFn = fn(&mut [u8], &mut [u8], &mut [u8], &mut [u8], &[u8]) -> u8;
+type StepFn = fn(&mut [u8], &mut [u8], &mut [u8], &mut [u8], &mut [u8], &[u8]) -> u8;
 type AskFn = fn(&[u8], &[u8], &[u8], u64, &mut u64, &mut u32) -> u8;
 
 const ROUNDS: usize = 15;
@@ -70,7 +71,8 @@ fn deep(k: usize, dense: bool) -> Buffers {
 
 /// A step in the buffers.
 fn on(step: StepFn, s: &mut Buffers, record: &Rec) -> u8 {
-    step(black_box(&mut s.desk), black_box(&mut s.sheet), black_box(&mut s.seen), &mut s.slip, record.slice())
+    let (sheet, seen, history) = (black_box(&mut s.sheet), black_box(&mut s.seen), black_box(&mut s.history));
+    step(black_box(&mut s.desk), sheet, seen, history, &mut s.slip, record.slice())
 }
 
 /// Drawings of 64 classes with a cycle: from, to, kinds.
@@ -122,7 +124,7 @@ fn fault_rows() -> bool {
             let started = Instant::now();
             let answer = on(step, &mut s, &record);
             let t = started.elapsed().as_secs_f64();
-            *left = [vec![answer], s.desk, s.sheet, s.seen, s.slip].concat();
+            *left = [vec![answer], s.desk, s.sheet, s.seen, s.history, s.slip].concat();
             t
         };
         let [a, b] = &mut left;
@@ -166,7 +168,7 @@ fn join_rows() -> bool {
         let n = if fault { 200 } else { 2000 };
         let mut left = [Vec::new(), Vec::new()];
         let time = |join: Join, left: &mut Vec<u8>| {
-            let Buffers { mut desk, mut sheet, mut seen, mut slip } = Buffers::opened(k);
+            let Buffers { mut desk, mut sheet, mut seen, mut slip, .. } = Buffers::opened(k);
             let mut sum = 0;
             let started = Instant::now();
             for _ in 0..n {
@@ -226,7 +228,7 @@ fn clash_rows() -> bool {
                     sum += on(step, s, &record);
                 }
                 let t = started.elapsed().as_secs_f64();
-                *left = copies.iter().fold(vec![sum], |all, s| [&all[..], &s.desk, &s.sheet, &s.seen, &s.slip].concat());
+                *left = copies.iter().fold(vec![sum], |all, s| [&all[..], &s.desk, &s.sheet, &s.seen, &s.history, &s.slip].concat());
                 t
             };
             let [a, b] = &mut left;
@@ -238,6 +240,95 @@ fn clash_rows() -> bool {
             }
             let (dense, up) = (if dense { "dense" } else { "sparse" }, if up { "upward" } else { "downward" });
             row(&format!("clash of the highest class, K = {k}, {dense}, {up}"), times, COPIES);
+        }
+    }
+    well
+}
+
+/// The last class a crosslock in progress since 0, and so many acquires of the others kept in this frame; nothing drawn, or a clean
+/// drawing as above, and core 0 in a task with all off.
+fn with_history(k: usize, kept: usize, frame: usize, drawn: bool) -> Buffers {
+    let mut s = if drawn { drawing(k, false) } else { Buffers::opened(k) };
+    s.desk[STATES] = 3;
+    crosslocks::put(&mut s, 1 << (k - 1), kept, &|at| [1 + frame as u8, (at % (k - 1) + 64 * (at % 3)) as u8]);
+    s
+}
+
+/// These records in turn, so many in all; whether the two left the same and all were accepted.
+fn turn_row(name: &str, start: &Buffers, records: &[Rec], n: usize) -> bool {
+    let mut left = [Vec::new(), Vec::new()];
+    let time = |step: StepFn, left: &mut Vec<u8>| {
+        let (mut s, mut sum) = (start.clone(), 0u64);
+        let started = Instant::now();
+        for i in 0..n {
+            sum += u64::from(on(step, &mut s, &records[i % records.len()]));
+        }
+        let t = started.elapsed().as_secs_f64();
+        *left = [s.desk, s.sheet, s.seen, s.history, vec![sum.min(255) as u8]].concat();
+        t
+    };
+    let [a, b] = &mut left;
+    let times = best(|| time(library::step, a), || time(fast::step, b), ROUNDS);
+    row(name, times, n);
+    let well = left[0] == left[1] && left[0].last() == Some(&0);
+    if !well {
+        println!("the two differ, or not clean");
+    }
+    well
+}
+
+/// One step on many copies.
+fn copies_row(name: &str, start: &Buffers, record: &Rec) -> bool {
+    const COPIES: usize = 64;
+    let mut left = [Vec::new(), Vec::new()];
+    let time = |step: StepFn, left: &mut Vec<u8>| {
+        let (mut copies, mut sum) = (vec![start.clone(); COPIES], 0u64);
+        let started = Instant::now();
+        for s in &mut copies {
+            sum += u64::from(on(step, s, record));
+        }
+        let t = started.elapsed().as_secs_f64();
+        let last = &copies[COPIES - 1];
+        *left = [&last.desk, &last.sheet, &last.seen, &last.history, &[sum.min(255) as u8][..]].concat();
+        t
+    };
+    let [a, b] = &mut left;
+    let times = best(|| time(library::step, a), || time(fast::step, b), 60);
+    row(name, times, COPIES);
+    let well = left[0] == left[1] && left[0].last() == Some(&0);
+    if !well {
+        println!("the two differ, or not clean");
+    }
+    well
+}
+
+/// Crosslocks in progress with a history of 0, 16 and 256; acquires that are kept; a take, a commit over 256 entries, and an exit that
+/// strikes out 256 or none of them.
+fn crosslock_rows() -> bool {
+    let mut well = true;
+    let events = [Rec::new(0, 2, 0, 0), Rec::new(0, 3, 0, 0)];
+    for k in [8usize, 64] {
+        well &= turn_row(&format!("event, none declared, K = {k}"), &drawing(k, false), &events, 20_000);
+        for kept in [0, 16, 256] {
+            let name = format!("event, a crosslock in progress, history of {kept}, K = {k}");
+            well &= turn_row(&name, &with_history(k, kept, 0, true), &events, 20_000);
+        }
+        let last = k as u8 - 1;
+        let mut all = vec![Rec::new(0, 10, last, 0)];
+        all.extend((0..256).flat_map(|_| [0, 1].map(|kind| Rec::new(0, kind, 3, 0))));
+        all.push(Rec::new(0, 12, last, 0));
+        let mut start = with_history(k, 0, 0, false);
+        crosslocks::put(&mut start, 1 << last, 0, &|_| [0; 2]);
+        start.desk[reference::PROGRESS..reference::KEPT_COUNT].fill(0);
+        well &= turn_row(&format!("256 acquires kept and released, K = {k}"), &start, &all, 20 * all.len());
+        well &= turn_row(&format!("crosslock taken and released, K = {k}"), &start, &[all[0], all[513]], 20_000);
+        let commit = [Rec::new(0, 11, last, 0)];
+        well &= turn_row(&format!("commit over 256 entries of the frame, K = {k}"), &with_history(k, 256, 0, false), &commit, 20_000);
+        well &= turn_row(&format!("commit over 256 entries of another, K = {k}"), &with_history(k, 256, 3, false), &commit, 20_000);
+        for (frame, what) in [(5, "256 entries"), (4, "none of 256 entries")] {
+            let mut s = with_history(k, 256, frame, false);
+            s.desk[STATES + 1] = 6;
+            well &= copies_row(&format!("exit that strikes out {what}, K = {k}"), &s, &Rec::new(1, 9, 0, 0));
         }
     }
     well
@@ -255,28 +346,28 @@ fn best(mut a: impl FnMut() -> f64, mut b: impl FnMut() -> f64, rounds: usize) -
 
 /// A log in pieces of 4096 and of 64 bytes, beside the same records by single steps, all taking turns; whether all left
 /// the same.
-fn feed_rows(k: usize, log: &[Rec], what: &str) -> bool {
-    let bytes = feeds::log_of(k as u8, log);
+fn feed_rows(k: usize, declared: u64, log: &[Rec], what: &str) -> bool {
+    let bytes = feeds::log_behind(feeds::long_header(k as u8, declared), log);
     let feed = |feed: Feed, size: usize, left: &mut Vec<u8>| {
         let mut s = Buffers::opened(k);
         let (mut own, mut sum, mut number) = ([0; FEED], 0u64, 0);
         let started = Instant::now();
         for piece in bytes.chunks(size) {
-            sum += u64::from(feed(&mut own, &mut s.desk, &mut s.sheet, &mut s.seen, &mut s.slip, piece, &mut number));
+            sum += u64::from(feed(&mut own, &mut s.desk, &mut s.sheet, &mut s.seen, &mut s.history, &mut s.slip, piece, &mut number));
         }
         let t = started.elapsed().as_secs_f64();
-        *left = [s.desk, s.sheet, s.seen, vec![sum.min(255) as u8, u8::from(number == log.len() as u64)]].concat();
+        *left = [s.desk, s.sheet, s.seen, s.history, vec![sum.min(255) as u8, u8::from(number == log.len() as u64)]].concat();
         t
     };
     let steps = |step: StepFn, left: &mut Vec<u8>| {
-        let mut s = Buffers::opened(k);
+        let mut s = Buffers::declaring(k, declared);
         let mut sum = 0u64;
         let started = Instant::now();
         for record in log {
             sum += u64::from(on(step, &mut s, record));
         }
         let t = started.elapsed().as_secs_f64();
-        *left = [s.desk, s.sheet, s.seen, vec![sum.min(255) as u8, 1]].concat();
+        *left = [s.desk, s.sheet, s.seen, s.history, vec![sum.min(255) as u8, 1]].concat();
         t
     };
     let (mut best, mut left) = ([f64::MAX; 6], [const { Vec::new() }; 6]);
@@ -404,13 +495,16 @@ pub fn run() -> bool {
             row(&format!("question, K = {k}, {}", if dense { "dense" } else { "sparse" }), times, n);
         }
     }
-    let logs: [(fn(usize) -> Style, &str); 2] = [(clean_style, "log of 200000"), (try_style, "log with tries")];
+    well &= crosslock_rows();
+    let logs: [(fn(usize) -> Style, &str); 3] =
+        [(clean_style, "log of 200000"), (try_style, "log with tries"), (clean_style, "log with crosslocks")];
     for ((style, name), k) in logs.into_iter().flat_map(|log| [(log, 8usize), (log, 64)]) {
         // A clean log, every record accepted.
         let n = 200_000;
         let rng = &mut Rng::new(9);
         let style = style(k);
-        let mut shadow = Buffers::opened(k);
+        let declared = if name == logs[2].1 { 1 << (k - 1) | 1 << (k / 2) } else { 0 };
+        let mut shadow = Buffers::declaring(k, declared);
         let mut log = Vec::with_capacity(n);
         while log.len() < n {
             let (record, answer) = shadow.next(rng, &style);
@@ -426,14 +520,14 @@ pub fn run() -> bool {
         let arrows = shadow.sheet.iter().map(|b| b.count_ones()).sum::<u32>();
         let mut ends = [Vec::new(), Vec::new()];
         let time = |step: StepFn, end: &mut Vec<u8>| {
-            let mut s = Buffers::opened(k);
+            let mut s = Buffers::declaring(k, declared);
             let mut sum = 0u64;
             let started = Instant::now();
             for r in &log {
                 sum += u64::from(on(step, &mut s, r));
             }
             let t = started.elapsed().as_secs_f64();
-            *end = [s.desk, s.sheet, s.seen, vec![sum.min(255) as u8]].concat();
+            *end = [s.desk, s.sheet, s.seen, s.history, vec![sum.min(255) as u8]].concat();
             t
         };
         let [e0, e1] = &mut ends;
@@ -444,8 +538,8 @@ pub fn run() -> bool {
         }
         row(&format!("{name}, K = {k}, per record"), times, n);
         println!("{:54} {:.3} s and {:.3} s whole; {arrows} hold arrows drawn at the end", "", times.0, times.1);
-        if name == logs[0].1 {
-            well &= feed_rows(k, &log, name);
+        if name != logs[1].1 {
+            well &= feed_rows(k, declared, &log, name);
         }
     }
     well

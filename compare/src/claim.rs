@@ -1,7 +1,7 @@
 //! Demand 3: one claim about two lists of records, the second being the first with records put in that name no core of
 //! the first. It is told from the answers and from each list's own drawing, not from another judge. It says nothing of the
 //! count and of first-seen numbers, which are others in the two lists; each list's are held to its own records alone (see
-//! src/run.rs).
+//! src/run.rs). Crosslocks limit it: both lists declare the same, no record of kinds 10 to 12 is put in, and neither list meets 19.
 
 use crate::drawing::Drawing;
 use crate::run::Rec;
@@ -19,6 +19,8 @@ pub const PARTS: [&str; 5] = [
 /// a closed strong path.
 pub struct Run<'a> {
     pub name: &'static str,
+    /// The crosslocks.
+    pub declared: u64,
     pub records: Vec<&'a Rec>,
     pub answers: &'a [u8],
     pub places: Vec<usize>,
@@ -30,9 +32,9 @@ impl Run<'_> {
     pub fn fault(&self) -> Option<usize> {
         self.answers.iter().position(|&a| a == 1)
     }
-    /// Demand 3 holds "if neither run meets 9".
-    fn meets_9(&self) -> bool {
-        self.answers.contains(&9)
+    /// Demand 3 holds "if neither run meets 9", and "neither run meets 19".
+    fn meets_limit(&self) -> bool {
+        self.answers.contains(&9) || self.answers.contains(&19)
     }
 }
 
@@ -42,12 +44,14 @@ pub type Broken = (&'static str, usize, String);
 /// Whether the lists are such as the claim speaks of.
 pub fn applies(first: &Run, second: &Run) -> bool {
     let named: Vec<u8> = first.records.iter().filter_map(|r| r.names()).collect();
-    let put_in = second.records.iter().enumerate().filter(|(at, _)| !first.places.contains(at));
-    !first.meets_9()
-        && !second.meets_9()
+    let put_in = || second.records.iter().enumerate().filter(|(at, _)| !first.places.contains(at)).map(|(_, record)| record);
+    !first.meets_limit()
+        && !second.meets_limit()
+        && first.declared == second.declared
+        && !put_in().any(|record| record.of_crosslock())
         && first.records.iter().zip(&first.places).all(|(r, &at)| *r == second.records[at])
         && first.places.windows(2).all(|w| w[0] < w[1])
-        && put_in.filter_map(|(_, r)| r.names()).all(|core| !named.contains(&core))
+        && put_in().filter_map(|record| record.names()).all(|core| !named.contains(&core))
 }
 
 /// The first part that is broken, in the order of PARTS.

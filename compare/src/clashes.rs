@@ -316,7 +316,7 @@ fn log(rng: &mut Rng) -> Case {
         acquire(2, state, rng.under(6) as u8);
         log.push(Rec::new(2, event, 0, 0));
     }
-    let mut calls = vec![Call::Open(k as u64)];
+    let mut calls = vec![Call::Open(k as u64, 0)];
     calls.extend(log.into_iter().map(Call::Step));
     case(any_buffers(rng, k), calls)
 }

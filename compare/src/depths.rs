@@ -36,7 +36,7 @@ fn log(rng: &mut Rng) -> Case {
     let k = rng.pick(&[1, 2, 3, 8, 64, 64, 64, 33, 49]);
     let mut style = filling(rng, k);
     style.cores.truncate(rng.pick(&[1, 1, 2]));
-    let mut calls = vec![Call::Open(k as u64)];
+    let mut calls = vec![Call::Open(k as u64, 0)];
     let most = rng.pick(&[70, 120, 160]);
     steps(rng, &style, &mut Buffers::opened(k), most, &mut calls);
     case(any_buffers(rng, k), calls)
@@ -192,7 +192,7 @@ fn filled(_: &mut Rng, each: &mut dyn FnMut(Case) -> bool) -> bool {
     let mut all = (0..FRAMES).flat_map(|frame| (0..3).map(move |how| (frame, how)));
     all.all(|(frame, how)| {
         let (core, into) = ((frame / 3) as u8, INTO[frame % 3]);
-        let mut calls = vec![Call::Open(K as u64)];
+        let mut calls = vec![Call::Open(K as u64, 0)];
         calls.extend(into.map(|kind| Call::Step(Rec::new(core, kind, 0, 0))));
         let mut answers = vec![0; calls.len()];
         // Recursive reads where they wait: whatever is drawn is clean.
@@ -338,7 +338,7 @@ fn each_size(_: &mut Rng, each: &mut dyn FnMut(Case) -> bool) -> bool {
         }
         buffers.desk.resize(length, 0);
         let two = || [Call::Step(Rec::new(1, 0, 0, 2)), Call::Ask(0)];
-        let calls = two().into_iter().chain([Call::Open(k as u64)]).chain(two()).collect();
+        let calls = two().into_iter().chain([Call::Open(k as u64, 0)]).chain(two()).collect();
         let answers = if length >= DESK { vec![0; 5] } else { vec![11, 11, 2, 11, 11] };
         let meant = Some(Meant { answers, ..Meant::default() });
         each(Case { name: EACH_SIZE, meant, ..case(buffers, calls) })

@@ -1,11 +1,12 @@
 //! The drawing of a list of records, as document 01 has it under "Two desks, one claim": it starts from zero and is worked
 //! out from K and the records, never from what a call left in desk or sheet; behind a join it starts from what the two benches
 //! have. With it the count of accepted records and the first-seen numbers. No code is shared with a judge, the depth's number
-//! and the places on a desk alone.
+//! and the places on a desk alone. Of crosslocks it keeps all acquires with the number of the visit in which they were made, and strikes
+//! nothing out: what a commit draws, what is in progress, and every kept entry follow from the numbers of visits.
 
 use crate::judges::Lent;
 use crate::run::Rec;
-use reference::{COUNT, DEEPEST, DESK, HOLDS, MARKS};
+use reference::{COUNT, DECLARED, DEEPEST, HOLDS, KEPT_COUNT, MARKS, MOST_IN_PROGRESS, MOST_KEPT, PROGRESS, SINCE};
 
 /// No next state.
 pub const X: u8 = 255;
@@ -48,6 +49,30 @@ impl HeldLock {
 struct Core {
     state: u8,
     frames: [Vec<HeldLock>; 3],
+    /// How often each of its handlers was entered; the task has one visit without an end.
+    visits: [u64; 3],
+}
+
+/// An acquire that is kept, and the visit in which it was made.
+struct Take {
+    core: usize,
+    frame: usize,
+    visit: u64,
+    class: usize,
+    mode: u8,
+}
+
+impl Take {
+    /// Whether its visit goes on.
+    fn goes_on(&self, cores: &[Core; 8]) -> bool {
+        let core = &cores[self.core];
+        let inside = match self.frame {
+            0 => true,
+            1 => [4, 5, 8].contains(&core.state),
+            _ => core.state > 5,
+        };
+        inside && core.visits[self.frame] == self.visit
+    }
 }
 
 /// A set of arrivals, bit by bit.
@@ -55,6 +80,11 @@ type Set = u128;
 
 pub struct Drawing {
     k: usize,
+    /// The crosslocks, and those in progress, each with how many acquires were kept when it was taken.
+    pub declared: u64,
+    in_progress: Vec<(usize, usize)>,
+    /// Since some crosslock is in progress.
+    takes: Vec<Take>,
     cores: [Core; 8],
     /// How many records were accepted.
     accepted: u32,
@@ -72,9 +102,12 @@ pub struct Drawing {
 
 impl Drawing {
     /// Of no records.
-    pub fn opened(k: usize) -> Drawing {
+    pub fn opened(k: usize, declared: u64) -> Drawing {
         Drawing {
             k,
+            declared,
+            in_progress: Vec::new(),
+            takes: Vec::new(),
             cores: Default::default(),
             accepted: 0,
             closed: false,
@@ -89,7 +122,8 @@ impl Drawing {
     /// that are there. No record is counted, and the cores are fresh.
     pub fn joined([one, kinds_one, seen_one]: Lent, [two, kinds_two, seen_two]: Lent) -> Drawing {
         let k = usize::from(one[0]);
-        let mut drawing = Drawing::opened(k);
+        let declared = (0..64).filter(|class| one[DECLARED + class / 8] >> (class % 8) & 1 == 1).map(|class| 1 << class).sum();
+        let mut drawing = Drawing::opened(k, declared);
         for (pair, first_seen) in drawing.first_seen.iter_mut().enumerate() {
             let (from, to) = (pair / k, pair % k);
             for kind in (0..4).filter(|kind| (kinds_one[pair] >> kind | kinds_two[pair] >> kind) & 1 == 1) {
@@ -116,31 +150,69 @@ impl Drawing {
         let Some(named) = record.names().filter(|_| !self.closed && self.accepted < u32::MAX) else { return };
         let [_, _, _, kind, class, mode, ..] = record.bytes;
         let lock = HeldLock { class: usize::from(class), mode: mode % 3, tried: mode > 2 };
+        let of_lock = kind < 2;
+        if of_lock || kind > 9 {
+            let is_crosslock = lock.class < self.k && self.declared >> lock.class & 1 == 1;
+            if lock.class >= self.k || of_lock == is_crosslock {
+                return;
+            }
+        }
+        let number = (self.accepted + 1).to_le_bytes();
+        let mut draw = |from: usize, first: usize, arrival: usize| {
+            self.leads[from][first] |= 1 << arrival;
+            let first_seen = &mut self.first_seen[from * self.k + arrival % 64];
+            if *first_seen == [0; 4] {
+                *first_seen = number;
+            }
+        };
         let core = &mut self.cores[usize::from(named)];
-        let held = &mut core.frames[FRAME[usize::from(core.state)]];
-        match kind {
-            0 | 1 if lock.class >= self.k => return,
-            0 if held.len() == DEEPEST => return,
-            0 => {
+        let frame = FRAME[usize::from(core.state)];
+        let visit = core.visits[frame];
+        let held = &mut core.frames[frame];
+        let progress = self.in_progress.iter().position(|&(class, _)| class == lock.class);
+        let is_kept = kind == 0 && !lock.tried && !self.in_progress.is_empty();
+        match (kind, progress) {
+            (0, _) if held.len() == DEEPEST || is_kept && self.takes.len() == MOST_KEPT => return,
+            (0, _) => {
                 if !lock.tried {
-                    for older in held.iter() {
-                        self.leads[older.class][older.first()] |= 1 << lock.arrival();
-                        let number = &mut self.first_seen[older.class * self.k + lock.class];
-                        if *number == [0; 4] {
-                            *number = (self.accepted + 1).to_le_bytes();
-                        }
-                    }
+                    held.iter().for_each(|older| draw(older.class, older.first(), lock.arrival()));
                 }
                 held.push(lock);
+                if is_kept {
+                    self.takes.push(Take { core: usize::from(named), frame, visit, class: lock.class, mode: lock.mode });
+                }
             }
-            1 => match held.iter().rposition(|h| h.class == lock.class) {
+            (10, None) if self.in_progress.len() < MOST_IN_PROGRESS => {
+                // It is waited for, and is no lock that could be read.
+                held.iter().for_each(|older| draw(older.class, older.first(), lock.class));
+                self.in_progress.push((lock.class, self.takes.len()));
+            }
+            (11, Some(at)) => {
+                let here = |take: &&Take| (take.core, take.frame, take.visit) == (usize::from(named), frame, visit);
+                for take in self.takes.iter().skip(self.in_progress[at].1).filter(here) {
+                    draw(lock.class, 0, take.class + if take.mode == 2 { 64 } else { 0 });
+                }
+            }
+            (12, Some(at)) => {
+                self.in_progress.remove(at);
+                if self.in_progress.is_empty() {
+                    self.takes.clear();
+                }
+            }
+            (10.., _) => return,
+            (1, _) => match held.iter().rposition(|h| h.class == lock.class) {
                 Some(newest) if held[newest] == lock => drop(held.remove(newest)),
                 _ => return,
             },
             _ => match NEXT[usize::from(core.state)][usize::from(kind) - 2] {
                 X => return,
                 _ if (kind == 7 || kind == 9) && !held.is_empty() => return,
-                next => core.state = next,
+                next => {
+                    core.state = next;
+                    if kind == 6 || kind == 8 {
+                        core.visits[usize::from(kind) / 2 - 2] += 1;
+                    }
+                }
             },
         }
         self.accepted += 1;
@@ -189,7 +261,7 @@ impl Drawing {
 impl Drawing {
     /// The count, or a number.
     pub fn numbers_differ(&self, desk: &[u8], seen: &[u8]) -> Option<String> {
-        let (count, want) = (&desk[COUNT..DESK], self.accepted.to_le_bytes());
+        let (count, want) = (&desk[COUNT..COUNT + 4], self.accepted.to_le_bytes());
         if *count != want {
             return Some(format!("count {count:?}, and {want:?} by the records"));
         }
@@ -200,6 +272,35 @@ impl Drawing {
         let (pair, (number, want)) = numbers.zip(&self.first_seen).enumerate().find(|(_, (a, b))| a[..] != b[..])?;
         let (from, to) = (pair / self.k, pair % self.k);
         Some(format!("number {number:?} from {from} to {to}, and {want:?} by the records"))
+    }
+
+    /// Where crosslocks are declared: a pair's kinds, a class's marks, what is in progress, what is kept, or an entry of the history.
+    pub fn crosslocks_differ(&self, desk: &[u8], sheet: &[u8], history: &[u8]) -> Option<String> {
+        if self.declared == 0 {
+            let lists = desk[DECLARED..SINCE].iter().any(|&byte| byte != 0);
+            return lists.then(|| "crosslocks, and none by the records".into());
+        }
+        let word = |classes: &mut dyn Iterator<Item = usize>| classes.fold(0u64, |word, class| word | 1 << class).to_le_bytes();
+        let wanted = word(&mut self.in_progress.iter().map(|&(class, _)| class));
+        if desk[DECLARED..PROGRESS] != self.declared.to_le_bytes() || desk[PROGRESS..KEPT_COUNT] != wanted {
+            return Some(format!("in progress {:?}, and {wanted:?} by the records", &desk[PROGRESS..KEPT_COUNT]));
+        }
+        let four = |at: usize, number: usize| desk[at..at + 4] == (number as u32).to_le_bytes();
+        if !four(KEPT_COUNT, self.takes.len()) {
+            return Some(format!("kept {:?}, and {} by the records", &desk[KEPT_COUNT..SINCE], self.takes.len()));
+        }
+        if let Some((class, since)) = self.in_progress.iter().find(|(class, since)| !four(SINCE + 4 * class, *since)) {
+            return Some(format!("another number than {since} since crosslock {class} was taken"));
+        }
+        let entry = |take: &Take| match take.goes_on(&self.cores) {
+            true => [(1 + 3 * take.core + take.frame) as u8, take.class as u8 + 64 * take.mode],
+            false => [0; 2],
+        };
+        let mut entries = history.chunks_exact(2).zip(&self.takes).map(|(bytes, take)| (bytes, entry(take)));
+        if let Some((bytes, wanted)) = entries.find(|(bytes, wanted)| bytes != wanted) {
+            return Some(format!("kept entry {bytes:?}, and {wanted:?} by the records"));
+        }
+        self.kinds_differ(desk, sheet)
     }
 
     /// A pair's kinds, or a class's marks.

@@ -7,7 +7,8 @@
 //! run of the comparer. No unsafe code.
 #![forbid(unsafe_code)]
 
-use reference::{COUNT, DEEPEST, DEPTHS, DESK, HOLDS, MARKS, ORIGINS, STATES};
+use reference::{COUNT, DECLARED, DEEPEST, DEPTHS, DESK, HISTORY, HOLDS, KEPT_COUNT, MARKS, ORIGINS, PROGRESS, SINCE, STATES};
+use reference::{MOST_IN_PROGRESS, MOST_KEPT};
 
 const X: u8 = 255;
 /// All unsafe mark bits.
@@ -51,24 +52,60 @@ static CLASH: [bool; 256] = {
     list
 };
 
-pub fn open(k: u64, desk: &mut [u8], sheet: &mut [u8], seen: &mut [u8]) -> u8 {
-    if k.wrapping_sub(1) > 63 {
+pub fn open(k: u64, declared: u64, desk: &mut [u8], sheet: &mut [u8], seen: &mut [u8], history: &mut [u8]) -> u8 {
+    if k.wrapping_sub(1) > 63 || over(declared, k as usize) {
         return 2;
     }
     let size = (k * k) as usize;
-    if desk.len() < DESK || sheet.len() < size || seen.len() < 4 * size {
+    if desk.len() < DESK || sheet.len() < size || seen.len() < 4 * size || history.len() < HISTORY {
         return 2;
     }
     desk[..DESK].fill(0);
     desk[0] = k as u8;
+    desk[DECLARED..PROGRESS].copy_from_slice(&declared.to_le_bytes());
     sheet[..size].fill(0);
     seen[..4 * size].fill(0);
+    history[..HISTORY].fill(0);
     0
+}
+
+/// Whether a word has a bit of a class of K or more; K is 1 to 64.
+#[inline]
+fn over(word: u64, k: usize) -> bool {
+    word & !(u64::MAX >> (64 - k)) != 0
 }
 
 #[inline]
 fn count(desk: &[u8; DESK]) -> u32 {
-    u32::from_le_bytes(desk[COUNT..].try_into().unwrap())
+    four(desk, COUNT)
+}
+
+#[inline]
+fn four(desk: &[u8; DESK], at: usize) -> u32 {
+    u32::from_le_bytes(desk[at..at + 4].try_into().unwrap())
+}
+
+#[inline]
+fn eight(desk: &[u8; DESK], at: usize) -> u64 {
+    u64::from_le_bytes(desk[at..at + 8].try_into().unwrap())
+}
+
+/// Whether the words of crosslocks and the kept count fit.
+#[inline]
+fn lists_fit(desk: &[u8; DESK], k: usize) -> bool {
+    let (declared, progress) = (eight(desk, DECLARED), eight(desk, PROGRESS));
+    !over(declared, k) & (progress & !declared == 0) & (progress.count_ones() as usize <= MOST_IN_PROGRESS) & (four(desk, KEPT_COUNT) as usize <= MOST_KEPT)
+}
+
+/// Whether the kept entries fit; one that is struck out is class 0 in mode 0.
+#[inline]
+fn history_fits(kept: &[u8], k: u8) -> bool {
+    let mut wrong = 0;
+    for &[place, lock] in kept.as_chunks::<2>().0 {
+        let lone = (place == 0) & (lock != 0);
+        wrong |= u8::from((place > 24) | (lock & 63 >= k) | (lock >= 192) | lone);
+    }
+    wrong == 0
 }
 
 #[inline]
@@ -121,7 +158,7 @@ fn flip_origins(desk: &mut [u8; DESK], frame: usize, bits: u64) {
 
 /// All of "Unfit" but the buffers' sizes and K.
 fn fits(desk: &[u8; DESK], sheet: &[u8], seen: &[u8], k: usize) -> bool {
-    let mut bad = desk[1] > 1;
+    let mut bad = (desk[1] > 1) | !lists_fit(desk, k);
     for core in 0..8 {
         let state = desk[STATES + core];
         bad |= state > 8;
@@ -431,21 +468,35 @@ fn show(desk: &[u8; DESK], sheet: &[u8], seen: &[u8], k: usize, words: &Words, m
 }
 
 #[inline(never)]
-pub fn step(desk: &mut [u8], sheet: &mut [u8], seen: &mut [u8], slip: &mut [u8], record: &[u8]) -> u8 {
-    step_with::<false>(desk, sheet, seen, slip, record)
+pub fn step(
+    desk: &mut [u8], sheet: &mut [u8], seen: &mut [u8], history: &mut [u8], slip: &mut [u8], record: &[u8],
+) -> u8 {
+    step_with::<false>(desk, sheet, seen, history, slip, record)
 }
 
 /// The same step with successor words made by plain loops, a byte at a time.
 #[inline(never)]
-pub fn step_plain(desk: &mut [u8], sheet: &mut [u8], seen: &mut [u8], slip: &mut [u8], record: &[u8]) -> u8 {
-    step_with::<true>(desk, sheet, seen, slip, record)
+pub fn step_plain(
+    desk: &mut [u8], sheet: &mut [u8], seen: &mut [u8], history: &mut [u8], slip: &mut [u8], record: &[u8],
+) -> u8 {
+    step_with::<true>(desk, sheet, seen, history, slip, record)
+}
+
+/// Draws a lock dependency, by the record of this number.
+#[inline(always)]
+fn draw(sheet: &mut [u8], seen: &mut [u8], pair: usize, kind: u8, number: u32) {
+    if sheet[pair] == 0 {
+        seen[4 * pair..4 * pair + 4].copy_from_slice(&number.to_le_bytes());
+    }
+    sheet[pair] |= kind;
 }
 
 #[inline(always)]
 fn step_with<const PLAIN: bool>(
-    desk: &mut [u8], sheet: &mut [u8], seen: &mut [u8], slip: &mut [u8], record: &[u8],
+    desk: &mut [u8], sheet: &mut [u8], seen: &mut [u8], history: &mut [u8], slip: &mut [u8], record: &[u8],
 ) -> u8 {
     let Some(desk) = desk.first_chunk_mut::<DESK>() else { return 11 };
+    let Some(history) = history.first_chunk_mut::<HISTORY>() else { return 11 };
     let k = usize::from(desk[0]);
     if k.wrapping_sub(1) > 63 || sheet.len() < k * k || seen.len() < 4 * k * k || slip.len() < 1 + 7 * k {
         return 11;
@@ -454,27 +505,40 @@ fn step_with<const PLAIN: bool>(
     if !fits(desk, sheet, seen, k) {
         return 11;
     }
+    let kept = four(desk, KEPT_COUNT) as usize;
+    if !history_fits(&history[..2 * kept], k as u8) {
+        return 11;
+    }
     if desk[1] == 1 {
         return 10;
     }
     let &[0x4C, 0x4B, core, kind, class, mode] = record else { return 3 };
-    if core > 7 || kind > 9 || mode > 5 || (kind >= 2 && (class | mode) != 0) {
+    if core > 7 || kind > 12 || mode > 5 || (kind >= 2 && (mode != 0 || kind < 10 && class != 0)) {
         return 3;
+    }
+    if !(2..10).contains(&kind) {
+        if usize::from(class) >= k {
+            return 4;
+        }
+        if (eight(desk, DECLARED) >> class & 1 == 1) != (kind > 1) {
+            return 15;
+        }
     }
     let core = usize::from(core);
     let mut state = usize::from(desk[STATES + core]);
     let here = 3 * core + usize::from(FRAME[state]);
     let depth = usize::from(desk[DEPTHS + here]);
     let first = HOLDS + DEEPEST * here;
-    let count = count(desk);
+    let (count, progress) = (count(desk), eight(desk, PROGRESS));
+    let (to, here_byte) = (usize::from(class), here as u8 + 1);
     match kind {
         0 => {
-            let to = usize::from(class);
-            if to >= k {
-                return 4;
-            }
             if depth == DEEPEST {
                 return 8;
+            }
+            let is_kept = progress != 0 && mode < 3;
+            if is_kept && kept == MOST_KEPT {
+                return 19;
             }
             if count == u32::MAX {
                 return 9;
@@ -483,13 +547,13 @@ fn step_with<const PLAIN: bool>(
                 let second = if mode == 2 { 1 } else { 2 };
                 for &hold in &desk[first..first + depth] {
                     let kind = if hold < 64 { second } else { 4 * second };
-                    let pair = usize::from(hold & 63) * k + to;
-                    if sheet[pair] == 0 {
-                        seen[4 * pair..4 * pair + 4].copy_from_slice(&(count + 1).to_le_bytes());
-                    }
-                    sheet[pair] |= kind;
+                    draw(sheet, seen, usize::from(hold & 63) * k + to, kind, count + 1);
                 }
                 desk[first + depth] = class + 64 * mode;
+                if is_kept {
+                    history[2 * kept..2 * kept + 2].copy_from_slice(&[here_byte, class + 64 * mode]);
+                    desk[KEPT_COUNT..SINCE].copy_from_slice(&(kept as u32 + 1).to_le_bytes());
+                }
             } else {
                 desk[first + depth] = class + 64 * (mode - 3);
                 flip_origins(desk, here, 1 << depth);
@@ -497,9 +561,6 @@ fn step_with<const PLAIN: bool>(
             desk[DEPTHS + here] += 1;
         }
         1 => {
-            if usize::from(class) >= k {
-                return 4;
-            }
             let Some(at) = desk[first..first + depth].iter().rposition(|&h| h & 63 == class) else {
                 return 5;
             };
@@ -517,6 +578,44 @@ fn step_with<const PLAIN: bool>(
                 flip_origins(desk, here, (above ^ above >> 1) << at);
             }
         }
+        10 => {
+            if progress >> class & 1 == 1 {
+                return 16;
+            }
+            if progress.count_ones() as usize == MOST_IN_PROGRESS {
+                return 18;
+            }
+            if count == u32::MAX {
+                return 9;
+            }
+            for &hold in &desk[first..first + depth] {
+                draw(sheet, seen, usize::from(hold & 63) * k + to, if hold < 64 { 2 } else { 8 }, count + 1);
+            }
+            desk[PROGRESS..KEPT_COUNT].copy_from_slice(&(progress | 1 << class).to_le_bytes());
+            desk[SINCE + 4 * to..SINCE + 4 * to + 4].copy_from_slice(&(kept as u32).to_le_bytes());
+        }
+        11 | 12 => {
+            if progress >> class & 1 == 0 {
+                return 17;
+            }
+            if count == u32::MAX {
+                return 9;
+            }
+            if kind == 11 {
+                let since = (four(desk, SINCE + 4 * to) as usize).min(kept);
+                for &[place, lock] in history[2 * since..2 * kept].as_chunks::<2>().0 {
+                    if place == here_byte {
+                        draw(sheet, seen, to * k + usize::from(lock & 63), if lock < 128 { 2 } else { 1 }, count + 1);
+                    }
+                }
+            } else {
+                let left = progress & !(1 << class);
+                desk[PROGRESS..KEPT_COUNT].copy_from_slice(&left.to_le_bytes());
+                if left == 0 {
+                    desk[KEPT_COUNT..SINCE].fill(0);
+                }
+            }
+        }
         _ => {
             let after = NEXT[state][usize::from(kind) - 2];
             if after == X {
@@ -530,9 +629,16 @@ fn step_with<const PLAIN: bool>(
             }
             state = usize::from(after);
             desk[STATES + core] = after;
+            if kind == 7 || kind == 9 {
+                // What was acquired in this visit of the handler; without a branch for each.
+                for [place, lock] in history[..2 * kept].as_chunks_mut::<2>().0 {
+                    let stays = if *place == here_byte { 0 } else { 255 };
+                    (*place, *lock) = (*place & stays, *lock & stays);
+                }
+            }
         }
     }
-    desk[COUNT..].copy_from_slice(&(count + 1).to_le_bytes());
+    desk[COUNT..COUNT + 4].copy_from_slice(&(count + 1).to_le_bytes());
     let here = 3 * core + usize::from(FRAME[state]);
     let first = HOLDS + DEEPEST * here;
     let mut origins = origins(desk, here);
@@ -584,7 +690,7 @@ pub fn join(
     if sheet.len() < k * k || seen.len() < 4 * k * k || slip.len() < 1 + 7 * k {
         return 11;
     }
-    if desk1[0] != desk2[0] {
+    if desk1[0] != desk2[0] || desk1[DECLARED..PROGRESS] != desk2[DECLARED..PROGRESS] {
         return 12;
     }
     if desk1[1] | desk2[1] != 0 {
@@ -593,6 +699,7 @@ pub fn join(
     let (sheet, seen) = (&mut sheet[..k * k], &mut seen[..4 * k * k]);
     *desk = [0; DESK];
     desk[0] = k as u8;
+    desk[DECLARED..PROGRESS].copy_from_slice(&desk1[DECLARED..PROGRESS]);
     for at in MARKS..HOLDS {
         desk[at] = desk1[at] | desk2[at];
     }
@@ -648,7 +755,9 @@ pub fn ask(desk: &[u8], sheet: &[u8], seen: &[u8], class: u64, word: &mut u64, c
 }
 
 // The feed. Answer, whether opened, how many loose bytes, the loose bytes, and the number.
-const FEED: usize = 16;
+const FEED: usize = 22;
+/// A header, where its third byte says so, is of so many bytes.
+const LONG: usize = 12;
 
 fn feed_fits(feed: &[u8; FEED]) -> bool {
     let &[answer, opened, kept, ref loose @ .., _, _, _, _, _, _, _, _] = feed;
@@ -657,8 +766,8 @@ fn feed_fits(feed: &[u8; FEED]) -> bool {
     unused
         && (answer == 0 || kept == 0)
         && match opened {
-            0 => kept < 4 && matches!(answer, 0 | 2) && number == 0,
-            1 => kept < 6 && matches!(answer, 0 | 1 | 3..=11) && (answer == 0 || number > 0),
+            0 => kept < if loose[2] == 2 { LONG as u8 } else { 4 } && matches!(answer, 0 | 2) && number == 0,
+            1 => kept < 6 && matches!(answer, 0 | 1 | 3..=11 | 15..=19) && (answer == 0 || number > 0),
             _ => false,
         }
 }
@@ -676,12 +785,15 @@ fn note(feed: &mut [u8; FEED], answer: u8, opened: bool, loose: &[u8], number: u
     feed[1] = u8::from(opened);
     feed[2] = loose.len() as u8;
     feed[3..3 + loose.len()].copy_from_slice(loose);
-    feed[8..].copy_from_slice(&number.to_le_bytes());
+    feed[14..].copy_from_slice(&number.to_le_bytes());
 }
 
-fn open_by_header(header: &[u8], desk: &mut [u8], sheet: &mut [u8], seen: &mut [u8]) -> u8 {
+fn open_by_header(header: &[u8; LONG], desk: &mut [u8], sheet: &mut [u8], seen: &mut [u8], history: &mut [u8]) -> u8 {
     match header {
-        &[0x4C, 0x48, 1, k] => open(u64::from(k), desk, sheet, seen),
+        &[0x4C, 0x48, version @ 1..=2, k, ref word @ ..] => {
+            let declared = if version == 2 { u64::from_le_bytes(*word) } else { 0 };
+            open(u64::from(k), declared, desk, sheet, seen, history)
+        }
         _ => 2,
     }
 }
@@ -693,9 +805,11 @@ pub fn feed_start(feed: &mut [u8]) -> u8 {
 }
 
 /// What was begun is filled up from the piece; then records are taken from the piece itself.
+#[allow(clippy::too_many_arguments)]
 #[inline(never)]
 pub fn feed(
-    feed: &mut [u8], desk: &mut [u8], sheet: &mut [u8], seen: &mut [u8], slip: &mut [u8], piece: &[u8], record: &mut u64,
+    feed: &mut [u8], desk: &mut [u8], sheet: &mut [u8], seen: &mut [u8], history: &mut [u8], slip: &mut [u8], piece: &[u8],
+    record: &mut u64,
 ) -> u8 {
     *record = 0;
     let Some(feed) = feed.first_chunk_mut::<FEED>().filter(|feed| feed_fits(feed)) else { return 11 };
@@ -707,21 +821,31 @@ pub fn feed(
     let (mut opened, mut rest) = (feed[1] == 1, piece);
     let kept = usize::from(feed[2]);
     if kept > 0 || !opened {
-        let whole = if opened { 6 } else { 4 };
-        let mut begun = [0; 6];
+        let (mut begun, mut have) = ([0; LONG], kept);
         begun[..kept].copy_from_slice(&feed[3..3 + kept]);
-        let more = rest.len().min(whole - kept);
-        begun[kept..kept + more].copy_from_slice(&rest[..more]);
-        rest = &rest[more..];
-        if kept + more < whole {
-            note(feed, 0, opened, &begun[..kept + more], number);
+        let mut fill = |begun: &mut [u8; LONG], have: usize, whole: usize| {
+            let more = rest.len().min(whole.saturating_sub(have));
+            begun[have..have + more].copy_from_slice(&rest[..more]);
+            rest = &rest[more..];
+            have + more
+        };
+        // The third byte of a header says how long it is.
+        have = fill(&mut begun, have, if opened { 6 } else { 3 });
+        let whole = match (opened, begun[2]) {
+            (true, _) => 6,
+            (false, 2) if have > 2 => LONG,
+            _ => 4,
+        };
+        have = fill(&mut begun, have, whole);
+        if have < whole {
+            note(feed, 0, opened, &begun[..have], number);
             return 0;
         }
         let answer = if opened {
             number = number.saturating_add(1);
-            step(desk, sheet, seen, slip, &begun)
+            step(desk, sheet, seen, history, slip, &begun[..6])
         } else {
-            open_by_header(&begun[..4], desk, sheet, seen)
+            open_by_header(&begun, desk, sheet, seen, history)
         };
         opened |= answer == 0;
         *record = number;
@@ -733,7 +857,7 @@ pub fn feed(
     let mut records = rest.chunks_exact(6);
     for six in &mut records {
         number = number.saturating_add(1);
-        let answer = step(desk, sheet, seen, slip, six);
+        let answer = step(desk, sheet, seen, history, slip, six);
         if answer != 0 {
             note(feed, answer, opened, &[], number);
             *record = number;
@@ -746,7 +870,7 @@ pub fn feed(
 }
 
 pub fn feed_end(
-    feed: &mut [u8], desk: &mut [u8], sheet: &mut [u8], seen: &mut [u8], slip: &mut [u8], record: &mut u64,
+    feed: &mut [u8], desk: &mut [u8], sheet: &mut [u8], seen: &mut [u8], history: &mut [u8], slip: &mut [u8], record: &mut u64,
 ) -> u8 {
     *record = 0;
     let Some(feed) = feed.first_chunk_mut::<FEED>().filter(|feed| feed_fits(feed)) else { return 11 };
@@ -755,7 +879,7 @@ pub fn feed_end(
         note(feed, 2, false, &[], 0);
     } else if kept > 0 {
         number = number.saturating_add(1);
-        let answer = step(desk, sheet, seen, slip, &feed[3..3 + kept]);
+        let answer = step(desk, sheet, seen, history, slip, &feed[3..3 + kept]);
         note(feed, answer, true, &[], number);
     }
     *record = number;

@@ -1,16 +1,18 @@
 //! Logs in pieces: the promise that a feed keeps, and the cases with feeds.
 
+use crate::crosslocks;
 use crate::depths;
 use crate::gen::{
     any_buffers, any_k, any_style, case, clean_style, damaged, fit_desk, hand_logs, sizes, try_style, violate, Buffers, Kind,
     BIG,
 };
+use crate::judges::CLAUSES;
 use crate::numbers;
 use crate::older;
 use crate::rng::Rng;
 use crate::run::{Call, Case, Meant, Rec};
 use crate::ties;
-use reference::{CLAUSES, COUNT, DESK, FEED, FEED_CLAUSES, LOOSE};
+use reference::{COUNT, DECLARED, DESK, FEED, FEED_CLAUSES, HISTORY, LOOSE};
 
 /// The parts of the promise. A wrong cutting breaks all of them; the first is named.
 pub const PROMISE: [&str; 3] = ["the same over another cut", "as the whole log", "as single steps"];
@@ -22,9 +24,20 @@ pub const KEPT: usize = 2;
 pub const KEEP: usize = 3;
 pub const NUMBER: usize = KEEP + LOOSE;
 
-/// How many bytes make the next item of a fit feed whole.
-pub fn whole(feed: &[u8]) -> usize {
-    if feed[OPENED] == 1 { 6 } else { 4 }
+/// The answers of a step that a feed may stand at.
+const STANDING: [u8; 15] = [1, 3, 4, 5, 6, 7, 8, 9, 10, 11, 15, 16, 17, 18, 19];
+
+/// How many bytes a header has that begins so: its third byte alone tells.
+pub fn header_length(bytes: &[u8]) -> usize {
+    if bytes.get(2) == Some(&2) { 12 } else { 4 }
+}
+
+/// The length of the header with which a log begins, whatever is in it, and the word behind its K, 0 without one; None while it is
+/// not whole.
+pub fn header_of(log: &[u8]) -> Option<(usize, u64)> {
+    let length = header_length(log);
+    let header = log.get(..length)?;
+    Some((length, header[4..].iter().rev().fold(0, |word, &byte| word << 8 | u64::from(byte))))
 }
 
 pub fn number(feed: &[u8]) -> u64 {
@@ -33,7 +46,9 @@ pub fn number(feed: &[u8]) -> u64 {
 
 /// Whether a fit feed gets something whole by this piece.
 pub fn completes(feed: &[u8], piece: &[u8]) -> bool {
-    feed[ANSWER] == 0 && usize::from(feed[KEPT]) + piece.len() >= whole(feed)
+    let kept = usize::from(feed[KEPT]);
+    let begun = || [&feed[KEEP..KEEP + kept], &piece[..piece.len().min(LOOSE + 1)]].concat();
+    feed[ANSWER] == 0 && if feed[OPENED] == 1 { kept + piece.len() >= 6 } else { header_of(&begun()).is_some() }
 }
 
 /// A case of a feed alone, with nobody else writing: where it stands at first, and what comes.
@@ -60,10 +75,14 @@ impl Fed {
         let (opened, loose) = (feed[OPENED] == 1, feed[KEEP..KEEP + usize::from(feed[KEPT])].to_vec());
         let (mut bytes, mut ended) = (Vec::new(), false);
         for call in calls {
-            let got = loose.len() + bytes.len();
+            let got: usize = loose.len() + bytes.len();
             match call {
                 Call::Feed(piece) => bytes.extend_from_slice(piece),
-                _ => ended |= if opened { got % 6 != 0 } else { got < 4 || (got - 4) % 6 != 0 },
+                _ if opened => ended |= got % 6 != 0,
+                _ => {
+                    let begun = [&loose[..], &bytes[..bytes.len().min(LOOSE + 1)]].concat();
+                    ended |= header_of(&begun).is_none_or(|(length, _)| (got - length) % 6 != 0);
+                }
             }
             if ended {
                 break;
@@ -99,8 +118,22 @@ fn header(k: u8) -> Vec<u8> {
     vec![0x4C, 0x48, 1, k]
 }
 
+/// The header that declares these crosslocks.
+pub fn long_header(k: u8, declared: u64) -> Vec<u8> {
+    [&[0x4C, 0x48, 2, k][..], &declared.to_le_bytes()].concat()
+}
+
+/// The same, or where there are none the short one mostly.
+pub fn any_header(rng: &mut Rng, k: u8, declared: u64) -> Vec<u8> {
+    if declared == 0 && !rng.mille(150) { header(k) } else { long_header(k, declared) }
+}
+
 pub fn log_of<'a>(k: u8, records: impl IntoIterator<Item = &'a Rec>) -> Vec<u8> {
-    let mut log = header(k);
+    log_behind(header(k), records)
+}
+
+pub fn log_behind<'a>(header: Vec<u8>, records: impl IntoIterator<Item = &'a Rec>) -> Vec<u8> {
+    let mut log = header;
     records.into_iter().for_each(|record| log.extend_from_slice(record.slice()));
     log
 }
@@ -108,8 +141,15 @@ pub fn log_of<'a>(k: u8, records: impl IntoIterator<Item = &'a Rec>) -> Vec<u8> 
 /// A header that is refused, if K is not refused already.
 fn damage_header(rng: &mut Rng, log: &mut [u8]) {
     let at = rng.pick(&[0, 1, 2, 3, 3]);
+    if log[2] == 2 && log.len() > 11 && log[3] < 64 && rng.mille(300) {
+        // A class of K or more declared: the lowest such, the last, or any.
+        let class = rng.pick(&[usize::from(log[3]), 63, rng.clone().between(usize::from(log[3]), 63)]);
+        log[4 + class / 8] |= 1 << (class % 8);
+        return;
+    }
     log[at] = match at {
         3 => rng.pick(&[0, 0, 0, 65, 66, 255]),
+        2 => rng.pick(&[0, 3, log[2] ^ 3, log[2] ^ 1 << rng.clone().under(8)]),
         _ => log[at] ^ 1 << rng.under(8),
     };
 }
@@ -147,7 +187,8 @@ fn any_log(rng: &mut Rng) -> (Vec<u8>, Buffers) {
         (_, true) => &[5, 20, 30],
         _ => &[0, 1, 2, 5, 20, 50][..],
     });
-    let (mut shadow, mut records, mut behind) = (Buffers::opened(k), Vec::new(), 0);
+    let declared = if full { 0 } else { crosslocks::some(rng, k, 350) };
+    let (mut shadow, mut records, mut behind) = (Buffers::declaring(k, declared), Vec::new(), 0);
     for _ in 0..most {
         let (record, answer) = shadow.next(rng, &style);
         if answer < 2 || rng.mille(refused) {
@@ -158,8 +199,8 @@ fn any_log(rng: &mut Rng) -> (Vec<u8>, Buffers) {
             break;
         }
     }
-    let mut log = log_of(k as u8, &records);
-    if rng.mille(200) {
+    let mut log = log_behind(any_header(rng, k as u8, declared), &records);
+    if rng.mille(270) {
         damage_header(rng, &mut log);
     }
     match rng.under(3) {
@@ -168,10 +209,11 @@ fn any_log(rng: &mut Rng) -> (Vec<u8>, Buffers) {
         _ => {}
     }
     let mut buffers = any_buffers(rng, k);
-    if rng.mille(300) {
-        let Buffers { desk, sheet, seen, slip } = &mut buffers;
-        match rng.under(5) {
-            0 => desk.truncate(rng.pick(&[0, 1, COUNT, DESK - 1, older::ORIGINS, older::COUNT, older::DESK])),
+    if rng.mille(340) {
+        let Buffers { desk, sheet, seen, history, slip } = &mut buffers;
+        match rng.under(6) {
+            0 => desk.truncate(rng.pick(&[0, 1, COUNT, DESK - 1, DECLARED, older::ORIGINS, older::COUNT, older::DESK])),
+            5 => history.truncate(rng.pick(&[0, HISTORY / 2, HISTORY - 1, HISTORY - 1])),
             1 => sheet.truncate(rng.pick(&[0, k * k - 1])),
             2 => seen.truncate(rng.pick(&[0, k * k, 4 * k * k - 1, 4 * k * k - 1])),
             _ => slip.truncate(rng.pick(&[0, 3 * k, 1 + 3 * k, 7 * k])),
@@ -199,11 +241,11 @@ pub fn cut_log(rng: &mut Rng) -> Case {
     let (log, buffers) = any_log(rng);
     let (between, elsewhere) = rng.pick(&[(0, 0), (300, 0), (1000, 0), (300, 5), (500, 60)]);
     let mut calls = vec![Call::FeedStart];
-    let mut got = 0;
+    let (mut got, header) = (0, header_length(&log));
     for piece in cut(rng, &log) {
         got += piece.len();
         calls.push(Call::Feed(piece.to_vec()));
-        let at_record = got >= 4 && (got - 4) % 6 == 0;
+        let at_record = got >= header && (got - header) % 6 == 0;
         if rng.mille(if at_record { between } else { elsewhere }) {
             calls.push(Call::FeedEnd);
         }
@@ -279,12 +321,14 @@ fn any_feed(rng: &mut Rng, opened: bool, item: &[u8]) -> Vec<u8> {
     let answer = match (stands, opened) {
         (false, _) => 0,
         (true, false) => 2,
-        (true, true) => rng.pick(&[1, 3, 4, 5, 6, 7, 8, 9, 10, 11]),
+        (true, true) => rng.pick(&STANDING),
     };
-    let kept = if stands { 0 } else { rng.under(if opened { 6 } else { 4 }) };
+    let kept = if stands { 0 } else { rng.under(item.len()) };
     let mut loose = item[..kept].to_vec();
     if kept > 0 && rng.mille(200) {
-        loose[rng.under(kept)] = rng.byte();
+        // The third byte of more than three tells that the header is long.
+        let at = rng.under(kept);
+        loose[at] = if !opened && kept > 3 && at == 2 { 2 } else { rng.byte() };
     }
     let number = if opened { any_number(rng).max(u64::from(stands)) } else { 0 };
     feed_of(answer, opened, &loose, number)
@@ -300,9 +344,14 @@ fn violate_feed(rng: &mut Rng, clause: usize, feed: &mut Vec<u8>) {
             feed[OPENED] = rng.pick(&[2, 2, 3, 128, 255]);
         }
         "too many loose bytes" => {
-            // Those of a record before the header, or more than there is room for.
+            // Those of a record before the header, those of a long header before a short one, or more than there is room for.
             *feed = feed_of(0, rng.mille(300), &[0x4C, 0x48, 1, 2], 0);
-            feed[KEPT] = if feed[OPENED] == 0 { rng.pick(&[4, 5]) } else { rng.pick(&[6, 7, 255]) };
+            feed[KEPT] = if feed[OPENED] == 0 { rng.pick(&[4, 4, 5, 11, 12]) } else { rng.pick(&[6, 6, 7, 11, 12, 255]) };
+            if feed[OPENED] == 0 && rng.mille(400) {
+                (feed[KEEP + 2], feed[KEPT]) = (2, rng.pick(&[12, 12, 13, 255]));
+            } else if feed[OPENED] == 1 && rng.mille(400) {
+                feed[KEEP + 2] = 2;
+            }
         }
         "unused loose byte not 0" => {
             let kept = usize::from(feed[KEPT]);
@@ -313,11 +362,11 @@ fn violate_feed(rng: &mut Rng, clause: usize, feed: &mut Vec<u8>) {
         }
         "loose bytes beside a standing answer" => {
             feed[ANSWER] = if feed[OPENED] == 1 { 3 } else { 2 };
-            feed[KEPT] = rng.between(1, whole(feed) - 1) as u8;
+            feed[KEPT] = rng.between(1, if feed[OPENED] == 1 { 5 } else { 3 }) as u8;
             feed[NUMBER] = feed[OPENED];
         }
         "before opening, an answer but 0 and 2" => {
-            *feed = feed_of(rng.pick(&[1, 3, 10, 11, 255]), false, &[], 0);
+            *feed = feed_of(rng.pick(&[1, 3, 10, 11, 15, 19, 255]), false, &[], 0);
         }
         "before opening, a record number" => {
             *feed = feed_of(rng.pick(&[0, 2]), false, &[], 0);
@@ -325,10 +374,10 @@ fn violate_feed(rng: &mut Rng, clause: usize, feed: &mut Vec<u8>) {
         }
         "after opening, no answer of a step" => {
             let number = any_number(rng);
-            *feed = feed_of(rng.pick(&[2, 12, 13, 255]), true, &[], number);
+            *feed = feed_of(rng.pick(&[2, 12, 13, 14, 20, 255]), true, &[], number);
         }
         "after opening, a standing answer at record 0" => {
-            *feed = feed_of(rng.pick(&[1, 3, 4, 5, 6, 7, 8, 9, 10, 11]), true, &[], 0);
+            *feed = feed_of(rng.pick(&STANDING), true, &[], 0);
         }
         other => panic!("no way to violate {other}"),
     }
@@ -343,9 +392,16 @@ fn any_calls(rng: &mut Rng) -> Case {
         0..3 => damaged(rng, k),
         3 => Rec::new(core, rng.under(2) as u8, k as u8, rng.under(6) as u8),
         4 => Rec::new(core, 1, rng.under(k) as u8, rng.under(6) as u8),
+        5 | 6 => Rec::new(core, rng.between(10, 12) as u8, rng.under(k) as u8, 0),
         _ => Rec::new(core, rng.pick(&[0, 2, 2, 3, 8]), 0, 0),
     };
-    let item = if opened { Rec { len: 6, ..record } } else { Rec::of(&header(k as u8)) };
+    let declared = crosslocks::any_word(rng, k);
+    let version = rng.mille(500);
+    let item = match opened {
+        true => Rec { len: 6, ..record },
+        false if version => Rec::of(&long_header(k as u8, declared)),
+        false => Rec::of(&header(k as u8)),
+    };
     let mut feed = any_feed(rng, opened, item.slice());
     let extra = rng.pick(&[0, 0, 1, 7]);
     feed.extend(rng.bytes(extra));
@@ -391,7 +447,7 @@ fn any_calls(rng: &mut Rng) -> Case {
                 Call::Feed(piece)
             }
             9 => Call::FeedStart,
-            10 => Call::Open(k as u64),
+            10 => Call::Open(k as u64, declared),
             11 => Call::Ask(0),
             _ => Call::Step(record),
         });
@@ -403,16 +459,23 @@ fn any_calls(rng: &mut Rng) -> Case {
 fn end_over_loose(rng: &mut Rng) -> Case {
     let k = any_k(rng);
     let opened = rng.mille(800);
-    let item = if opened { Rec::new(rng.under(8) as u8, 2, 0, 0) } else { Rec::of(&header(k as u8)) };
+    let item = match opened {
+        true => Rec::new(rng.under(8) as u8, 2, 0, 0),
+        false if rng.mille(500) => Rec::of(&long_header(k as u8, crosslocks::any_word(rng, k))),
+        false => Rec::of(&header(k as u8)),
+    };
     let kept = if rng.mille(100) { 0 } else { rng.between(1, item.slice().len() - 1) };
     let mut loose = item.slice()[..kept].to_vec();
     if rng.mille(100) {
         loose = rng.bytes(kept);
+        if !opened && kept > 3 {
+            loose[2] = 2;
+        }
     }
     let number = if opened && rng.mille(700) { any_number(rng) } else { 0 };
     let feed = match rng.mille(250) {
         false => feed_of(0, opened, &loose, number),
-        true if opened => feed_of(rng.pick(&[1, 3, 4, 5, 6, 7, 8, 9, 10, 11]), true, &[], number.max(1)),
+        true if opened => feed_of(rng.pick(&STANDING), true, &[], number.max(1)),
         true => feed_of(2, false, &[], 0),
     };
     let mut buffers = if rng.mille(800) { Buffers::opened(k) } else { fit_desk(rng, k) };
@@ -474,6 +537,7 @@ pub const KINDS: [Kind; 6] = [
 
 pub const HAND_LOGS: &str = "hand logs in two pieces";
 pub const EACH_CUT: &str = "each cut of short logs";
+pub const EACH_LONG_CUT: &str = "each cut of long headers";
 pub const EACH_FEED_BYTE: &str = "each feed byte";
 pub const EACH_FEED_SIZE: &str = "each feed size";
 pub const EACH_STAND: &str = "each feed over each desk";
@@ -513,30 +577,50 @@ fn counts() -> impl Iterator<Item = Case> {
     })
 }
 
-/// Logs to be cut in all ways, with how much the sheets and the slip are too short.
-fn short_logs() -> Vec<(Vec<u8>, [usize; 3])> {
+/// Logs to be cut in all ways, with how much the sheets, the slip and the history are too short: those with the short header, or the others.
+fn short_logs(of_long: bool) -> Vec<(Vec<u8>, [usize; 4])> {
     let take = |class, mode| Rec::new(0, 0, class, mode);
     let (on, refused) = (Rec::new(1, 2, 0, 0), Rec::new(0, 9, 0, 0));
     let bad = |at: usize, byte| {
         let mut log = header(2);
         log[at] = byte;
-        (log, [0; 3])
+        (log, [0; 4])
     };
     let mut logs = vec![
         // A header that is refused by each of its bytes, or by a short sheet; a slip too short for the first record.
         bad(0, 0),
         bad(1, 0x4B),
-        bad(2, 2),
+        bad(2, 0),
+        bad(2, 3),
         bad(3, 0),
         bad(3, 65),
-        (header(2), [1, 0, 0]),
-        (header(2), [0, 1, 0]),
-        (log_of(2, &[on]), [0, 0, 1]),
+        (header(2), [1, 0, 0, 0]),
+        (header(2), [0, 1, 0, 0]),
+        (log_of(2, &[on]), [0, 0, 1, 0]),
         // Clean; a fault, and a record behind it; refused, and a record behind it.
-        (log_of(2, &[take(1, 0), on]), [0; 3]),
-        (log_of(1, &[take(0, 0), take(0, 2), on]), [0; 3]),
-        (log_of(1, &[refused, on]), [0; 3]),
+        (log_of(2, &[take(1, 0), on]), [0; 4]),
+        (log_of(1, &[take(0, 0), take(0, 2), on]), [0; 4]),
+        (log_of(1, &[refused, on]), [0; 4]),
     ];
+    if of_long {
+        let by = |at: usize, byte: u8| {
+            let mut log = long_header(2, 0b10);
+            log[at] = byte;
+            (log, [0; 4])
+        };
+        // A long header that is refused by each of its bytes, by a class of K or more, or by short buffers, and good ones.
+        logs = vec![
+            by(0, 0x4D), by(1, 0x4B), by(3, 0), by(3, 65), by(3, 1), by(4, 4), by(4, 0x82), by(11, 0x80), by(8, 1), by(4, 0), by(4, 3),
+            (long_header(2, 0b10), [1, 0, 0, 0]), (long_header(2, 0b10), [0, 1, 0, 0]), (long_header(2, 0b10), [0, 0, 0, 1]),
+            // Crosslock 1 taken twice, and a record behind it.
+            (log_behind(long_header(2, 0b10), &[Rec::new(0, 10, 1, 0), Rec::new(1, 10, 1, 0), on]), [0; 4]),
+            // Taken once, and the same by the short header, which declares none.
+            (log_behind(long_header(2, 0b10), &[Rec::new(0, 10, 1, 0)]), [0; 4]),
+            (log_of(2, &[Rec::new(0, 10, 1, 0)]), [0; 4]),
+            (log_behind(long_header(2, 0), &[take(1, 0)]), [0; 4]),
+            (by(2, 3).0, [0; 4]),
+        ];
+    }
     for (log, ..) in &mut logs {
         log.extend([0x4C, 0x4B]);
     }
@@ -544,17 +628,20 @@ fn short_logs() -> Vec<(Vec<u8>, [usize; 3])> {
 }
 
 /// Every cut of them into four pieces, empty ones too, and at each of the four places an end or none: those that have two
-/// pieces at most, or the others. False once a case is answered so.
-fn each_cut(in_two: bool, each: &mut dyn FnMut(&'static str, Vec<u8>, Case) -> bool) -> bool {
-    for (log, short) in short_logs() {
+/// pieces at most, or the others; those with the long header in three at most. False once a case is answered so.
+fn each_cut(name: &'static str, in_two: bool, each: &mut dyn FnMut(&'static str, Vec<u8>, Case) -> bool) -> bool {
+    let of_long = name == EACH_LONG_CUT;
+    for (log, short) in short_logs(of_long) {
         // Those with a bad K have buffers for 2.
         let [desk, sheet, seen, slip] = sizes(if log[3] == 1 { 1 } else { 2 });
         let sizes = [desk, sheet - short[0], seen - short[1], slip - short[2]];
+        let header = header_length(&log);
         for b in 0..=log.len() {
             let cuts = (0..=b).flat_map(|a| (b..=log.len()).map(move |c| (a, c)));
+            let cuts = cuts.filter(|&(_, c)| !of_long || c == log.len());
             for (a, c) in cuts.filter(|&(a, c)| in_two == (a == 0 && c == log.len())) {
                 let pieces = [&log[..a], &log[a..b], &log[b..c], &log[c..]];
-                for ends in each_ends(&[a, b, c, log.len()]) {
+                for ends in each_ends(header, &[a, b, c, log.len()]).into_iter().filter(|ends| !of_long || [0, 2, 8, 15].contains(ends)) {
                     let mut calls = vec![Call::FeedStart];
                     for (i, piece) in pieces.iter().enumerate() {
                         calls.push(Call::Feed(piece.to_vec()));
@@ -562,9 +649,9 @@ fn each_cut(in_two: bool, each: &mut dyn FnMut(&'static str, Vec<u8>, Case) -> b
                             calls.push(Call::FeedEnd);
                         }
                     }
-                    let [desk, sheet, seen, slip] = sizes.map(|size| vec![0xEE; size]);
-                    let buffers = Buffers { desk, sheet, seen, slip };
-                    if !each(EACH_CUT, vec![0xEE; FEED], case(buffers, calls)) {
+                    let mut buffers = Buffers::full_of(0xEE, sizes);
+                    buffers.history.truncate(HISTORY - short[3]);
+                    if !each(name, vec![0xEE; FEED], case(buffers, calls)) {
                         return false;
                     }
                 }
@@ -579,7 +666,7 @@ pub fn fixed(each: &mut dyn FnMut(Case) -> bool) {
     let mut each = |name: &'static str, feed: Vec<u8>, case: Case| each(Case { name, feed, ..case });
     let rng = &mut Rng::new(20_260_102);
     // Short logs in two pieces, which show most that can be wrong.
-    if !each_cut(true, &mut each) {
+    if !each_cut(EACH_CUT, true, &mut each) || !each_cut(EACH_LONG_CUT, true, &mut each) {
         return;
     }
     // Each size, fit in what there is, or full of anything.
@@ -600,7 +687,9 @@ pub fn fixed(each: &mut dyn FnMut(Case) -> bool) {
     for kept in 0..6 {
         for stand in 0..CLAUSES.len() + 5 {
             for number in [0, 254, u64::MAX - 2, u64::MAX - 1, u64::MAX] {
-                let mut buffers = Buffers::opened(3);
+                // 17 classes and more for those that are too many.
+                let many = stand.checked_sub(5).is_some_and(|clause| CLAUSES[clause] == "more than 16 in progress");
+                let mut buffers = Buffers::opened(if many { 20 } else { 3 });
                 match stand {
                     0 => {}
                     1 => buffers.desk[1] = 1,
@@ -642,12 +731,15 @@ pub fn fixed(each: &mut dyn FnMut(Case) -> bool) {
         feed_of(0, true, &[0x4C, 0x4B, 0, 2, 0], 255),
         feed_of(7, true, &[], 1),
         feed_of(9, true, &[], 1),
+        feed_of(0, false, &[0x4C, 0x48, 2, 2, 0b10, 0, 0], 0),
+        feed_of(0, false, &[0x4C, 0x48, 2, 2, 0b10, 0, 0, 0, 0, 0, 0], 0),
+        feed_of(17, true, &[], 1),
     ] {
         for at in 0..FEED {
             for value in (0..=255).filter(|value| at < KEEP || [0, 1, 2, 127, 128, 255].contains(value)) {
                 let mut feed = base.clone();
                 feed[at] = value;
-                let piece = if base[OPENED] == 1 { vec![0; 3] } else { vec![0x4C, 0x48, 1, 2] };
+                let piece = if base[OPENED] == 1 || base[KEPT] > 3 { vec![0; 3] } else { vec![0x4C, 0x48, 1, 2] };
                 let calls = vec![Call::Feed(piece), Call::FeedEnd];
                 if !each(EACH_FEED_BYTE, feed, case(Buffers::opened(2), calls)) {
                     return;
@@ -683,12 +775,12 @@ pub fn fixed(each: &mut dyn FnMut(Case) -> bool) {
         }
     }
     // Short logs in more pieces.
-    each_cut(false, &mut each);
+    let _ = each_cut(EACH_LONG_CUT, false, &mut each) && each_cut(EACH_CUT, false, &mut each);
 }
 
 /// Which of four places have an end: all sixteen ways, but for those that differ only after one that stops the feed.
-fn each_ends(places: &[usize; 4]) -> Vec<u8> {
-    let stops = |i: usize| places[i] < 4 || (places[i] - 4) % 6 != 0;
+fn each_ends(header: usize, places: &[usize; 4]) -> Vec<u8> {
+    let stops = |i: usize| places[i] < header || (places[i] - header) % 6 != 0;
     let first_stop = |ends: u8| (0..4).find(|&i| ends >> i & 1 == 1 && stops(i)).unwrap_or(4);
     // After a stop each place has one.
     let behind = |ends: u8| (0..4).filter(|&i| i > first_stop(ends)).all(|i| ends >> i & 1 == 1);

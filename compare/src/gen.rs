@@ -2,20 +2,21 @@
 
 use crate::balances;
 use crate::clashes;
+use crate::crosslocks::{self, in_progress};
 use crate::depths;
 use crate::drawing::{FRAME, NEXT, X};
 use crate::fast;
 use crate::feeds;
 use crate::joins;
-use crate::judges::Lent;
+use crate::judges::{unfit, Lent, CLAUSES};
 use crate::numbers::{self, NO_KINDS, NO_NUMBER};
 use crate::older;
 use crate::releases;
 use crate::rng::Rng;
-use crate::run::{Call, Case, Rec};
+use crate::run::{Call, Case, Pair, Rec};
 use crate::sights::ORIGIN;
 use crate::ties;
-use reference::{CLAUSES, COUNT, DEEPEST, DEPTHS, DESK, FRAMES, HOLDS, MARKS, ORIGINS, STATES};
+use reference::{COUNT, DECLARED, DEEPEST, DEPTHS, DESK, FRAMES, HISTORY, HOLDS, MARKS, ORIGINS, STATES};
 
 pub const BIG: [u64; 16] = [
     255, 256, 257, 264, 300, 320, 65536, 65544, 1 << 31, 1 << 32, (1 << 32) + 1, (1 << 32) + 8,
@@ -42,18 +43,30 @@ pub struct Buffers {
     pub sheet: Vec<u8>,
     /// The second sheet: first-seen numbers.
     pub seen: Vec<u8>,
+    /// The acquires that are kept.
+    pub history: Vec<u8>,
     pub slip: Vec<u8>,
 }
 
 impl Buffers {
-    /// So many bytes each, full of anything.
+    /// So many bytes each, full of anything; the history of its stated size or somewhat longer.
     pub fn any(rng: &mut Rng, [desk, sheet, seen, slip]: [usize; 4]) -> Buffers {
-        Buffers { desk: rng.bytes(desk), sheet: rng.bytes(sheet), seen: rng.bytes(seen), slip: rng.bytes(slip) }
+        let history = HISTORY + if rng.mille(200) { rng.under(9) } else { 0 };
+        let [desk, sheet, seen, slip, history] = [desk, sheet, seen, slip, history].map(|size| rng.bytes(size));
+        Buffers { desk, sheet, seen, history, slip }
+    }
+    /// All of these bytes.
+    pub fn full_of(byte: u8, [desk, sheet, seen, slip]: [usize; 4]) -> Buffers {
+        let [desk, sheet, seen, slip, history] = [desk, sheet, seen, slip, HISTORY].map(|size| vec![byte; size]);
+        Buffers { desk, sheet, seen, history, slip }
     }
     pub fn opened(k: usize) -> Buffers {
-        let [desk, sheet, seen, slip] = sizes(k).map(|size| vec![0; size]);
-        let mut b = Buffers { desk, sheet, seen, slip };
-        fast::open(k as u64, &mut b.desk, &mut b.sheet, &mut b.seen);
+        Buffers::declaring(k, 0)
+    }
+    /// Opened with these crosslocks.
+    pub fn declaring(k: usize, declared: u64) -> Buffers {
+        let mut b = Buffers::full_of(0, sizes(k));
+        fast::open(k as u64, declared, &mut b.desk, &mut b.sheet, &mut b.seen, &mut b.history);
         b
     }
     pub fn k(&self) -> usize {
@@ -65,7 +78,7 @@ impl Buffers {
     }
 }
 
-/// The stated sizes of desk, sheet, second sheet and slip.
+/// The stated sizes of desk, sheet, second sheet and slip; the history's is HISTORY, and a join has none.
 pub fn sizes(k: usize) -> [usize; 4] {
     [DESK, k * k, 4 * k * k, 1 + 7 * k]
 }
@@ -230,8 +243,8 @@ pub fn try_style(k: usize) -> Style {
 }
 
 pub fn damaged(rng: &mut Rng, k: usize) -> Rec {
-    let kind = rng.under(10) as u8;
-    let class = if kind < 2 { rng.under(k) as u8 } else { 0 };
+    let kind = rng.under(13) as u8;
+    let class = if kind < 2 || kind > 9 { rng.under(k) as u8 } else { 0 };
     let mode = if kind < 2 { rng.under(6) as u8 } else { 0 };
     let mut bytes = vec![0x4C, 0x4B, rng.under(8) as u8, kind, class, mode];
     match rng.under(6) {
@@ -258,7 +271,11 @@ pub fn damaged(rng: &mut Rng, k: usize) -> Rec {
             // Just over an edge.
             match rng.under(7) {
                 0 => bytes[2] = rng.pick(&[8, 9, 16, 128, 255]),
-                1 => bytes[3] = rng.pick(&[10, 11, 16, 32, 255]),
+                1 if rng.mille(500) => bytes[3] = rng.pick(&[13, 13, 14, 16, 26, 32, 255]),
+                1 => {
+                    bytes[3] = rng.between(10, 12) as u8;
+                    bytes[5] = rng.pick(&[1, 1, 2, 3, 6, 255]);
+                }
                 2 | 3 => {
                     bytes[3] = rng.under(2) as u8;
                     bytes[5] = rng.pick(&[6, 6, 6, 7, 8, 9, 12, 64, 67, 128, 255]);
@@ -295,16 +312,33 @@ fn classes_of(k: usize, frame: usize) -> (usize, usize) {
     if k < 4 { (0, k) } else { [(0, a), (a, b), (b, k)][frame] }
 }
 
-/// A record that most likely is accepted on this desk, as the style says.
+/// A record that most likely is accepted on this desk, as the style says. In place of an acquire of a crosslock one of kinds 10 to 12
+/// comes mostly.
 fn propose(rng: &mut Rng, s: &Style, desk: &[u8]) -> Rec {
+    let declared = crosslocks::declared(desk);
+    if declared == 0 {
+        return propose_lock(rng, s, desk);
+    }
+    if in_progress(desk) != 0 && rng.mille(crosslocks::OFTEN) {
+        return crosslocks::next(rng, &s.cores, desk);
+    }
+    let record = propose_lock(rng, s, desk);
+    let of_crosslock = record.names().is_some() && record.bytes[3] == 0 && record.bytes[4] < 64 && declared >> record.bytes[4] & 1 == 1;
+    if of_crosslock && !rng.mille(50) {
+        return crosslocks::instead(rng, record, desk);
+    }
+    record
+}
+
+fn propose_lock(rng: &mut Rng, s: &Style, desk: &[u8]) -> Rec {
     if rng.mille(s.damaged) {
         return damaged(rng, s.k);
     }
     let core = rng.pick(&s.cores);
     if rng.mille(s.random) {
-        let kind = rng.under(10) as u8;
+        let kind = if rng.mille(200) { rng.between(10, 12) } else { rng.under(10) } as u8;
         let class = match kind {
-            0 | 1 => rng.pick(&[rng.clone().under(s.k), rng.clone().under(s.k + 2), s.k, 64, 255]) as u8,
+            0 | 1 | 10.. => rng.pick(&[rng.clone().under(s.k), rng.clone().under(s.k + 2), s.k, 64, 255]) as u8,
             _ => 0,
         };
         rng.next();
@@ -361,7 +395,7 @@ fn propose(rng: &mut Rng, s: &Style, desk: &[u8]) -> Rec {
 /// Buffers go along with a log while it is made.
 impl Buffers {
     pub fn step(&mut self, record: &Rec) -> u8 {
-        fast::step(&mut self.desk, &mut self.sheet, &mut self.seen, &mut self.slip, record.slice())
+        fast::step(&mut self.desk, &mut self.sheet, &mut self.seen, &mut self.history, &mut self.slip, record.slice())
     }
     /// The next record and its answer.
     pub fn next(&mut self, rng: &mut Rng, style: &Style) -> (Rec, u8) {
@@ -372,10 +406,10 @@ impl Buffers {
                 let answer = self.step(&record);
                 return (record, answer);
             }
-            let (desk, sheet, seen) = (self.desk.clone(), self.sheet.clone(), self.seen.clone());
+            let (desk, sheet, seen, history) = (self.desk.clone(), self.sheet.clone(), self.seen.clone(), self.history.clone());
             let answer = self.step(&record);
             if answer == 1 && tries < 12 && rng.mille(style.avoid) {
-                (self.desk, self.sheet, self.seen) = (desk, sheet, seen);
+                (self.desk, self.sheet, self.seen, self.history) = (desk, sheet, seen, history);
                 tries += 1;
                 continue;
             }
@@ -423,9 +457,10 @@ pub fn steps(rng: &mut Rng, style: &Style, shadow: &mut Buffers, most: usize, ca
 pub fn log(rng: &mut Rng) -> Case {
     let k = any_k(rng);
     let style = any_style(rng, k);
-    let mut calls = vec![Call::Open(k as u64)];
+    let declared = crosslocks::some(rng, k, 250);
+    let mut calls = vec![Call::Open(k as u64, declared)];
     let most = rng.pick(&[5, 20, 60, 150, 300]);
-    steps(rng, &style, &mut Buffers::opened(k), most, &mut calls);
+    steps(rng, &style, &mut Buffers::declaring(k, declared), most, &mut calls);
     case(any_buffers(rng, k), calls)
 }
 
@@ -436,8 +471,9 @@ fn long_log(rng: &mut Rng) -> Case {
     style.damaged = 5;
     style.asks = 5;
     style.unordered = rng.pick(&[0, 0, 3]);
-    let mut calls = vec![Call::Open(k as u64)];
-    steps(rng, &style, &mut Buffers::opened(k), 3000, &mut calls);
+    let declared = crosslocks::some(rng, k, 300);
+    let mut calls = vec![Call::Open(k as u64, declared)];
+    steps(rng, &style, &mut Buffers::declaring(k, declared), 3000, &mut calls);
     case(any_buffers(rng, k), calls)
 }
 
@@ -553,8 +589,11 @@ pub fn fit_desk(rng: &mut Rng, k: usize) -> Buffers {
         }
     }
     numbers::scatter(rng, &mut buffers);
-    let Buffers { desk, sheet, seen, slip } = &buffers;
-    assert_eq!(reference::unfit(desk, sheet, seen, Some(slip)), None, "the made desk is unfit");
+    if rng.mille(400) {
+        crosslocks::scatter(rng, &mut buffers);
+    }
+    let Buffers { desk, sheet, seen, history, slip } = &buffers;
+    assert_eq!(unfit(desk, sheet, seen, history, slip), None, "the made desk is unfit");
     buffers
 }
 
@@ -619,13 +658,14 @@ fn tries(rng: &mut Rng) -> Case {
 
 /// Violates one clause of "Unfit" (by its place in CLAUSES); false if this desk can't.
 pub fn violate(rng: &mut Rng, clause: usize, b: &mut Buffers) -> bool {
-    let Buffers { desk, sheet, seen, slip } = b;
+    let Buffers { desk, sheet, seen, history, slip } = b;
     if clause == 0 {
         let part = rng.clone().between(ORIGINS, COUNT - 1);
+        let lists = rng.clone().between(DECLARED + 1, DESK - 1);
         let [a, b, c] = older::SIZES;
         let n = rng.pick(&[
             DESK - 1, DESK - 1, DESK - 1, COUNT, COUNT, COUNT, COUNT + 2, part, part, ORIGINS, ORIGINS - 1, ORIGINS - 1,
-            rng.clone().under(ORIGINS), a, b, c, a, b, c,
+            rng.clone().under(ORIGINS), a, b, c, a, b, c, DECLARED, DECLARED, lists, lists, COUNT + 2, COUNT + 1, COUNT + 3,
         ]);
         desk.truncate(n);
         rng.next();
@@ -744,7 +784,7 @@ pub fn violate(rng: &mut Rng, clause: usize, b: &mut Buffers) -> bool {
             }
             numbers::spoil(rng, name, sheet, seen, k);
         }
-        other => panic!("no way to violate {other}"),
+        other => return crosslocks::violate(rng, other, desk, history),
     }
     rng.next();
     true
@@ -783,7 +823,7 @@ fn unfit_desk(rng: &mut Rng) -> Case {
     }
     let mut calls = some_calls(rng, k, 6);
     if rng.mille(100) {
-        calls.push(Call::Open(k as u64));
+        calls.push(Call::Open(k as u64, 0));
         calls.extend(some_calls(rng, k, 3));
     }
     case(buffers, calls)
@@ -798,12 +838,14 @@ fn changed_desk(rng: &mut Rng) -> Case {
         Buffers::opened(k)
     };
     for _ in 0..rng.between(1, 3) {
-        let at = match rng.under(9) {
+        let at = match rng.under(11) {
             0 => rng.under(DEPTHS),
             1 => rng.between(DEPTHS, MARKS - 1),
             2 => rng.between(MARKS, HOLDS - 1),
-            3 => rng.between(ORIGINS, DESK - 1),
+            3 => rng.between(ORIGINS, DECLARED - 1),
             4 => rng.between(DESK + k * k, DESK + 5 * k * k - 1),
+            5 => rng.between(DECLARED, DESK - 1),
+            6 => DESK + 5 * k * k + rng.under(HISTORY),
             _ => rng.under(DESK + k * k),
         };
         let value = match rng.under(4) {
@@ -812,11 +854,12 @@ fn changed_desk(rng: &mut Rng) -> Case {
             2 => rng.pick(&[19, 20, 21, 47, 48, 49, 50, 255]),
             _ => 1 << rng.under(8),
         };
-        let Buffers { desk, sheet, seen, .. } = &mut buffers;
+        let Buffers { desk, sheet, seen, history, .. } = &mut buffers;
         match at.checked_sub(DESK) {
             None => desk[at] = value,
             Some(at) if at < k * k => sheet[at] = value,
-            Some(at) => seen[at - k * k] = value,
+            Some(at) if at < 5 * k * k => seen[at - k * k] = value,
+            Some(at) => history[at - 5 * k * k] = value,
         }
     }
     let calls = some_calls(rng, k, 4);
@@ -853,8 +896,19 @@ fn opening(rng: &mut Rng) -> Case {
             _ => lengths[2] = rng.pick(&[4 * kk - 1, 4 * kk - 1, 4 * kk - 1, kk, 4 * kk - 4, 4 * kk + 1]),
         }
     }
-    let buffers = Buffers::any(rng, lengths);
-    let mut calls = vec![Call::Open(k)];
+    let mut buffers = Buffers::any(rng, lengths);
+    let declared = crosslocks::any_word(rng, size);
+    if rng.mille(200) {
+        if by_length {
+            buffers = Buffers::any(rng, sizes(size));
+        }
+        buffers.history.truncate(rng.pick(&[HISTORY - 1, HISTORY - 1, HISTORY - 2, HISTORY / 2, 1, 0]));
+    } else if by_length && rng.mille(200) {
+        let n = rng.pick(&[DECLARED, DECLARED, DECLARED + 1, DESK - 1, COUNT + 2, ORIGINS - 1]);
+        buffers = Buffers::any(rng, sizes(size));
+        buffers.desk.truncate(n);
+    }
+    let mut calls = vec![Call::Open(k, declared)];
     calls.extend(some_calls(rng, size.max(1), 3));
     case(buffers, calls)
 }
@@ -892,8 +946,9 @@ pub fn pair(rng: &mut Rng) -> Case {
     }
     foreign.cores = own.cores.split_off(rng.between(1, 7));
     let most = rng.pick(&[4, 10, 40, 100]);
-    let make = |rng: &mut Rng, style: &Style, most: usize, banned: &[u8]| {
-        let mut shadow = Buffers::opened(k);
+    let declared = crosslocks::some(rng, k, 300);
+    let make = |rng: &mut Rng, style: &Style, most: usize, banned: &[u8], declared: u64| {
+        let mut shadow = Buffers::declaring(k, declared);
         let mut list = Vec::new();
         let mut after = 0;
         while list.len() < most && after < 4 {
@@ -908,9 +963,11 @@ pub fn pair(rng: &mut Rng) -> Case {
         }
         list
     };
-    let first = make(rng, &own, most, &[]);
+    let first = make(rng, &own, most, &[], declared);
     let named: Vec<u8> = first.iter().filter_map(|r| r.names()).collect();
-    let put_in = make(rng, &foreign, most, &named);
+    let mut put_in = make(rng, &foreign, most, &named, 0);
+    // None of kinds 10 to 12 is put in, and neither list is to meet 19.
+    put_in.retain(|record| !record.of_crosslock());
     let (mut calls, mut flags) = (Vec::new(), Vec::new());
     let (mut i, mut j) = (0, 0);
     let bias = rng.pick(&[100, 500, 900]);
@@ -926,7 +983,7 @@ pub fn pair(rng: &mut Rng) -> Case {
         }
     }
     let mut c = case(any_buffers(rng, k), calls);
-    c.pair = Some((k as u64, flags));
+    c.pair = Some(Pair { k: k as u64, declared: [declared; 2], in_first: flags });
     c
 }
 
@@ -952,7 +1009,7 @@ const KINDS: [Kind; 10] = [
 ];
 
 /// A part of the random cases: those with feeds, those with balances, those with joins, the others, and of the others those with
-/// clashes, those about numbers, those about depths and those about releases.
+/// clashes, those about numbers, those about depths, those about releases and those about crosslocks.
 #[derive(Clone, Copy, PartialEq, Eq)]
 pub enum Part {
     Feeds,
@@ -963,6 +1020,7 @@ pub enum Part {
     Numbers,
     Depths,
     Releases,
+    Crosslocks,
 }
 
 /// A random case, or None if it is not of the part that is wanted.
@@ -973,6 +1031,7 @@ pub fn random(rng: &mut Rng, only: Option<Part>) -> Option<Case> {
         (&clashes::KINDS, Part::Clashes),
         (&depths::KINDS, Part::Depths),
         (&releases::KINDS, Part::Releases),
+        (&crosslocks::KINDS, Part::Crosslocks),
         (&feeds::KINDS, Part::Feeds),
         (&balances::KINDS, Part::Balances),
         (&joins::KINDS, Part::Joins),
@@ -990,8 +1049,8 @@ pub fn random(rng: &mut Rng, only: Option<Part>) -> Option<Case> {
 // ---------------------------------------------------------------------- fixed
 
 /// Records in short: "c:w" on core c, w an acquire as 3E, 3r, 3R, a try as t3E, the release of such a lock as -3E or -t3E, or
-/// an event: h+ h- s+ s- (hard or soft on or off), S+ S- H+ H- (enter or exit a handler); or ? for a malformed acquire, -? for
-/// a malformed release.
+/// an event: h+ h- s+ s- (hard or soft on or off), S+ S- H+ H- (enter or exit a handler); of crosslock 3 x3 takes it, c3 commits it
+/// and -x3 releases it; or ? for a malformed acquire, -? for a malformed release, x? for a malformed take of a crosslock.
 pub fn read(text: &str) -> Vec<Rec> {
     let mut core = 0;
     let mut list = Vec::new();
@@ -1008,10 +1067,13 @@ pub fn read(text: &str) -> Vec<Rec> {
             Some(i) => Rec::new(core, 2 + i as u8, 0, 0),
             None => {
                 let (word, kind) = word.strip_prefix('-').map_or((word, 0), |lock| (lock, 1));
+                let crosslock = [('x', 10 + 2 * kind), ('c', 11)].into_iter().find_map(|(sort, kind)| Some((word.strip_prefix(sort)?, kind)));
                 let (lock, tried) = word.strip_prefix('t').map_or((word, 0), |lock| (lock, 3));
                 let (class, mode) = lock.split_at(lock.len() - 1);
-                match mode {
-                    "?" => Rec::new(core, kind, 0, 6),
+                match (crosslock, mode) {
+                    (Some(("?", kind)), _) => Rec::new(core, kind, 0, 1),
+                    (Some((class, kind)), _) => Rec::new(core, kind, class.parse().unwrap(), 0),
+                    (None, "?") => Rec::new(core, kind, 0, 6),
                     _ => Rec::new(core, kind, class.parse().unwrap(), "ErR".find(mode).unwrap() as u8 + tried),
                 }
             }
@@ -1160,15 +1222,15 @@ pub fn hand_logs() -> Vec<HandLog> {
 }
 
 /// The kinds of fixed cases, and how many there are of each.
-pub const FIXED: [(&str, u64); 70] = [
+pub const FIXED: [(&str, u64); 86] = [
     (HAND_LOGS, 107),
     (HAND_DRAWINGS, 48),
     (EACH_RING, 64 * ties::RINGS_OF_EACH),
     (SOME_TIES, 1200),
-    (EACH_OPENING, 6657),
-    (EACH_CLAUSE, 2850),
-    (EACH_DESK_BYTE, 33_227),
-    (EACH_STATE, 21_600),
+    (EACH_OPENING, 7389),
+    (EACH_CLAUSE, 4200),
+    (EACH_DESK_BYTE, 37_218),
+    (EACH_STATE, 23_760),
     (ALL_OF_1, 4352),
     (ALL_OF_2, 65_536),
     (ALL_MARKS_OF_2, 20_736),
@@ -1202,18 +1264,33 @@ pub const FIXED: [(&str, u64); 70] = [
     (releases::FULL_FRAME, 1728),
     (releases::OF_HAND_LOGS, 600),
     (releases::IN_PAIRS, 123),
+    (crosslocks::BY_HAND, 50),
+    (crosslocks::EACH_STATE, 162),
+    (crosslocks::EACH_FRAME, 576),
+    (crosslocks::EACH_CLASS, 67),
+    (crosslocks::EACH_SINCE, 119),
+    (crosslocks::STRUCK_OUT, 128),
+    (crosslocks::FIRST_REFUSAL, 1344),
+    (crosslocks::FULL_LISTS, 6),
+    (crosslocks::EACH_LIMIT, 731),
+    (crosslocks::HISTORY_BYTES, 5120),
+    (crosslocks::OPENINGS, 710),
+    (crosslocks::VISITS, 16),
+    (crosslocks::IN_PAIRS, 22),
+    (crosslocks::MANY_VISITS, 1),
     (feeds::EACH_FEED_SIZE, 160),
-    (feeds::EACH_STAND, 2160),
+    (feeds::EACH_STAND, 2970),
     (feeds::EACH_COUNT, 900),
-    (feeds::EACH_FEED_BYTE, 5922),
+    (feeds::EACH_FEED_BYTE, 8820),
     (feeds::HAND_LOGS, 4214),
-    (feeds::EACH_CUT, 39_956),
+    (feeds::EACH_CUT, 40_452),
+    (feeds::EACH_LONG_CUT, 9108),
     (feeds::LONG_PIECES, 7),
-    (balances::BY_HAND, 28),
+    (balances::BY_HAND, 33),
     (balances::EACH_CLASS, 3584),
-    (balances::EACH_PLACE, 252),
-    (balances::EACH_BYTE, 16_896),
-    (balances::HEADERS, 96),
+    (balances::EACH_PLACE, 273),
+    (balances::EACH_BYTE, 21_504),
+    (balances::HEADERS, 168),
     (balances::EACH_CUT, 1770),
     (balances::HAND_LOGS, 107),
     (balances::EACH_LENGTH, 612),
@@ -1229,7 +1306,8 @@ pub const FIXED: [(&str, u64); 70] = [
     (joins::ABOVE_COUNT, 144),
     (joins::EACH_REFUSAL, 560),
     (joins::EACH_SIZE, 640),
-    (joins::EACH_CLAUSE, 432),
+    (joins::EACH_CLAUSE, 528),
+    (joins::OF_CROSSLOCKS, 784),
     (joins::IN_PAIRS, joins::LISTS.len() as u64),
 ];
 const HAND_LOGS: &str = "hand logs";
@@ -1249,7 +1327,8 @@ const ALL_MARKS_OF_2: &str = "all marks of K = 2";
 pub fn fixed(each: &mut dyn FnMut(Case) -> bool) {
     let mut going = true;
     let all = [
-        fixed_calls, numbers::fixed, clashes::fixed, depths::fixed, releases::fixed, feeds::fixed, balances::fixed, joins::fixed,
+        fixed_calls, numbers::fixed, clashes::fixed, depths::fixed, releases::fixed, crosslocks::fixed, feeds::fixed,
+        balances::fixed, joins::fixed,
     ];
     for fixed in all {
         if going {
@@ -1266,7 +1345,7 @@ fn fixed_calls(each: &mut dyn FnMut(Case) -> bool) {
     let rng = &mut Rng::new(20_260_101);
     // Hand logs, every class asked after each record, and steps after the end.
     for log in hand_logs() {
-        let mut calls = vec![Call::Open(log.k as u64)];
+        let mut calls = vec![Call::Open(log.k as u64, 0)];
         ask_all(log.k, &mut calls);
         for (at, r) in log.records.iter().enumerate() {
             calls.push(Call::Step(*r));
@@ -1312,11 +1391,26 @@ fn fixed_calls(each: &mut dyn FnMut(Case) -> bool) {
             (0, 0, 0), (DESK + 22, 5000, 17_000), (DESK, 0, seen), (ORIGINS, sheet, seen), (ORIGINS - 1, sheet, seen),
             (DESK + 1, sheet, seen), (COUNT, sheet, seen), (COUNT - 1, sheet, seen), (DESK, sheet, seen_short),
             (DESK, sheet, sheet), (DESK, sheet, 0), (DESK, sheet, seen + 1), (DESK, short, seen_short),
-            (older::ORIGINS, sheet, seen), (older::COUNT, sheet, seen), (older::DESK, sheet, seen),
+            (older::ORIGINS, sheet, seen), (older::COUNT, sheet, seen), (older::DESK, sheet, seen), (DECLARED, sheet, seen),
         ] {
-            let mut calls = vec![Call::Open(k)];
+            let mut calls = vec![Call::Open(k, 0)];
             calls.extend(some_calls(rng, size.max(1), 2));
             if !each(EACH_OPENING, case(Buffers::any(rng, [d, s, n, slip]), calls)) {
+                return;
+            }
+        }
+    }
+    // The same with crosslocks: the last class, one over it, and a history too short and just long enough.
+    let other = &mut Rng::new(20_260_107);
+    for k in (0..=66).chain(BIG) {
+        let size = k.clamp(1, 64) as usize;
+        let (last, over) = (1 << (size - 1), 1u64.checked_shl(size as u32).unwrap_or(0));
+        for (declared, length) in [(last, HISTORY), (over, HISTORY), (last | 1, HISTORY - 1), (u64::MAX, HISTORY + 1), (0, HISTORY - 1)] {
+            let mut b = Buffers::any(other, sizes(size));
+            b.history = other.bytes(length);
+            let mut calls = vec![Call::Open(k, declared)];
+            calls.extend(some_calls(other, size, 2));
+            if !each(EACH_OPENING, case(b, calls)) {
                 return;
             }
         }
@@ -1350,7 +1444,7 @@ fn fixed_calls(each: &mut dyn FnMut(Case) -> bool) {
                 // A state over 8 with locks held in handlers is wrong twice: leave them out.
                 continue;
             }
-            let mut calls: Vec<Call> = (0..10u8).map(|kind| Call::Step(Rec::new(rng.under(8) as u8, kind, 0, 0))).collect();
+            let mut calls: Vec<Call> = (0..13u8).map(|kind| Call::Step(Rec::new(rng.under(8) as u8, kind, 0, 0))).collect();
             calls.push(Call::Step(damaged(rng, k)));
             calls.push(Call::Step(Rec::new(0, 0, k as u8, 0)));
             for class in [0, k as u64 - 1, k as u64, 255, 256, 1 << 32, u64::MAX] {
@@ -1367,14 +1461,14 @@ fn fixed_calls(each: &mut dyn FnMut(Case) -> bool) {
     // Each byte of the desk with each value, on an opened desk with some held locks.
     for at in 0..DESK {
         let k = [1, 3, 8, 64][at % 4];
-        let mut shadow = Buffers::opened(k);
+        let mut shadow = Buffers::declaring(k, if at >= DECLARED { 1 << (k - 1) } else { 0 });
         let style = try_style(k);
         for _ in 0..30 {
             shadow.next(rng, &style);
         }
         for value in 0..=255u8 {
             // Of the many places for held locks fewer values.
-            let some = if (HOLDS..ORIGINS).contains(&at) { 20 } else { 100 };
+            let some = if (HOLDS..ORIGINS).contains(&at) || at >= DECLARED { 20 } else { 100 };
             if at >= MARKS && value > 4 && !value.is_power_of_two() && !rng.mille(some) {
                 continue;
             }
@@ -1397,9 +1491,9 @@ fn fixed_calls(each: &mut dyn FnMut(Case) -> bool) {
                 // Among tries every second lock is one: the oldest, and so on.
                 push(&mut buffers.desk, here, 1 + 64 * 2, tries && i % 2 == 0);
             }
-            for kind in 0..10 {
+            for kind in 0..14 {
                 for class in 0..5 {
-                    for mode in 0..8 {
+                    for mode in if kind < 10 { 0..8 } else { 0..2 } {
                         let calls = vec![
                             Call::Step(Rec::new(4, kind, class, mode)), Call::Ask(1), Call::Step(Rec::new(4, 0, 2, 2)),
                         ];

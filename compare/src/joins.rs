@@ -2,17 +2,18 @@
 //! cases with them. What is to come of the fixed ones is worked out here from the documents; no judge is asked.
 
 use crate::clashes;
+use crate::crosslocks;
 use crate::drawing::Drawing;
 use crate::gen::{
     any_buffers, any_class, any_k, any_style, case, fit_desk, hold_at, may_hold, origin_at, pair, push, read, sizes, some_calls, steps,
     try_style, violate, Buffers, Kind,
 };
-use crate::judges::{Lent, Subject, FAST};
+use crate::judges::{of_bench, unfit_bench, Lent, Subject, CLAUSES, FAST};
 use crate::numbers::{self, FULL};
 use crate::rng::Rng;
-use crate::run::{Call, Case, Meant, Rec, Side};
+use crate::run::{Call, Case, Meant, Pair, Rec, Side};
 use crate::ties::{self, sketch, Sketch, EN, ER, SN, SR};
-use reference::{CLAUSES, COUNT, DEEPEST, DEPTHS, DESK, FRAMES, HOLDS, MARKS, STATES};
+use reference::{COUNT, DECLARED, DEEPEST, DEPTHS, DESK, FRAMES, HOLDS, KEPT_COUNT, MARKS, PROGRESS, SINCE, STATES};
 
 /// What is said of joins: in either order they are the same but for numbers; kinds, marks and faults of either bench are there; with
 /// a freshly opened bench they are the other's own drawing; the answer, and every byte of desk and sheets, are what is worked out here
@@ -34,7 +35,7 @@ pub enum Unfit {
 }
 
 pub fn unfit(first: Lent, second: Lent, lengths: [usize; 4]) -> Option<Unfit> {
-    let clause = |[desk, sheet, seen]: Lent| reference::unfit(desk, sheet, seen, None);
+    let clause = unfit_bench;
     let benches = [first, second].into_iter().enumerate();
     if let Some((side, clause)) = benches.filter_map(|(side, bench)| clause(bench).map(|clause| (side, clause))).next() {
         return Some(Unfit::Bench(side, CLAUSES.iter().position(|c| *c == clause)?));
@@ -73,7 +74,13 @@ fn fits([desk, sheet, seen]: Lent) -> bool {
     };
     // A number may be any.
     let pair_fits = |pair: usize| sheet[pair] < 16 && (sheet[pair] == 0) == (numbers::number(seen, pair) == 0);
-    (0..FRAMES).all(frame_fits) && (0..64).all(mark_fits) && (0..k * k).all(pair_fits)
+    // Of crosslocks: those declared are classes, those in progress are declared and at most 16, and at most 256 acquires are kept. The
+    // history is not lent.
+    let bit = |word: usize, class: usize| desk[word + class / 8] >> (class % 8) & 1 == 1;
+    let lists_fit = (0..64).all(|class| (!bit(DECLARED, class) || class < k) && (!bit(PROGRESS, class) || bit(DECLARED, class)))
+        && (0..64).filter(|&class| bit(PROGRESS, class)).count() <= 16
+        && (desk[KEPT_COUNT + 1..SINCE] == [0; 3] || desk[KEPT_COUNT..SINCE] == [0, 1, 0, 0]);
+    lists_fit && (0..FRAMES).all(frame_fits) && (0..64).all(mark_fits) && (0..k * k).all(pair_fits)
 }
 
 /// A join that was made: the benches, the four buffers before and after it, and its answer.
@@ -157,7 +164,7 @@ impl Join<'_> {
     /// What is wrong with a join of one of the benches and a fresh one.
     fn not_its_own(&self, side: usize, subject: &mut Subject) -> Option<String> {
         let [own, kinds, numbers] = self.benches[side];
-        let (k, fresh) = (self.k(), fresh(self.k()));
+        let (k, fresh) = (self.k(), declaring(self.k(), crosslocks::declared(own)));
         let order = if side == 0 { [self.benches[0], fresh.lent()] } else { [fresh.lent(), self.benches[1]] };
         let (answer, [desk, sheet, seen, _]) = self.another(order[0], order[1], subject);
         let fault = u8::from(alone(self.benches[side]).closed);
@@ -182,7 +189,7 @@ impl Join<'_> {
         let room = self.before.iter().zip(sizes(usize::from(k1.max(k2)))).all(|(buffer, size)| buffer.len() >= size);
         match () {
             _ if !room => Some(11),
-            _ if k1 != k2 => Some(12),
+            _ if k1 != k2 || first[0][DECLARED..PROGRESS] != second[0][DECLARED..PROGRESS] => Some(12),
             _ if first[0][1] == 1 || second[0][1] == 1 => Some(13),
             _ => None,
         }
@@ -200,6 +207,7 @@ impl Join<'_> {
             let [[one, kinds_one, seen_one], [two, kinds_two, seen_two]] = self.benches;
             desk[..DESK].fill(0);
             (desk[0], desk[1]) = (one[0], self.answer);
+            desk[DECLARED..PROGRESS].copy_from_slice(&two[DECLARED..PROGRESS]);
             for class in 0..64 {
                 desk[MARKS + class] = one[MARKS + class] | two[MARKS + class];
             }
@@ -224,10 +232,34 @@ fn alone(bench: Lent) -> Drawing {
 
 /// A freshly opened bench.
 fn fresh(k: usize) -> Buffers {
+    declaring(k, 0)
+}
+
+/// The same with these crosslocks.
+fn declaring(k: usize, declared: u64) -> Buffers {
     let [desk, sheet, seen, _] = sizes(k).map(|size| vec![0; size]);
-    let mut b = Buffers { desk, sheet, seen, slip: Vec::new() };
+    let mut b = Buffers { desk, sheet, seen, history: Vec::new(), slip: Vec::new() };
     b.desk[0] = k as u8;
+    b.desk[DECLARED..PROGRESS].copy_from_slice(&declared.to_le_bytes());
     b
+}
+
+/// Gives two benches the same crosslocks, none mostly; seldom one of them another.
+fn agree(rng: &mut Rng, both: &mut [Buffers; 2]) {
+    let (least, most) = (both[0].k().min(both[1].k()), both[0].k().max(both[1].k()));
+    let declared = match rng.under(10) {
+        0..6 => 0,
+        6 | 7 => crosslocks::declared(&both[0].desk),
+        _ => crosslocks::some(rng, least, 1000),
+    };
+    // Of either, where there are fewer classes.
+    let all = |k: usize| u64::MAX >> (64 - k);
+    both.iter_mut().for_each(|b| crosslocks::declare(rng, b, declared & all(least)));
+    if least == most && rng.mille(60) {
+        let side = rng.under(2);
+        let class = rng.pick(&[0, least - 1, rng.clone().under(least)]);
+        crosslocks::declare(rng, &mut both[side], (declared & all(least)) ^ 1 << class);
+    }
 }
 
 // ---------------------------------------------------------------------- random
@@ -246,7 +278,8 @@ fn cores(rng: &mut Rng, k: usize) -> Buffers {
 fn run(rng: &mut Rng, k: usize) -> Buffers {
     let mut style = if rng.mille(400) { try_style(k) } else { any_style(rng, k) };
     (style.avoid, style.unordered) = (1000, rng.pick(&[0, 0, 50, 1000]));
-    let mut b = Buffers::opened(k);
+    let declared = crosslocks::some(rng, k, 300);
+    let mut b = Buffers::declaring(k, declared);
     for _ in 0..rng.pick(&[3, 10, 25, 60]) {
         b.next(rng, &style);
     }
@@ -319,7 +352,11 @@ fn go_on(rng: &mut Rng, shadow: &mut Buffers, calls: &mut Vec<Call>) {
         style.asks = 60;
         let most = rng.pick(&[1, 3, 8, 20]);
         steps(rng, &style, shadow, most, calls);
-        let other = Side::Given(any_bench(rng, k));
+        let mut other = any_bench(rng, k);
+        if !rng.mille(40) {
+            crosslocks::declare(rng, &mut other, crosslocks::declared(&shadow.desk));
+        }
+        let other = Side::Given(other);
         let sides = match rng.under(5) {
             0 | 1 => [Side::Own, other],
             2 | 3 => [other, Side::Own],
@@ -342,7 +379,7 @@ fn go_on(rng: &mut Rng, shadow: &mut Buffers, calls: &mut Vec<Call>) {
 pub fn join(shadow: &mut Buffers, sides: &[Side; 2]) -> u8 {
     let own = shadow.clone();
     let [one, two] = sides.each_ref().map(|side| side.lent(own.lent()));
-    let Buffers { desk, sheet, seen, slip } = shadow;
+    let Buffers { desk, sheet, seen, slip, .. } = shadow;
     FAST.join_of(one, two, [desk, sheet, seen, slip])
 }
 
@@ -360,9 +397,10 @@ fn joined(rng: &mut Rng, buffers: Buffers, sides: [Side; 2]) -> Case {
 /// Two benches of any sort.
 fn any_join(rng: &mut Rng) -> Case {
     let k = any_k(rng);
-    let sides = [any_bench(rng, k), any_bench(rng, k)].map(Side::Given);
+    let mut both = [any_bench(rng, k), any_bench(rng, k)];
+    agree(rng, &mut both);
     let buffers = any_buffers(rng, k);
-    joined(rng, buffers, sides)
+    joined(rng, buffers, both.map(Side::Given))
 }
 
 /// What one drawing with cycles has, or a clash, on two benches.
@@ -375,9 +413,10 @@ fn of_halves(rng: &mut Rng) -> Case {
         let k = b.k();
         (k, b.sheet[..k * k].to_vec(), b.desk[MARKS..MARKS + k].to_vec())
     };
-    let sides = halves(rng, k, &kinds, &marks).map(Side::Given);
+    let mut both = halves(rng, k, &kinds, &marks);
+    agree(rng, &mut both);
     let buffers = any_buffers(rng, k);
-    joined(rng, buffers, sides)
+    joined(rng, buffers, both.map(Side::Given))
 }
 
 /// The same pairs on both benches, mostly by other kinds: so the first's numbers are to be shown with the second's kinds.
@@ -391,6 +430,7 @@ fn same_pairs(rng: &mut Rng) -> Case {
         both[1].sheet[pair] |= two;
     }
     both.iter_mut().for_each(|b| numbers::scatter(rng, b));
+    agree(rng, &mut both);
     let buffers = any_buffers(rng, k);
     joined(rng, buffers, both.map(Side::Given))
 }
@@ -400,10 +440,13 @@ fn after_log(rng: &mut Rng) -> Case {
     let k = any_k(rng);
     let mut style = any_style(rng, k);
     style.avoid = rng.pick(&[900, 1000, 1000]);
-    let (mut calls, mut shadow) = (vec![Call::Open(k as u64)], Buffers::opened(k));
+    let declared = crosslocks::some(rng, k, 400);
+    let (mut calls, mut shadow) = (vec![Call::Open(k as u64, declared)], Buffers::declaring(k, declared));
     let most = rng.pick(&[2, 10, 30]);
     steps(rng, &style, &mut shadow, most, &mut calls);
-    let other = Side::Given(any_bench(rng, k));
+    let mut other = any_bench(rng, k);
+    crosslocks::declare(rng, &mut other, declared);
+    let other = Side::Given(other);
     let sides = match rng.under(5) {
         0 | 1 => [Side::Own, other],
         2 | 3 => [other, Side::Own],
@@ -428,6 +471,7 @@ fn refused(rng: &mut Rng) -> Case {
     };
     let mut benches = [any_bench(rng, k), any_bench(rng, other)];
     benches.iter_mut().for_each(|bench| bench.desk[1] = 0);
+    agree(rng, &mut benches);
     let mut buffers = any_buffers(rng, k.max(other));
     let short = rng.mille(450);
     if short {
@@ -437,7 +481,7 @@ fn refused(rng: &mut Rng) -> Case {
         // A byte short, of the smaller K, as an older version had it, or any.
         let old = [642, size / 4, size / 4, 1 + 3 * k.max(other)][at].min(size - 1);
         let length = rng.pick(&[size - 1, size - 1, small, small, small.midpoint(size), old, old, rng.clone().under(size)]);
-        let Buffers { desk, sheet, seen, slip } = &mut buffers;
+        let Buffers { desk, sheet, seen, slip, .. } = &mut buffers;
         [desk, sheet, seen, slip][at].truncate(length);
     }
     let mut calls = Vec::new();
@@ -455,6 +499,13 @@ fn refused(rng: &mut Rng) -> Case {
             calls.push(Call::Join(Box::new(both.map(Side::Given))));
             continue;
         }
+        if k == other && !short && rng.mille(350) {
+            // Other crosslocks on one of them, by a bit, by all, or by none.
+            let (side, all) = (rng.under(2), u64::MAX >> (64 - k));
+            let one = crosslocks::declared(&both[side].desk);
+            let word = rng.pick(&[one ^ 1, one ^ 1 << (k - 1), one ^ 1 << rng.clone().under(k), !one & all, 0, all]);
+            crosslocks::declare(rng, &mut both[side], word);
+        }
         if short || rng.mille(if k == other { 250 } else { 600 }) {
             // One closed, the other, or both.
             let spared = rng.under(3);
@@ -464,7 +515,7 @@ fn refused(rng: &mut Rng) -> Case {
         let spared = rng.pick(&[0, 0, 0, 1, 1, 1, 2, 3, 3]);
         let spared = if short || k != other && rng.mille(500) { 3 } else { spared };
         for side in (0..2).filter(|side| spared < 3 && *side != spared) {
-            let clause = rng.under(CLAUSES.len());
+            let clause = rng.under(reference::CLAUSES.len());
             for _ in 0..20 {
                 let _ = fits(both[side].lent()) && violate(rng, clause, &mut both[side]);
             }
@@ -485,9 +536,9 @@ pub const PAIRS: &str = "pair of lists from a join";
 /// Two lists for demand 3, both from the same join.
 pub fn pair_from_join(rng: &mut Rng) -> Case {
     let mut c = pair(rng);
-    let Some((k, _)) = c.pair else { return c };
+    let Some(Pair { k, declared: [declared, _], .. }) = c.pair else { return c };
     let k = k as usize;
-    let mut sides = [fresh(k), fresh(k)];
+    let mut sides = [declaring(k, declared), declaring(k, declared)];
     for _ in 0..8 {
         let benches = match rng.under(4) {
             0 => [run(rng, k), run(rng, k)],
@@ -503,6 +554,10 @@ pub fn pair_from_join(rng: &mut Rng) -> Case {
                 halves(rng, k, &s.sheet, &s.marks)
             }
         };
+        let benches = benches.map(|mut b| {
+            crosslocks::declare(rng, &mut b, declared);
+            b
+        });
         if benches.iter().all(|b| b.desk[1] == 0) && !Drawing::joined(benches[0].lent(), benches[1].lent()).closed {
             sides = benches;
             break;
@@ -539,6 +594,7 @@ pub const SOME_MARKS: &str = "marks joined";
 pub const RINGS: &str = "rings on two benches";
 pub const EACH_CORE: &str = "each core's part of a bench";
 pub const ABOVE_COUNT: &str = "numbers above the count joined";
+pub const OF_CROSSLOCKS: &str = "crosslocks on benches to be joined";
 pub const IN_PAIRS: &str = "pairs of lists from joins by hand";
 
 /// A bench by hand: "" a fresh one, "log .." what the log leaves, else as a drawing by hand (see src/ties.rs).
@@ -778,7 +834,7 @@ fn each_refusal(rng: &mut Rng, each: &mut dyn FnMut(Case) -> bool) -> bool {
             if has(side) {
                 // Any clause but the slip's, which a bench has not.
                 while fits(benches[side as usize].lent()) {
-                    violate(rng, rng.clone().under(CLAUSES.len()), &mut benches[side as usize]);
+                    violate(rng, rng.clone().under(reference::CLAUSES.len()), &mut benches[side as usize]);
                     rng.next();
                 }
             }
@@ -789,7 +845,7 @@ fn each_refusal(rng: &mut Rng, each: &mut dyn FnMut(Case) -> bool) -> bool {
         let mut buffers = lent(rng, k1.max(k2));
         for at in (0..4).filter(|&at| has(4 + at)) {
             let (size, small) = (sizes(k1.max(k2))[at as usize], sizes(k1.min(k2))[at as usize]);
-            let Buffers { desk, sheet, seen, slip } = &mut buffers;
+            let Buffers { desk, sheet, seen, slip, .. } = &mut buffers;
             [desk, sheet, seen, slip][at as usize].truncate(small.min(size - 1));
         }
         let answer = match () {
@@ -840,12 +896,10 @@ fn each_size(rng: &mut Rng, each: &mut dyn FnMut(Case) -> bool) -> bool {
 
 /// Each clause on each bench, closed and open, with the same K and with another.
 fn each_clause(rng: &mut Rng, each: &mut dyn FnMut(Case) -> bool) -> bool {
-    let mut all = (0..CLAUSES.len()).flat_map(|clause| (0..24).map(move |turn| (clause, turn)));
+    let mut all = (0..CLAUSES.len()).filter(|&clause| of_bench(clause)).flat_map(|clause| (0..24).map(move |turn| (clause, turn)));
     all.all(|(clause, turn)| {
-        if CLAUSES[clause] == "slip too short" {
-            return true;
-        }
-        let k = [1, 2, 3, 8, 33, 63][turn % 6];
+        let many = CLAUSES[clause] == "more than 16 in progress";
+        let k = if many { [17, 18, 20, 33, 48, 63] } else { [1, 2, 3, 8, 33, 63] }[turn % 6];
         let other = if turn < 18 { k } else { k + 1 };
         let mut bad = if turn % 3 == 0 { Buffers::opened(k) } else { fit_desk(rng, k) };
         while fits(bad.lent()) {
@@ -1017,6 +1071,51 @@ fn each_core(rng: &mut Rng, each: &mut dyn FnMut(Case) -> bool) -> bool {
     })
 }
 
+/// Two words: joined where they are the same, whatever is in progress, kept and since when on either bench, and 12 else; 13 after it.
+/// Then a crosslock is taken on the joined desk, beside a history full of anything.
+fn of_crosslocks(rng: &mut Rng, each: &mut dyn FnMut(Case) -> bool) -> bool {
+    let words = |k: usize| {
+        let all = u64::MAX >> (64 - k);
+        [0, 1, 1 << (k - 1), 1 << (k / 2), all, all & 0x5555_5555_5555_5555, all & !0xFF]
+    };
+    let both = |k: usize| words(k).into_iter().flat_map(move |one| words(k).map(|two| (one, two)));
+    let mut all = [1, 2, 9, 64].into_iter().flat_map(|k| both(k).flat_map(move |words| (0..4).map(move |what| (k, words, what))));
+    all.all(|(k, (one, two), what)| {
+        let mut benches = [declaring(k, one), declaring(k, two)];
+        for (side, bench) in benches.iter_mut().enumerate() {
+            let desk = &mut bench.desk;
+            let progress = crosslocks::classes(crosslocks::declared(desk)).into_iter().take(16).fold(0u64, |word, class| word | 1 << class);
+            // In progress on the first, on the second, on both; kept, and since numbers.
+            if what & 1 << side != 0 {
+                desk[PROGRESS..KEPT_COUNT].copy_from_slice(&progress.to_le_bytes());
+                desk[KEPT_COUNT..SINCE].copy_from_slice(&[[0, 1, 0, 0], [200, 0, 0, 0]][side]);
+                desk[SINCE..DESK].copy_from_slice(&rng.bytes(DESK - SINCE));
+            }
+            desk[1] = u8::from(rng.mille(80));
+        }
+        let closed = benches.iter().any(|bench| bench.desk[1] == 1);
+        let answer = if one != two { 12 } else if closed { 13 } else { 0 };
+        let mut wanted = vec![0; DESK];
+        wanted[0] = k as u8;
+        wanted[DECLARED..PROGRESS].copy_from_slice(&one.to_le_bytes());
+        let buffers = lent(rng, k);
+        if answer > 1 {
+            return each(answered(rng, buffers, benches, answer));
+        }
+        let mut calls = vec![Call::Join(Box::new(benches.map(Side::Given)))];
+        let mut answers = vec![0];
+        if let Some(&class) = crosslocks::classes(one).last() {
+            // It is not in progress, then it is, since 0.
+            calls.extend([11, 10, 10].map(|kind| Call::Step(Rec::new(5, kind, class, 0))));
+            answers.extend([17, 0, 16]);
+            wanted[PROGRESS + usize::from(class) / 8] = 1 << (class % 8);
+            wanted[COUNT] = 1;
+        }
+        let meant = Meant { answers, slip: vec![99], desk: Some(wanted), ..Meant::default() };
+        each(case(buffers, calls).meaning(meant))
+    })
+}
+
 /// Numbers above the count on either bench: joined, and each bench stepped and asked alone.
 fn above_count(rng: &mut Rng, each: &mut dyn FnMut(Case) -> bool) -> bool {
     const COUNTS: [u32; 6] = [0, 1, 255, 256, 0x7FFF_FFFF, FULL - 1];
@@ -1065,7 +1164,8 @@ fn in_pairs(rng: &mut Rng, each: &mut dyn FnMut(Case) -> bool) -> bool {
         let calls = read(&words.join(" ")).into_iter().map(Call::Step).collect();
         let meant = Meant { answers: [answers, of_first].concat(), ..Meant::default() };
         let start = Some(Call::join(Side::Given(by_text(k, first)), Side::Given(by_text(k, second))));
-        each(Case { pair: Some((k as u64, in_first)), start, ..case(lent(rng, k), calls).meaning(meant) })
+        let pair = Some(Pair { k: k as u64, declared: [0; 2], in_first });
+        each(Case { pair, start, ..case(lent(rng, k), calls).meaning(meant) })
     })
 }
 
@@ -1073,7 +1173,7 @@ type Make = fn(&mut Rng, &mut dyn FnMut(Case) -> bool) -> bool;
 
 /// The cases, until one is answered with false.
 pub fn fixed(each: &mut dyn FnMut(Case) -> bool) {
-    const ALL: [(&str, Make); 12] = [
+    const ALL: [(&str, Make); 13] = [
         (BY_HAND, by_hand),
         (STEPS_AFTER, steps_after),
         (EACH_REFUSAL, each_refusal),
@@ -1081,6 +1181,7 @@ pub fn fixed(each: &mut dyn FnMut(Case) -> bool) {
         (EACH_SIZE, each_size),
         (ABOVE_COUNT, above_count),
         (EACH_CORE, each_core),
+        (OF_CROSSLOCKS, of_crosslocks),
         (ALL_KINDS, all_kinds),
         (EACH_NUMBER, each_number),
         (SOME_MARKS, some_marks),

@@ -5,22 +5,22 @@
 
 use crate::fast;
 
-/// K, then desk, sheet and second sheet.
-pub type Open = fn(u64, &mut [u8], &mut [u8], &mut [u8]) -> u8;
-/// Desk, both sheets and slip, and the record.
-pub type Step = fn(&mut [u8], &mut [u8], &mut [u8], &mut [u8], &[u8]) -> u8;
+/// K and the declared word, then desk, sheet, second sheet and history.
+pub type Open = fn(u64, u64, &mut [u8], &mut [u8], &mut [u8], &mut [u8]) -> u8;
+/// Desk, both sheets, history and slip, and the record.
+pub type Step = fn(&mut [u8], &mut [u8], &mut [u8], &mut [u8], &mut [u8], &[u8]) -> u8;
 pub type Ask = fn(&[u8], &[u8], &[u8], u64, &mut u64, &mut u32) -> u8;
 pub type FeedStart = fn(&mut [u8]) -> u8;
-/// Feed, desk, both sheets and slip, the piece, and the record number.
-pub type Feed = fn(&mut [u8], &mut [u8], &mut [u8], &mut [u8], &mut [u8], &[u8], &mut u64) -> u8;
-pub type FeedEnd = fn(&mut [u8], &mut [u8], &mut [u8], &mut [u8], &mut [u8], &mut u64) -> u8;
+/// Feed, desk, both sheets, history and slip, the piece, and the record number.
+pub type Feed = fn(&mut [u8], &mut [u8], &mut [u8], &mut [u8], &mut [u8], &mut [u8], &[u8], &mut u64) -> u8;
+pub type FeedEnd = fn(&mut [u8], &mut [u8], &mut [u8], &mut [u8], &mut [u8], &mut [u8], &mut u64) -> u8;
 /// Two benches, each a desk with both sheets, and desk, both sheets and slip of the third.
 pub type Join =
     fn(&[u8], &[u8], &[u8], &[u8], &[u8], &[u8], &mut [u8], &mut [u8], &mut [u8], &mut [u8]) -> u8;
 /// A piece, and where the balances go.
 pub type Balance = fn(&[u8], &mut [i32; 64]) -> u8;
 /// A log in one piece, and whether it has ended; no call of the library.
-pub type WholeLog = fn(&[u8], &mut [u8], &mut [u8], &mut [u8], &mut [u8], bool) -> (u8, u64);
+pub type WholeLog = fn(&[u8], &mut [u8], &mut [u8], &mut [u8], &mut [u8], &mut [u8], bool) -> (u8, u64);
 
 /// A judge's calls.
 #[derive(Clone, Copy)]
@@ -38,6 +38,34 @@ pub struct Judge {
 
 /// A bench that is joined: desk and both sheets.
 pub type Lent<'a> = [&'a [u8]; 3];
+
+/// The clauses of "Unfit": those of desk, sheets and slip, and those of the history, which a question and a bench that is joined
+/// have not.
+pub const CLAUSES: [&str; reference::CLAUSES.len() + reference::HISTORY_CLAUSES.len()] = {
+    let mut all = [""; reference::CLAUSES.len() + reference::HISTORY_CLAUSES.len()];
+    let mut at = 0;
+    while at < all.len() {
+        let (own, behind) = (reference::CLAUSES.len(), reference::HISTORY_CLAUSES);
+        all[at] = if at < own { reference::CLAUSES[at] } else { behind[at - own] };
+        at += 1;
+    }
+    all
+};
+
+/// Whether a clause is one of desk and sheets alone.
+pub fn of_bench(clause: usize) -> bool {
+    clause < reference::CLAUSES.len() && CLAUSES[clause] != "slip too short"
+}
+
+/// The first clause that is violated at a step.
+pub fn unfit(desk: &[u8], sheet: &[u8], seen: &[u8], history: &[u8], slip: &[u8]) -> Option<&'static str> {
+    reference::unfit(desk, sheet, seen, Some(slip)).or_else(|| reference::unfit_history(desk, history))
+}
+
+/// The same at a question, or of a bench that is joined.
+pub fn unfit_bench([desk, sheet, seen]: Lent) -> Option<&'static str> {
+    reference::unfit(desk, sheet, seen, None)
+}
 
 impl Judge {
     /// A join into desk, both sheets and slip.
@@ -60,7 +88,7 @@ pub const REFERENCE: Judge = Judge {
     feed_end: reference::feed_end,
     balance: lent::balance_into,
     join: reference::join,
-    whole_log: reference::whole_log,
+    whole_log: reference::whole_log_kept,
 };
 pub const FAST: Judge = Judge {
     open: fast::open,
@@ -71,7 +99,7 @@ pub const FAST: Judge = Judge {
     feed_end: fast::feed_end,
     balance: fast::balance,
     join: fast::join,
-    whole_log: reference::whole_log,
+    whole_log: reference::whole_log_kept,
 };
 
 /// Those that are compared.
@@ -93,11 +121,12 @@ impl Judges {
 
 extern "C" {
     fn plungerowl_open(
-        k: u64, desk: *mut u8, desk_len: usize, sheet: *mut u8, sheet_len: usize, seen: *mut u8, seen_len: usize,
+        k: u64, declared: u64, desk: *mut u8, desk_len: usize, sheet: *mut u8, sheet_len: usize, seen: *mut u8, seen_len: usize,
+        history: *mut u8, history_len: usize,
     ) -> u8;
     fn plungerowl_step(
         desk: *mut u8, desk_len: usize, sheet: *mut u8, sheet_len: usize, seen: *mut u8, seen_len: usize,
-        slip: *mut u8, slip_len: usize, record: *const u8, record_len: usize,
+        history: *mut u8, history_len: usize, slip: *mut u8, slip_len: usize, record: *const u8, record_len: usize,
     ) -> u8;
     fn plungerowl_ask(
         desk: *const u8, desk_len: usize, sheet: *const u8, sheet_len: usize, seen: *const u8, seen_len: usize,
@@ -106,12 +135,13 @@ extern "C" {
     fn plungerowl_feed_start(feed: *mut u8, feed_len: usize) -> u8;
     fn plungerowl_feed(
         feed: *mut u8, feed_len: usize, desk: *mut u8, desk_len: usize, sheet: *mut u8, sheet_len: usize,
-        seen: *mut u8, seen_len: usize, slip: *mut u8, slip_len: usize, piece: *const u8, piece_len: usize,
-        record: *mut u64,
+        seen: *mut u8, seen_len: usize, history: *mut u8, history_len: usize, slip: *mut u8, slip_len: usize,
+        piece: *const u8, piece_len: usize, record: *mut u64,
     ) -> u8;
     fn plungerowl_feed_end(
         feed: *mut u8, feed_len: usize, desk: *mut u8, desk_len: usize, sheet: *mut u8, sheet_len: usize,
-        seen: *mut u8, seen_len: usize, slip: *mut u8, slip_len: usize, record: *mut u64,
+        seen: *mut u8, seen_len: usize, history: *mut u8, history_len: usize, slip: *mut u8, slip_len: usize,
+        record: *mut u64,
     ) -> u8;
     fn plungerowl_balance(piece: *const u8, piece_len: usize, balances: *mut i32) -> u8;
     fn plungerowl_join(
@@ -127,19 +157,22 @@ extern "C" {
 }
 
 pub mod library {
-    pub fn open(k: u64, desk: &mut [u8], sheet: &mut [u8], seen: &mut [u8]) -> u8 {
+    pub fn open(k: u64, declared: u64, desk: &mut [u8], sheet: &mut [u8], seen: &mut [u8], history: &mut [u8]) -> u8 {
         unsafe {
             super::plungerowl_open(
-                k, desk.as_mut_ptr(), desk.len(), sheet.as_mut_ptr(), sheet.len(), seen.as_mut_ptr(), seen.len(),
+                k, declared, desk.as_mut_ptr(), desk.len(), sheet.as_mut_ptr(), sheet.len(), seen.as_mut_ptr(), seen.len(),
+                history.as_mut_ptr(), history.len(),
             )
         }
     }
     #[inline(never)]
-    pub fn step(desk: &mut [u8], sheet: &mut [u8], seen: &mut [u8], slip: &mut [u8], record: &[u8]) -> u8 {
+    pub fn step(
+        desk: &mut [u8], sheet: &mut [u8], seen: &mut [u8], history: &mut [u8], slip: &mut [u8], record: &[u8],
+    ) -> u8 {
         unsafe {
             super::plungerowl_step(
                 desk.as_mut_ptr(), desk.len(), sheet.as_mut_ptr(), sheet.len(), seen.as_mut_ptr(), seen.len(),
-                slip.as_mut_ptr(), slip.len(), record.as_ptr(), record.len(),
+                history.as_mut_ptr(), history.len(), slip.as_mut_ptr(), slip.len(), record.as_ptr(), record.len(),
             )
         }
     }
@@ -154,26 +187,29 @@ pub mod library {
     pub fn feed_start(feed: &mut [u8]) -> u8 {
         unsafe { super::plungerowl_feed_start(feed.as_mut_ptr(), feed.len()) }
     }
+    #[allow(clippy::too_many_arguments)]
     #[inline(never)]
     pub fn feed(
-        feed: &mut [u8], desk: &mut [u8], sheet: &mut [u8], seen: &mut [u8], slip: &mut [u8], piece: &[u8],
-        record: &mut u64,
+        feed: &mut [u8], desk: &mut [u8], sheet: &mut [u8], seen: &mut [u8], history: &mut [u8], slip: &mut [u8],
+        piece: &[u8], record: &mut u64,
     ) -> u8 {
         unsafe {
             super::plungerowl_feed(
                 feed.as_mut_ptr(), feed.len(), desk.as_mut_ptr(), desk.len(), sheet.as_mut_ptr(), sheet.len(),
-                seen.as_mut_ptr(), seen.len(), slip.as_mut_ptr(), slip.len(), piece.as_ptr(), piece.len(), record,
+                seen.as_mut_ptr(), seen.len(), history.as_mut_ptr(), history.len(), slip.as_mut_ptr(), slip.len(),
+                piece.as_ptr(), piece.len(), record,
             )
         }
     }
     #[inline(never)]
     pub fn feed_end(
-        feed: &mut [u8], desk: &mut [u8], sheet: &mut [u8], seen: &mut [u8], slip: &mut [u8], record: &mut u64,
+        feed: &mut [u8], desk: &mut [u8], sheet: &mut [u8], seen: &mut [u8], history: &mut [u8], slip: &mut [u8],
+        record: &mut u64,
     ) -> u8 {
         unsafe {
             super::plungerowl_feed_end(
                 feed.as_mut_ptr(), feed.len(), desk.as_mut_ptr(), desk.len(), sheet.as_mut_ptr(), sheet.len(),
-                seen.as_mut_ptr(), seen.len(), slip.as_mut_ptr(), slip.len(), record,
+                seen.as_mut_ptr(), seen.len(), history.as_mut_ptr(), history.len(), slip.as_mut_ptr(), slip.len(), record,
             )
         }
     }
@@ -261,37 +297,44 @@ impl Subject {
         Subject::Library(Box::new(Edges { edges, calls: 0 }))
     }
 
-    pub fn open(&mut self, k: u64, desk: &mut [u8], sheet: &mut [u8], seen: &mut [u8]) -> u8 {
+    pub fn open(
+        &mut self, k: u64, declared: u64, desk: &mut [u8], sheet: &mut [u8], seen: &mut [u8], history: &mut [u8],
+    ) -> u8 {
         match self {
-            Subject::Planted(judge) => (judge.open)(k, desk, sheet, seen),
+            Subject::Planted(judge) => (judge.open)(k, declared, desk, sheet, seen, history),
             Subject::Library(e) => {
                 if !e.turn() {
-                    return library::open(k, desk, sheet, seen);
+                    return library::open(k, declared, desk, sheet, seen, history);
                 }
-                let [a, b, c, ..] = &mut e.edges;
-                let (d, s, n) = (a.copy(desk), b.copy(sheet), c.copy(seen));
-                let answer = library::open(k, d, s, n);
+                let [a, b, c, f, ..] = &mut e.edges;
+                let (d, s, n, h) = (a.copy(desk), b.copy(sheet), c.copy(seen), f.copy(history));
+                let answer = library::open(k, declared, d, s, n, h);
                 desk.copy_from_slice(d);
                 sheet.copy_from_slice(s);
                 seen.copy_from_slice(n);
+                history.copy_from_slice(h);
                 answer
             }
         }
     }
 
-    pub fn step(&mut self, desk: &mut [u8], sheet: &mut [u8], seen: &mut [u8], slip: &mut [u8], record: &[u8]) -> u8 {
+    pub fn step(
+        &mut self, desk: &mut [u8], sheet: &mut [u8], seen: &mut [u8], history: &mut [u8], slip: &mut [u8], record: &[u8],
+    ) -> u8 {
         match self {
-            Subject::Planted(judge) => (judge.step)(desk, sheet, seen, slip, record),
+            Subject::Planted(judge) => (judge.step)(desk, sheet, seen, history, slip, record),
             Subject::Library(e) => {
                 if !e.turn() {
-                    return library::step(desk, sheet, seen, slip, record);
+                    return library::step(desk, sheet, seen, history, slip, record);
                 }
-                let [a, b, c, f, g, ..] = &mut e.edges;
-                let (d, s, n, l, r) = (a.copy(desk), b.copy(sheet), c.copy(seen), f.copy(slip), g.copy(record));
-                let answer = library::step(d, s, n, l, r);
+                let [a, b, c, f, g, i, ..] = &mut e.edges;
+                let (d, s, n, h) = (a.copy(desk), b.copy(sheet), c.copy(seen), i.copy(history));
+                let (l, r) = (f.copy(slip), g.copy(record));
+                let answer = library::step(d, s, n, h, l, r);
                 desk.copy_from_slice(d);
                 sheet.copy_from_slice(s);
                 seen.copy_from_slice(n);
+                history.copy_from_slice(h);
                 slip.copy_from_slice(l);
                 assert_eq!(r, record, "the record was changed");
                 answer
@@ -332,24 +375,26 @@ impl Subject {
         }
     }
 
+    #[allow(clippy::too_many_arguments)]
     pub fn feed(
-        &mut self, feed: &mut [u8], desk: &mut [u8], sheet: &mut [u8], seen: &mut [u8], slip: &mut [u8], piece: &[u8],
-        record: &mut u64,
+        &mut self, feed: &mut [u8], desk: &mut [u8], sheet: &mut [u8], seen: &mut [u8], history: &mut [u8], slip: &mut [u8],
+        piece: &[u8], record: &mut u64,
     ) -> u8 {
         match self {
-            Subject::Planted(judge) => (judge.feed)(feed, desk, sheet, seen, slip, piece, record),
+            Subject::Planted(judge) => (judge.feed)(feed, desk, sheet, seen, history, slip, piece, record),
             Subject::Library(e) => {
                 if !e.turn() {
-                    return library::feed(feed, desk, sheet, seen, slip, piece, record);
+                    return library::feed(feed, desk, sheet, seen, history, slip, piece, record);
                 }
-                let [a, b, c, d, g, h, ..] = &mut e.edges;
+                let [a, b, c, d, g, h, i, ..] = &mut e.edges;
                 let (f, d, s, n) = (a.copy(feed), b.copy(desk), c.copy(sheet), d.copy(seen));
-                let (l, p) = (g.copy(slip), h.copy(piece));
-                let answer = library::feed(f, d, s, n, l, p, record);
+                let (l, p, h) = (g.copy(slip), h.copy(piece), i.copy(history));
+                let answer = library::feed(f, d, s, n, h, l, p, record);
                 feed.copy_from_slice(f);
                 desk.copy_from_slice(d);
                 sheet.copy_from_slice(s);
                 seen.copy_from_slice(n);
+                history.copy_from_slice(h);
                 slip.copy_from_slice(l);
                 assert!(p == piece, "the piece was changed");
                 answer
@@ -358,22 +403,24 @@ impl Subject {
     }
 
     pub fn feed_end(
-        &mut self, feed: &mut [u8], desk: &mut [u8], sheet: &mut [u8], seen: &mut [u8], slip: &mut [u8],
+        &mut self, feed: &mut [u8], desk: &mut [u8], sheet: &mut [u8], seen: &mut [u8], history: &mut [u8], slip: &mut [u8],
         record: &mut u64,
     ) -> u8 {
         match self {
-            Subject::Planted(judge) => (judge.feed_end)(feed, desk, sheet, seen, slip, record),
+            Subject::Planted(judge) => (judge.feed_end)(feed, desk, sheet, seen, history, slip, record),
             Subject::Library(e) => {
                 if !e.turn() {
-                    return library::feed_end(feed, desk, sheet, seen, slip, record);
+                    return library::feed_end(feed, desk, sheet, seen, history, slip, record);
                 }
-                let [a, b, c, d, g, ..] = &mut e.edges;
-                let (f, d, s, n, l) = (a.copy(feed), b.copy(desk), c.copy(sheet), d.copy(seen), g.copy(slip));
-                let answer = library::feed_end(f, d, s, n, l, record);
+                let [a, b, c, d, g, i, ..] = &mut e.edges;
+                let (f, d, s, n) = (a.copy(feed), b.copy(desk), c.copy(sheet), d.copy(seen));
+                let (l, h) = (g.copy(slip), i.copy(history));
+                let answer = library::feed_end(f, d, s, n, h, l, record);
                 feed.copy_from_slice(f);
                 desk.copy_from_slice(d);
                 sheet.copy_from_slice(s);
                 seen.copy_from_slice(n);
+                history.copy_from_slice(h);
                 slip.copy_from_slice(l);
                 answer
             }

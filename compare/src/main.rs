@@ -1,5 +1,5 @@
 //! compare: runs the proved library and the independent reference over many inputs and
-//! compares after every call: the answer, every byte of desk, both sheets, slip and feed
+//! compares after every call: the answer, every byte of desk, both sheets, history, slip and feed
 //! with the guards around them, word and count, the record number, the balances; of a join
 //! the benches too, which must not change. See HELP.
 
@@ -7,6 +7,7 @@ mod balances;
 mod bench;
 mod claim;
 mod clashes;
+mod crosslocks;
 mod cycles;
 mod depths;
 mod drawing;
@@ -54,9 +55,10 @@ compare: the library beside the reference, call by call and byte by byte
                            less, the answers that the documents give for the hand logs,
                            the slips written down for the hand drawings, what is to come
                            of the rings and of the cases with clashes and numbers, the
-                           numbers that a list of records alone gives, balances that
-                           are counted here, added, and held to the locks on a desk, and
-                           joins that are worked out here and made in either order
+                           numbers, kinds, marks, crosslocks and history that a list of
+                           records alone gives, balances that are counted here, added,
+                           and held to the locks on a desk, and joins that are worked
+                           out here and made in either order
   --without NAME           leave out what is counted under this name
 
 Exit status: 0 no difference and every minimum met; 1 a difference, a wrong answer or a
@@ -166,11 +168,11 @@ fn report(met: &Met, limits: &Limits) -> bool {
         ("opening", &random.open), ("step", &random.step), ("question", &random.ask), ("feed start", &random.feed_start),
         ("piece", &random.feed), ("feed end", &random.feed_end), ("balance", &random.balance), ("join", &random.join),
     ] {
-        let row: Vec<String> = (0..16).filter(|&i| answers[i] > 0).map(|i| format!("{i}: {}", answers[i])).collect();
+        let row: Vec<String> = (0..20).filter(|&i| answers[i] > 0).map(|i| format!("{i}: {}", answers[i])).collect();
         println!("{name:10} {}", row.join(", "));
     }
     println!("unfit, first clause met (step, question, first bench of a join, second):");
-    for (i, clause) in reference::CLAUSES.iter().enumerate() {
+    for (i, clause) in judges::CLAUSES.iter().enumerate() {
         println!(
             "  {clause:32} {:>9} {:>9} {:>9} {:>9}",
             random.clause_step[i], random.clause_ask[i], random.clause_join[0][i], random.clause_join[1][i]
@@ -192,9 +194,9 @@ fn report(met: &Met, limits: &Limits) -> bool {
     println!("pieces whose balances were added over a split {}, held to the locks on a desk {}", random.added, random.held);
     let [none, second, both] = random.pair_faults;
     println!(
-        "pairs of lists ({} records in the second lists): no fault {none}, fault in the second only {second}, in both {both}; other numbers {}; \
+        "pairs of lists ({} records in the second lists): no fault {none}, fault in the second only {second}, in both {both}; other numbers {}; with crosslocks {}; \
          releases of mode 1 to 5 put in: accepted {}, 5 {}",
-        random.pair_records, random.pair_numbers, random.pair_released, random.pair_not_fitting
+        random.pair_records, random.pair_numbers, random.pair_crosslocks, random.pair_released, random.pair_not_fitting
     );
     println!(
         "questions answered on closed desks {}, on open desks where the class reaches itself {}",
@@ -226,8 +228,8 @@ fn report(met: &Met, limits: &Limits) -> bool {
 fn hand_answers(subject: &mut Subject) -> bool {
     let mut well = true;
     for log in gen::hand_logs() {
-        let Buffers { mut desk, mut sheet, mut seen, mut slip } = Buffers::opened(log.k);
-        let step = |r: &Rec| subject.step(&mut desk, &mut sheet, &mut seen, &mut slip, r.slice());
+        let Buffers { mut desk, mut sheet, mut seen, mut history, mut slip } = Buffers::opened(log.k);
+        let step = |r: &Rec| subject.step(&mut desk, &mut sheet, &mut seen, &mut history, &mut slip, r.slice());
         let answers: Vec<u8> = log.records.iter().map(step).collect();
         let n = answers.len();
         let right = n == 0 || (answers[n - 1] == log.last && answers[..n - 1].iter().all(|&a| a == 0));
@@ -238,9 +240,9 @@ fn hand_answers(subject: &mut Subject) -> bool {
         let mut b = Buffers::opened(log.k);
         let (mut feed, mut number) = ([0; reference::FEED], 0);
         for piece in feeds::log_of(log.k as u8, &log.records).chunks(5) {
-            subject.feed(&mut feed, &mut b.desk, &mut b.sheet, &mut b.seen, &mut b.slip, piece, &mut number);
+            subject.feed(&mut feed, &mut b.desk, &mut b.sheet, &mut b.seen, &mut b.history, &mut b.slip, piece, &mut number);
         }
-        let answer = subject.feed_end(&mut feed, &mut b.desk, &mut b.sheet, &mut b.seen, &mut b.slip, &mut number);
+        let answer = subject.feed_end(&mut feed, &mut b.desk, &mut b.sheet, &mut b.seen, &mut b.history, &mut b.slip, &mut number);
         if (answer, number) != (log.last, n as u64) {
             println!("hand log {} in pieces: {answer} at record {number}, not {} at record {n}", log.name, log.last);
             well = false;
@@ -253,11 +255,11 @@ fn hand_answers(subject: &mut Subject) -> bool {
 fn hand_slips(subject: &mut Subject) -> bool {
     let mut well = true;
     for drawing in ties::hand_drawings() {
-        let Buffers { mut desk, mut sheet, mut seen, mut slip } = drawing.sketch.buffers();
+        let Buffers { mut desk, mut sheet, mut seen, mut history, mut slip } = drawing.sketch.buffers();
         slip.fill(99);
         let mut expected = slip.clone();
         expected[..drawing.slip.len()].copy_from_slice(&drawing.slip);
-        let answer = subject.step(&mut desk, &mut sheet, &mut seen, &mut slip, &[0x4C, 0x4B, 0, 2, 0, 0]);
+        let answer = subject.step(&mut desk, &mut sheet, &mut seen, &mut history, &mut slip, &[0x4C, 0x4B, 0, 2, 0, 0]);
         if (answer, &slip) != (1, &expected) {
             println!("hand drawing {}: answer {answer}, slip {slip:?}, not {expected:?}", drawing.name);
             well = false;
@@ -274,7 +276,7 @@ fn long_records(subject: &mut Subject) -> bool {
         let mut record = vec![0; len];
         record[..6].copy_from_slice(&[0x4C, 0x4B, 0, 0, 1, 0]);
         let mut b = Buffers::opened(8);
-        let answer = subject.step(&mut b.desk, &mut b.sheet, &mut b.seen, &mut b.slip, &record);
+        let answer = subject.step(&mut b.desk, &mut b.sheet, &mut b.seen, &mut b.history, &mut b.slip, &record);
         let fresh = Buffers::opened(8);
         let unchanged = b.desk == fresh.desk && b.sheet == fresh.sheet && b.seen == fresh.seen && b.slip == fresh.slip;
         if (answer, unchanged) != if len == 6 { (0, false) } else { (3, true) } {

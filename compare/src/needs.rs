@@ -5,10 +5,10 @@ use crate::balances;
 use crate::feeds::{self, PROMISE};
 use crate::gen::{self, Buffers};
 use crate::joins::{self, Unfit};
-use crate::judges::FAST;
-use crate::run::{Call, Case, Counts, History};
+use crate::judges::{of_bench, unfit, unfit_bench, CLAUSES, FAST};
+use crate::run::{Call, Case, Counts, History, Pair};
 use crate::sights::{Look, SIGHTS};
-use reference::{CLAUSES, DEEPEST, DEPTHS, FEED_CLAUSES, MARKS};
+use reference::{DEEPEST, DEPTHS, FEED_CLAUSES, MARKS};
 use std::cell::OnceCell;
 
 /// Random cases of a full run: 80,000 to 100,000 were seen in 60 s on two shared cores.
@@ -39,8 +39,9 @@ pub enum Need {
     Promise(usize),
     FaultInSecond,
     FaultInBoth,
-    /// Two lists that gave two classes another number each.
+    /// Two lists that gave two classes another number each, and two with crosslocks.
     OtherNumbers,
+    PairOfCrosslocks,
     /// A release of mode 1 to 5 put in, that was accepted, and that was refused with 5.
     ReleasePutIn,
     NotFittingPutIn,
@@ -77,7 +78,13 @@ const SHOWN: [[u64; 3]; 4] = [[2100, 180, 84], [3300, 140, 74], [550, 32, 13], [
 const MODES: [&str; 6] = ["E", "r", "R", "try E", "try r", "try R"];
 
 /// The kinds of random cases; named here too, so that one is missed that is no longer made.
-const RANDOM: [(&str, u64); 43] = [
+const RANDOM: [(&str, u64); 49] = [
+    ("log of crosslocks", 240),
+    ("crosslocks on a desk", 240),
+    ("crosslocks at their limits", 210),
+    ("odd crosslocks", 340),
+    ("visits of handlers", 66),
+    ("history filled", 18),
     ("log from opening", 740),
     ("deep log", 250),
     ("deep frame", 490),
@@ -135,7 +142,7 @@ pub fn all() -> Vec<(Need, u64)> {
             Step,
             &[
                 (0, 210_000), (1, 2500), (3, 4700), (4, 1300), (5, 3700), (6, 4900), (7, 600), (8, 1000), (9, 4200),
-                (10, 10_000), (11, 5600),
+                (10, 10_000), (11, 5600), (15, 3400), (16, 1300), (17, 1100), (18, 20), (19, 140),
             ],
         ),
         (Question, &[(0, 10_000), (4, 3400), (11, 2400)]),
@@ -144,14 +151,14 @@ pub fn all() -> Vec<(Need, u64)> {
             Piece,
             &[
                 (0, 14_000), (1, 410), (2, 6400), (3, 2800), (4, 100), (5, 130), (6, 220), (7, 61), (8, 83), (9, 870),
-                (10, 440), (11, 4700),
+                (10, 440), (11, 4700), (15, 20), (16, 12), (17, 13), (18, 20), (19, 12),
             ],
         ),
         (
             End,
             &[
                 (0, 1100), (1, 160), (2, 1200), (3, 1100), (4, 69), (5, 56), (6, 92), (7, 50), (8, 53), (9, 200), (10, 490),
-                (11, 1400),
+                (11, 1400), (15, 14), (16, 12), (17, 9), (18, 14), (19, 12),
             ],
         ),
         (Balance, &[(0, 1800), (14, 440)]),
@@ -161,13 +168,13 @@ pub fn all() -> Vec<(Need, u64)> {
     }
     for clause in 0..CLAUSES.len() {
         all.push((Need::Clause(Step, clause), 67));
-        // A question has no slip.
-        if CLAUSES[clause] != "slip too short" {
+        // A question has no history and no slip.
+        if of_bench(clause) {
             all.push((Need::Clause(Question, clause), 32));
         }
     }
     for side in 0..2 {
-        let clauses = (0..CLAUSES.len()).filter(|&clause| CLAUSES[clause] != "slip too short");
+        let clauses = (0..CLAUSES.len()).filter(|&clause| of_bench(clause));
         all.extend(clauses.map(|clause| (Need::JoinClause(side, clause), 20)));
     }
     all.extend((0..4).map(|buffer| (Need::JoinShort(buffer), 30)));
@@ -177,7 +184,7 @@ pub fn all() -> Vec<(Need, u64)> {
         all.extend([(Need::FeedClause(Piece, clause), 110), (Need::FeedClause(End, clause), 57)]);
     }
     all.extend([2300, 1000, 2300].into_iter().enumerate().map(|(part, least)| (Need::Promise(part), least)));
-    all.extend([(Need::FaultInSecond, 80), (Need::FaultInBoth, 66), (Need::OtherNumbers, 180)]);
+    all.extend([(Need::FaultInSecond, 80), (Need::FaultInBoth, 66), (Need::OtherNumbers, 180), (Need::PairOfCrosslocks, 100)]);
     all.extend([(Need::ReleasePutIn, 190), (Need::NotFittingPutIn, 44)]);
     let modes = (0..6).flat_map(|newest| (0..6).map(move |mode| (newest, mode)));
     all.extend(modes.filter(|(newest, mode)| newest != mode).map(|(newest, mode)| (Need::OlderFits(newest, mode), 28)));
@@ -218,6 +225,7 @@ impl Need {
             Need::FaultInSecond => "pair with a fault in the second list only".into(),
             Need::FaultInBoth => "pair with a fault in both lists".into(),
             Need::OtherNumbers => "pair whose lists give other numbers".into(),
+            Need::PairOfCrosslocks => "pair with crosslocks in the first list".into(),
             Need::ReleasePutIn => "pair with an accepted release of mode 1 to 5 put in".into(),
             Need::NotFittingPutIn => "pair with a release of mode 1 to 5 put in that got 5".into(),
             Need::OlderFits(newest, mode) => {
@@ -262,6 +270,7 @@ impl Need {
             Need::FaultInSecond => random.pair_faults[1],
             Need::FaultInBoth => random.pair_faults[2],
             Need::OtherNumbers => random.pair_numbers,
+            Need::PairOfCrosslocks => random.pair_crosslocks,
             Need::ReleasePutIn => random.pair_released,
             Need::NotFittingPutIn => random.pair_not_fitting,
             Need::OlderFits(newest, mode) => random.older_fits[usize::from(newest)][usize::from(mode)],
@@ -289,22 +298,27 @@ impl Need {
             (Need::Fixed(name) | Need::Kind(name), _) => return case.name != name,
             // From opening it is no such pair.
             (Need::FaultByStart, Some(_)) => case.start = None,
-            (Need::FaultInSecond | Need::JoinedFaultInSecond | Need::OtherNumbers, Some((_, in_first))) => {
+            (Need::PairOfCrosslocks, Some(_)) => {
+                let kept: Vec<bool> =
+                    case.calls.iter().map(|call| !matches!(call, Call::Step(record) if record.of_crosslock())).collect();
+                keep(case, &kept);
+            }
+            (Need::FaultInSecond | Need::JoinedFaultInSecond | Need::OtherNumbers, Some(Pair { in_first, .. })) => {
                 let in_first = in_first.clone();
                 keep(case, &in_first);
             }
-            (Need::FaultInBoth | Need::JoinedFaultInBoth, Some((_, in_first))) => {
+            (Need::FaultInBoth | Need::JoinedFaultInBoth, Some(Pair { in_first, .. })) => {
                 let in_first = in_first.clone();
                 let kept = play(case, |seen| seen.answer != 1, Some(&in_first));
                 keep(case, &kept);
             }
-            (Need::ReleasePutIn | Need::NotFittingPutIn, Some((_, in_first))) => {
+            (Need::ReleasePutIn | Need::NotFittingPutIn, Some(Pair { in_first, .. })) => {
                 let by_mode = |call: &Call| matches!(call, Call::Step(record) if record.releases_by_mode());
                 let kept: Vec<bool> = case.calls.iter().zip(in_first).map(|(call, first)| *first || !by_mode(call)).collect();
                 keep(case, &kept);
             }
             (Need::FaultInSecond | Need::FaultInBoth | Need::OtherNumbers | Need::ReleasePutIn | Need::NotFittingPutIn, None) => {}
-            (Need::JoinedFaultInSecond | Need::JoinedFaultInBoth | Need::FaultByStart, None) => {}
+            (Need::JoinedFaultInSecond | Need::JoinedFaultInBoth | Need::FaultByStart | Need::PairOfCrosslocks, None) => {}
             // A pair is run twice with two answers to a record.
             (_, Some(_)) => return false,
             // A case without a call of the feed is held to no promise.
@@ -320,7 +334,7 @@ impl Need {
     /// Whether a call is such as this need counts, or one without which it is not met.
     fn meets(self, seen: &Seen) -> bool {
         let call = match seen.call {
-            Call::Open(_) => Opening,
+            Call::Open(..) => Opening,
             Call::Step(_) => Step,
             Call::Ask(_) => Question,
             Call::FeedStart => Start,
@@ -388,6 +402,7 @@ impl Seen<'_> {
             sheet_after: &after.sheet,
             seen: &before.seen,
             seen_after: &after.seen,
+            kept: &before.history,
             slip: &after.slip,
             slip_before: &before.slip,
             feed: &self.feed,
@@ -405,7 +420,7 @@ impl Seen<'_> {
     fn join_unfit(&self) -> Option<Unfit> {
         let Call::Join(sides) = self.call else { return None };
         let [one, two] = sides.each_ref().map(|side| side.lent(self.before.lent()));
-        let Buffers { desk, sheet, seen, slip } = &self.before;
+        let Buffers { desk, sheet, seen, slip, .. } = &self.before;
         joins::unfit(one, two, [desk.len(), sheet.len(), seen.len(), slip.len()])
     }
     /// With answer 11: the first clause that is violated.
@@ -422,10 +437,12 @@ impl Seen<'_> {
         if self.call.of_feed() {
             return reference::unfit_feed(&self.feed).filter(|_| self.answer == 11);
         }
-        let Buffers { desk, sheet, seen, slip } = &self.before;
-        let slip = matches!(self.call, Call::Step(_)).then_some(&slip[..]);
-        let unfit = || reference::unfit(desk, sheet, seen, slip);
-        if self.answer == 11 { unfit() } else { None }
+        let Buffers { desk, sheet, seen, history, slip } = &self.before;
+        match self.call {
+            _ if self.answer != 11 => None,
+            Call::Step(_) => unfit(desk, sheet, seen, history, slip),
+            _ => unfit_bench([desk, sheet, seen]),
+        }
     }
 }
 
@@ -434,7 +451,10 @@ fn play(case: &Case, keeps: impl Fn(&Seen) -> bool, chosen: Option<&[bool]>) -> 
     let mut now = case.buffers.clone();
     match (&case.pair, &case.start) {
         (Some(_), Some(Call::Join(sides))) => drop(joins::join(&mut now, sides)),
-        (Some((k, _)), _) => drop((FAST.open)(*k, &mut now.desk, &mut now.sheet, &mut now.seen)),
+        (Some(Pair { k, declared, .. }), _) => {
+            let Buffers { desk, sheet, seen, history, .. } = &mut now;
+            let _ = (FAST.open)(*k, declared[1], desk, sheet, seen, history);
+        }
         _ => {}
     }
     let (mut feed, mut history) = (case.feed.clone(), History::default());
@@ -446,14 +466,14 @@ fn play(case: &Case, keeps: impl Fn(&Seen) -> bool, chosen: Option<&[bool]>) -> 
         }
         let (before, feed_before) = (now.clone(), feed.clone());
         let (mut word, mut count, mut record) = (0, 0, 0);
-        let Buffers { desk, sheet, seen, slip } = &mut now;
+        let Buffers { desk, sheet, seen, history: kept_takes, slip } = &mut now;
         let answer = match call {
-            Call::Open(k) => (FAST.open)(*k, desk, sheet, seen),
-            Call::Step(r) => (FAST.step)(desk, sheet, seen, slip, r.slice()),
+            Call::Open(k, declared) => (FAST.open)(*k, *declared, desk, sheet, seen, kept_takes),
+            Call::Step(r) => (FAST.step)(desk, sheet, seen, kept_takes, slip, r.slice()),
             Call::Ask(class) => (FAST.ask)(desk, sheet, seen, *class, &mut word, &mut count),
             Call::FeedStart => (FAST.feed_start)(&mut feed),
-            Call::Feed(piece) => (FAST.feed)(&mut feed, desk, sheet, seen, slip, piece, &mut record),
-            Call::FeedEnd => (FAST.feed_end)(&mut feed, desk, sheet, seen, slip, &mut record),
+            Call::Feed(piece) => (FAST.feed)(&mut feed, desk, sheet, seen, kept_takes, slip, piece, &mut record),
+            Call::FeedEnd => (FAST.feed_end)(&mut feed, desk, sheet, seen, kept_takes, slip, &mut record),
             Call::Balance(piece) => (FAST.balance)(piece, &mut [0; 64]),
             Call::Join(sides) => joins::join(&mut now, sides),
         };
@@ -478,8 +498,8 @@ fn keep(case: &mut Case, kept: &[bool]) {
     if kept.contains(&false) {
         case.meant = None;
     }
-    if let Some((_, in_first)) = &mut case.pair {
-        retain(in_first, kept);
+    if let Some(pair) = &mut case.pair {
+        retain(&mut pair.in_first, kept);
     }
 }
 
@@ -507,7 +527,7 @@ pub fn undue(counts: &Counts) -> Vec<(Need, u64)> {
     let due = all();
     [Opening, Step, Question, Start, Piece, End, Balance, Join]
         .into_iter()
-        .flat_map(|call| (0..16).map(move |answer| Need::Answer(call, answer)))
+        .flat_map(|call| (0..20).map(move |answer| Need::Answer(call, answer)))
         .filter(|need| !due.iter().any(|(d, _)| d == need))
         .map(|need| (need, need.met(counts, counts)))
         .filter(|&(_, met)| met > 0)

@@ -382,7 +382,7 @@ fn by_hand(each: &mut dyn FnMut(Case) -> bool) -> bool {
             let at = from.parse::<usize>().unwrap() * k + to.parse::<usize>().unwrap();
             pairs[at] = number.parse().unwrap();
         }
-        let mut calls = vec![Call::Open(k as u64)];
+        let mut calls = vec![Call::Open(k as u64, 0)];
         calls.extend(read(log).into_iter().map(Call::Step));
         let meant = Meant {
             answers: [&[0], &digits[..]].concat(),
@@ -569,7 +569,7 @@ fn kinds_in_turn(each: &mut dyn FnMut(Case) -> bool) -> bool {
         (pairs[from * k + to], pairs[to * k + from]) = (4, 12);
         let answers = [vec![0; 12], vec![1]].concat();
         let meant = Some(Meant { answers, slip, numbers: Some((12, pairs)), ..Meant::default() });
-        let mut calls = vec![Call::Open(k as u64)];
+        let mut calls = vec![Call::Open(k as u64, 0)];
         calls.extend(log.into_iter().map(Call::Step));
         each(Case { name: KINDS_IN_TURN, meant, ..case(Buffers::opened(k), calls) })
     })

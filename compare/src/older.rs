@@ -141,7 +141,7 @@ pub fn on_desk(rng: &mut Rng) -> Case {
         calls.insert(0, Call::Step(any_release(rng, &buffers.desk, 0, class, 500)));
     }
     if rng.mille(300) {
-        calls.push(Call::Open(k as u64));
+        calls.push(Call::Open(k as u64, 0));
         calls.extend(some_calls(rng, k, 2));
     }
     case(buffers, calls)
@@ -243,7 +243,7 @@ pub fn fixed(rng: &mut Rng, each: &mut dyn FnMut(Case) -> bool) -> bool {
         }
         let (acquire, release) = (Rec::new(0, 0, 0, 2), Rec::new(0, 1, 0, (turn % 6) as u8));
         let calls =
-            vec![Call::Ask(0), tick.clone(), Call::Step(acquire), Call::Step(release), Call::Open(k as u64), tick.clone()];
+            vec![Call::Ask(0), tick.clone(), Call::Step(acquire), Call::Step(release), Call::Open(k as u64, 0), tick.clone()];
         each(Case { name: OLD_DESKS, ..case(b, calls) })
     })
 }

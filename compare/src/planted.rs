@@ -23,6 +23,10 @@ pub struct Plant {
     pub of_depth: bool,
     /// Whether it is wrong about the modes of releases, and the cases about these come first.
     pub of_release: bool,
+    /// Whether it is wrong about crosslocks, and the cases about these come first.
+    pub of_crosslock: bool,
+    /// Whether no random case is to show it.
+    pub only_fixed: bool,
     /// Whether of the pairs of lists those from a join are to show what it breaks.
     pub from_join: bool,
     pub judge: Judge,

@@ -8,7 +8,7 @@ use crate::gen::{
 };
 use crate::numbers::{self, FULL};
 use crate::rng::Rng;
-use crate::run::{Call, Case, Meant, Rec};
+use crate::run::{Call, Case, Meant, Pair, Rec};
 use crate::ties::EN;
 use reference::{DEEPEST, DEPTHS, DESK, FRAMES, MARKS, STATES};
 
@@ -94,7 +94,7 @@ fn log(rng: &mut Rng) -> Case {
     style.weights = rng.pick(&[[4, 4, 1], [4, 6, 1], [5, 3, 0]]);
     style.modes = rng.pick(&[[1, 1, 2, 3, 3, 3], [0, 0, 1, 1, 1, 1], [1, 1, 1, 1, 1, 1]]);
     (style.unordered, style.avoid, style.wrong) = (1000, 1000, rng.pick(&[100, 300, 600]));
-    let mut calls = vec![Call::Open(k as u64)];
+    let mut calls = vec![Call::Open(k as u64, 0)];
     let most = rng.pick(&[10, 30, 60]);
     steps(rng, &style, &mut Buffers::opened(k), most, &mut calls);
     case(any_buffers(rng, k), calls)
@@ -189,7 +189,7 @@ fn each_mode(each: &mut dyn FnMut(Case) -> bool) -> bool {
     all.all(|(frame, (mode, other))| {
         let (core, state, into) = (frame / 3, [0, 4, 6][frame % 3], [None, Some(6), Some(8)][frame % 3]);
         let record = |kind: u8, class: u8, mode: u8| Call::Step(Rec::new(core as u8, kind, class, mode));
-        let mut calls = vec![Call::Open(3)];
+        let mut calls = vec![Call::Open(3, 0)];
         calls.extend(into.map(|kind| record(kind, 0, 0)));
         calls.push(record(0, 1, mode));
         let before = calls.len();
@@ -405,7 +405,7 @@ fn of_hand_logs(each: &mut dyn FnMut(Case) -> bool) -> bool {
                 let mut records = log.records[..=at].to_vec();
                 let own = std::mem::replace(&mut records[at].bytes[5], mode);
                 let answers = [vec![0; at + 1], vec![if mode == own { 0 } else { 5 }]].concat();
-                let calls = [Call::Open(log.k as u64)].into_iter().chain(records.into_iter().map(Call::Step)).collect();
+                let calls = [Call::Open(log.k as u64, 0)].into_iter().chain(records.into_iter().map(Call::Step)).collect();
                 let meant = Some(Meant { answers, ..Meant::default() });
                 each(Case { name: OF_HAND_LOGS, meant, ..case(Buffers::opened(log.k), calls) })
             })
@@ -443,7 +443,7 @@ const LISTS: [Lists; 15] = [
 fn in_pairs(each: &mut dyn FnMut(Case) -> bool) -> bool {
     let pair = |calls: Vec<Call>, in_first: Vec<bool>, claimed: bool, answers: Vec<u8>| {
         let meant = Some(Meant { answers, not_claimed: !claimed, ..Meant::default() });
-        Case { name: IN_PAIRS, pair: Some((8, in_first)), meant, ..case(Buffers::opened(8), calls) }
+        Case { name: IN_PAIRS, pair: Some(Pair { k: 8, declared: [0; 2], in_first }), meant, ..case(Buffers::opened(8), calls) }
     };
     let by_hand = LISTS.iter().all(|(text, claimed, second, first)| {
         let in_first = text.split_whitespace().map(|word| !word.starts_with('+')).collect();

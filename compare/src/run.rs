@@ -4,14 +4,15 @@
 
 use crate::balances;
 use crate::claim;
+use crate::crosslocks;
 use crate::drawing::{self, Drawing};
 use crate::feeds::{self, Fed, PROMISE};
 use crate::gen::{sizes, Buffers};
 use crate::joins;
-use crate::judges::{Judges, Lent, Subject};
+use crate::judges::{unfit, unfit_bench, Judges, Lent, Subject, CLAUSES};
 use crate::numbers;
 use crate::sights::{self, Look, SIGHTS};
-use reference::{CLAUSES, DEEPEST, DEPTHS, DESK, FEED, FEED_CLAUSES, MARKS};
+use reference::{DECLARED, DEEPEST, DEPTHS, DESK, FEED, FEED_CLAUSES, HISTORY, MARKS, PROGRESS};
 use std::cell::OnceCell;
 
 /// A record of 0 to 12 bytes.
@@ -40,9 +41,14 @@ impl Rec {
             && match kind {
                 0 | 1 => mode <= 5,
                 2..=9 => class == 0 && mode == 0,
+                10..=12 => mode == 0,
                 _ => false,
             };
         well.then_some(core)
+    }
+    /// Whether it takes, commits or releases a crosslock and is not malformed, accepted or not.
+    pub fn of_crosslock(&self) -> bool {
+        self.names().is_some() && self.bytes[3] > 9
     }
     /// Whether it is a release of mode 1 to 5, which names its core since releases have modes.
     pub fn releases_by_mode(&self) -> bool {
@@ -52,7 +58,8 @@ impl Rec {
 
 #[derive(Clone)]
 pub enum Call {
-    Open(u64),
+    /// With K and the declared word.
+    Open(u64, u64),
     Step(Rec),
     Ask(u64),
     FeedStart,
@@ -66,7 +73,7 @@ pub enum Call {
 /// A bench that is joined.
 #[derive(Clone)]
 pub enum Side {
-    /// Desk and both sheets of these; their slip lies idle.
+    /// Desk and both sheets of these; their history and slip lie idle.
     Given(Buffers),
     /// A copy of the case's own buffers as they stand before the call.
     Own,
@@ -97,9 +104,8 @@ pub struct Case {
     /// Empty where no call is of the feed.
     pub feed: Vec<u8>,
     pub calls: Vec<Call>,
-    /// For a pair of lists (demand 3): which calls stand in the first list too. Then
-    /// `calls` is the second list, and each list starts from opening with this K.
-    pub pair: Option<(u64, Vec<bool>)>,
+    /// For a pair of lists (demand 3). Then `calls` is the second list.
+    pub pair: Option<Pair>,
     /// A join from which each list of a pair starts instead.
     pub start: Option<Call>,
     /// The clause that the case is meant to violate first, where it is meant to.
@@ -108,8 +114,17 @@ pub struct Case {
     pub meant: Option<Meant>,
 }
 
+/// Two lists: which calls of the second stand in the first too. Each list starts from opening with this K, and its own declared
+/// word, the first's before the second's; demand 3 speaks of them only where both are the same.
+#[derive(Clone)]
+pub struct Pair {
+    pub k: u64,
+    pub declared: [u64; 2],
+    pub in_first: Vec<bool>,
+}
+
 /// The answers, and how the slip begins then; where they are known, the whole desk, the sheet, the count and the number of each
-/// pair, and the last balances.
+/// pair, how the history begins, and the last balances.
 #[derive(Clone, Default)]
 pub struct Meant {
     /// Of a pair of lists those of the second list, then those of the first.
@@ -119,6 +134,8 @@ pub struct Meant {
     /// The sheet, of K x K bytes.
     pub sheet: Option<Vec<u8>>,
     pub numbers: Option<(u32, Vec<u32>)>,
+    /// The whole desk behind the count, and the history.
+    pub crosslocks: Option<crosslocks::Left>,
     pub balances: Option<balances::Numbers>,
     /// Whether demand 3 says nothing of this pair of lists.
     pub not_claimed: bool,
@@ -145,18 +162,18 @@ impl Default for Sighted {
 pub struct Counts {
     pub cases: u64,
     pub calls: u64,
-    pub open: [u64; 16],
-    pub step: [u64; 16],
-    pub ask: [u64; 16],
+    pub open: [u64; 20],
+    pub step: [u64; 20],
+    pub ask: [u64; 20],
     pub clause_step: [u64; CLAUSES.len()],
     pub clause_ask: [u64; CLAUSES.len()],
-    pub feed_start: [u64; 16],
-    pub feed: [u64; 16],
-    pub feed_end: [u64; 16],
+    pub feed_start: [u64; 20],
+    pub feed: [u64; 20],
+    pub feed_end: [u64; 20],
     pub clause_feed: [u64; FEED_CLAUSES.len()],
     pub clause_feed_end: [u64; FEED_CLAUSES.len()],
-    pub balance: [u64; 16],
-    pub join: [u64; 16],
+    pub balance: [u64; 20],
+    pub join: [u64; 20],
     /// Joins refused for a bench, by which of the two and its first clause, and for a buffer to be written.
     pub clause_join: [[u64; CLAUSES.len()]; 2],
     pub short_join: [u64; 4],
@@ -178,8 +195,9 @@ pub struct Counts {
     /// The same of those that start from a join, and faults of these that would be none from opening.
     pub joined_pair_faults: [u64; 3],
     pub faults_by_start: u64,
-    /// Pairs of lists that gave two classes another number each.
+    /// Pairs of lists that gave two classes another number each, and those with records of crosslocks.
     pub pair_numbers: u64,
+    pub pair_crosslocks: u64,
     /// Those with a release of mode 1 to 5 put in that was accepted, and that was refused with 5.
     pub pair_released: u64,
     pub pair_not_fitting: u64,
@@ -228,6 +246,7 @@ struct Bench {
     desk: Guarded,
     sheet: Guarded,
     seen: Guarded,
+    history: Guarded,
     slip: Guarded,
     feed: Guarded,
 }
@@ -243,11 +262,17 @@ impl Bench {
     fn lend(&mut self) -> [&mut [u8]; 4] {
         [self.desk.lend(), self.sheet.lend(), self.seen.lend(), self.slip.lend()]
     }
+    /// As a step and a feed have them.
+    fn lend_all(&mut self) -> [&mut [u8]; 6] {
+        let Bench { desk, sheet, seen, history, slip, feed } = self;
+        [desk, sheet, seen, history, slip, feed].map(Guarded::lend)
+    }
     fn of(case: &Case) -> Bench {
         Bench {
             desk: Guarded::of(&case.buffers.desk),
             sheet: Guarded::of(&case.buffers.sheet),
             seen: Guarded::of(&case.buffers.seen),
+            history: Guarded::of(&case.buffers.history),
             slip: Guarded::of(&case.buffers.slip),
             feed: Guarded::of(&case.feed),
         }
@@ -257,18 +282,26 @@ impl Bench {
         self.desk.all.copy_from_slice(&other.desk.all);
         self.sheet.all.copy_from_slice(&other.sheet.all);
         self.seen.all.copy_from_slice(&other.seen.all);
+        self.history.all.copy_from_slice(&other.history.all);
         self.slip.all.copy_from_slice(&other.slip.all);
         self.feed.all.copy_from_slice(&other.feed.all);
     }
     /// Whether a byte differs before the buffers or past their stated sizes for K, the slip's apart.
     fn differs_past(&self, other: &Bench, k: usize) -> bool {
         let [desk, sheet, seen, _] = sizes(k);
-        let buffers = [(&self.desk, &other.desk, desk), (&self.sheet, &other.sheet, sheet), (&self.seen, &other.seen, seen)];
+        let buffers = [
+            (&self.desk, &other.desk, desk), (&self.sheet, &other.sheet, sheet), (&self.seen, &other.seen, seen),
+            (&self.history, &other.history, HISTORY),
+        ];
         buffers.iter().any(|(a, b, size)| a.all[..FRONT] != b.all[..FRONT] || a.all.get(FRONT + size..) != b.all.get(FRONT + size..))
     }
     /// The first clause of "Unfit" that is violated, at a step or at a question.
     fn unfit(&self, step: bool) -> Option<&'static str> {
-        reference::unfit(self.desk.see(), self.sheet.see(), self.seen.see(), step.then_some(self.slip.see()))
+        let (desk, sheet, seen) = (self.desk.see(), self.sheet.see(), self.seen.see());
+        match step {
+            true => unfit(desk, sheet, seen, self.history.see(), self.slip.see()),
+            false => unfit_bench([desk, sheet, seen]),
+        }
     }
     /// The first difference in a buffer.
     fn differs(&self, other: &Bench) -> Option<String> {
@@ -276,6 +309,7 @@ impl Bench {
             ("desk", &self.desk, &other.desk),
             ("sheet", &self.sheet, &other.sheet),
             ("second sheet", &self.seen, &other.seen),
+            ("history", &self.history, &other.history),
             ("feed", &self.feed, &other.feed),
             ("slip", &self.slip, &other.slip),
         ];
@@ -396,6 +430,7 @@ impl Counts {
             sheet_after: after.sheet.see(),
             seen: before.seen.see(),
             seen_after: after.seen.see(),
+            kept: before.history.see(),
             slip: after.slip.see(),
             slip_before: before.slip.see(),
             answer,
@@ -430,14 +465,14 @@ pub struct History {
     /// The same from a join that was not refused.
     pub joined: Option<u64>,
     /// The answers of steps since the last opening, a bit each.
-    pub answers: u16,
+    pub answers: u32,
 }
 
 impl History {
     /// After this call and its answer.
     pub fn after(self, call: &Call, answer: u8) -> History {
         let steps = match call {
-            Call::Open(_) if answer == 0 => Some(0),
+            Call::Open(..) if answer == 0 => Some(0),
             Call::Step(_) => self.steps.map(|steps| steps + 1),
             Call::Feed(_) | Call::FeedEnd => None,
             Call::Join(_) if answer < 2 => None,
@@ -445,13 +480,13 @@ impl History {
         };
         let joined = match call {
             Call::Join(_) if answer < 2 => Some(0),
-            Call::Open(_) if answer == 0 => None,
+            Call::Open(..) if answer == 0 => None,
             Call::Step(_) => self.joined.map(|steps| steps + 1),
             Call::Feed(_) | Call::FeedEnd => None,
             _ => self.joined,
         };
         let answers = match call {
-            Call::Open(_) | Call::Join(_) => 0,
+            Call::Open(..) | Call::Join(_) => 0,
             Call::Step(_) => self.answers | 1 << answer,
             _ => self.answers,
         };
@@ -497,26 +532,31 @@ fn run_calls(case: &Case, calls: &[&Call], judges: &mut Judges, counts: &mut Cou
         let (want, got, fast_got);
         let mut clause = None;
         match call {
-            Call::Open(k) => {
-                want = (other.open)(*k, refe.desk.lend(), refe.sheet.lend(), refe.seen.lend());
-                got = subject.open(*k, subj.desk.lend(), subj.sheet.lend(), subj.seen.lend());
-                fast_got = (fast.open)(*k, quick.desk.lend(), quick.sheet.lend(), quick.seen.lend());
+            Call::Open(k, declared) => {
+                let [d, s, n, h, ..] = refe.lend_all();
+                want = (other.open)(*k, *declared, d, s, n, h);
+                let [d, s, n, h, ..] = subj.lend_all();
+                got = subject.open(*k, *declared, d, s, n, h);
+                let [d, s, n, h, ..] = quick.lend_all();
+                fast_got = (fast.open)(*k, *declared, d, s, n, h);
                 counts.sight(call, &before, &refe, want, clause, history);
                 counts.open[usize::from(want)] += 1;
                 from_opening |= want == 0;
                 // Two lists are held to theirs at their end.
                 if want == 0 && case.pair.is_none() {
-                    by_records = Some(Drawing::opened(*k as usize));
+                    by_records = Some(Drawing::opened(*k as usize, *declared));
                 }
             }
             Call::Step(record) => {
-                let (r, s, q) = (&mut refe, &mut subj, &mut quick);
                 let bytes = record.slice();
-                want = (other.step)(r.desk.lend(), r.sheet.lend(), r.seen.lend(), r.slip.lend(), bytes);
-                got = subject.step(s.desk.lend(), s.sheet.lend(), s.seen.lend(), s.slip.lend(), bytes);
-                fast_got = (fast.step)(q.desk.lend(), q.sheet.lend(), q.seen.lend(), q.slip.lend(), bytes);
+                let [d, s, n, h, l, _] = refe.lend_all();
+                want = (other.step)(d, s, n, h, l, bytes);
+                let [d, s, n, h, l, _] = subj.lend_all();
+                got = subject.step(d, s, n, h, l, bytes);
+                let [d, s, n, h, l, _] = quick.lend_all();
+                fast_got = (fast.step)(d, s, n, h, l, bytes);
                 counts.step[usize::from(want)] += 1;
-                if want < 10 && (want == 3) == record.names().is_some() {
+                if ![10, 11].contains(&want) && (want == 3) == record.names().is_some() {
                     return fail("reference", format!("answer {want}, and the record names {:?}", record.names()));
                 }
                 if want == 11 {
@@ -598,20 +638,18 @@ fn run_calls(case: &Case, calls: &[&Call], judges: &mut Judges, counts: &mut Cou
                 // Guards around the record number.
                 let mut n = [JUNK; 3];
                 let (r, s, q) = (&mut refe, &mut subj, &mut quick);
-                let lend = |b: &mut Bench, call: &mut dyn FnMut([&mut [u8]; 5]) -> u8| {
-                    call([b.feed.lend(), b.desk.lend(), b.sheet.lend(), b.seen.lend(), b.slip.lend()])
-                };
+                let lend = |b: &mut Bench, call: &mut dyn FnMut([&mut [u8]; 6]) -> u8| call(b.lend_all());
                 (want, got, fast_got) = if let Call::Feed(piece) = call {
                     (
-                        lend(r, &mut |[f, d, s, n, l]| (other.feed)(f, d, s, n, l, piece, &mut n0)),
-                        lend(s, &mut |[f, d, s, m, l]| subject.feed(f, d, s, m, l, piece, &mut n[1])),
-                        lend(q, &mut |[f, d, s, n, l]| (fast.feed)(f, d, s, n, l, piece, &mut n2)),
+                        lend(r, &mut |[d, s, n, h, l, f]| (other.feed)(f, d, s, n, h, l, piece, &mut n0)),
+                        lend(s, &mut |[d, s, m, h, l, f]| subject.feed(f, d, s, m, h, l, piece, &mut n[1])),
+                        lend(q, &mut |[d, s, n, h, l, f]| (fast.feed)(f, d, s, n, h, l, piece, &mut n2)),
                     )
                 } else {
                     (
-                        lend(r, &mut |[f, d, s, n, l]| (other.feed_end)(f, d, s, n, l, &mut n0)),
-                        lend(s, &mut |[f, d, s, m, l]| subject.feed_end(f, d, s, m, l, &mut n[1])),
-                        lend(q, &mut |[f, d, s, n, l]| (fast.feed_end)(f, d, s, n, l, &mut n2)),
+                        lend(r, &mut |[d, s, n, h, l, f]| (other.feed_end)(f, d, s, n, h, l, &mut n0)),
+                        lend(s, &mut |[d, s, m, h, l, f]| subject.feed_end(f, d, s, m, h, l, &mut n[1])),
+                        lend(q, &mut |[d, s, n, h, l, f]| (fast.feed_end)(f, d, s, n, h, l, &mut n2)),
                     )
                 };
                 by_records = None;
@@ -705,7 +743,7 @@ fn run_calls(case: &Case, calls: &[&Call], judges: &mut Judges, counts: &mut Cou
             }
         }
         match call {
-            Call::Open(_) if want == 0 => accepted = Some(Vec::new()),
+            Call::Open(..) if want == 0 => accepted = Some(Vec::new()),
             Call::Step(record) if want < 2 => accepted.iter_mut().for_each(|all| all.extend_from_slice(record.slice())),
             Call::Step(_) | Call::Feed(_) | Call::FeedEnd => accepted = None,
             Call::Join(sides) => {
@@ -773,7 +811,9 @@ fn run_calls(case: &Case, calls: &[&Call], judges: &mut Judges, counts: &mut Cou
                 drawing.take_in(record);
             }
             drawing.closed |= want == 1;
-            if let Some(text) = drawing.numbers_differ(refe.desk.see(), refe.seen.see()) {
+            let (desk, sheet, seen, history) = (refe.desk.see(), refe.sheet.see(), refe.seen.see(), refe.history.see());
+            let differs = drawing.numbers_differ(desk, seen).or_else(|| drawing.crosslocks_differ(desk, sheet, history));
+            if let Some(text) = differs {
                 return fail(BY_RECORDS, text);
             }
         }
@@ -789,7 +829,7 @@ fn run_calls(case: &Case, calls: &[&Call], judges: &mut Judges, counts: &mut Cou
         }
         // "nothing changed", told from the bytes before the call
         let may_change = match call {
-            Call::Open(_) => want == 0,
+            Call::Open(..) => want == 0,
             Call::Step(_) | Call::Join(_) => want < 2,
             Call::Feed(piece) => clause.is_none() && feeds::completes(before.feed.see(), piece),
             Call::Ask(_) | Call::FeedStart | Call::FeedEnd | Call::Balance(_) => false,
@@ -798,7 +838,16 @@ fn run_calls(case: &Case, calls: &[&Call], judges: &mut Judges, counts: &mut Cou
         if before.feed.all != refe.feed.all && !feed_may_change && !matches!(call, Call::FeedStart) {
             return fail("reference", "changed a feed that is unfit or stands at an answer".into());
         }
-        let same = before.desk.all == refe.desk.all && before.sheet.all == refe.sheet.all && before.seen.all == refe.seen.all;
+        let same = before.desk.all == refe.desk.all
+            && before.sheet.all == refe.sheet.all
+            && before.seen.all == refe.seen.all
+            && before.history.all == refe.history.all;
+        if matches!(call, Call::Join(_)) && before.history.all != refe.history.all {
+            return fail("reference", "a join changed a history".into());
+        }
+        if let Some(text) = crosslocks::past_kept(call, want, [&before, &refe].map(|b| (b.desk.see(), b.history.see()))) {
+            return fail("reference", text);
+        }
         if !may_change && !same {
             return fail("reference", "changed something with a refusal or a question".into());
         }
@@ -807,11 +856,13 @@ fn run_calls(case: &Case, calls: &[&Call], judges: &mut Judges, counts: &mut Cou
             return fail("reference", "changed a byte past the stated sizes".into());
         }
         // Opening, told from the document's sentence
-        if matches!(call, Call::Open(_)) && want == 0 {
+        if matches!(call, Call::Open(..)) && want == 0 {
             let k = usize::from(refe.desk.see()[0]);
             let sheets = refe.sheet.see()[..k * k].iter().chain(&refe.seen.see()[..4 * k * k]);
-            let zero = refe.desk.see()[1..DESK].iter().chain(sheets).all(|&b| b == 0);
-            if !zero || !matches!(call, Call::Open(n) if *n == k as u64) {
+            let desk = refe.desk.see();
+            let but_declared = desk[1..DECLARED].iter().chain(&desk[PROGRESS..DESK]);
+            let zero = but_declared.chain(sheets).chain(&refe.history.see()[..HISTORY]).all(|&b| b == 0);
+            if !zero || !matches!(call, Call::Open(n, word) if (*n, *word) == (k as u64, crosslocks::declared(desk))) {
                 return fail("reference", "opening is wrong".into());
             }
         }
@@ -840,6 +891,9 @@ pub fn run(case: &Case, judges: &mut Judges, counts: &mut Counts) -> Result<(), 
                 if meant.sheet.as_ref().is_some_and(|wanted| !sheet.starts_with(wanted)) {
                     return fail(format!("sheet {sheet:?}, and not as it was worked out"));
                 }
+                if let Some(text) = meant.crosslocks.as_ref().and_then(|left| left.differs(desk, ran.reference.history.see())) {
+                    return fail(text);
+                }
                 if let Some((count, wanted)) = &meant.numbers {
                     let seen = ran.reference.seen.see();
                     let pairs = || (0..wanted.len()).map(|pair| numbers::number(seen, pair));
@@ -856,7 +910,7 @@ pub fn run(case: &Case, judges: &mut Judges, counts: &mut Counts) -> Result<(), 
                 run_promise(case, &fed, &ran, judges, counts)?;
             }
         }
-        Some((k, in_first)) => run_pair(case, *k, in_first, judges, counts)?,
+        Some(pair) => run_pair(case, pair, judges, counts)?,
     }
     tally(case.name, counts, calls_before);
     Ok(())
@@ -885,20 +939,19 @@ fn run_promise(case: &Case, fed: &Fed, ran: &Ran, judges: &mut Judges, counts: &
         subject.feed_start(other.feed.lend());
     }
     let mut now = (0, 0);
-    let Bench { desk, sheet, seen, slip, feed } = &mut other;
-    let (desk, sheet, seen, slip, feed) = (desk.lend(), sheet.lend(), seen.lend(), slip.lend(), feed.lend());
+    let [desk, sheet, seen, history, slip, feed] = other.lend_all();
     for piece in fed.other_cut() {
-        now.0 = subject.feed(feed, desk, sheet, seen, slip, piece, &mut now.1);
+        now.0 = subject.feed(feed, desk, sheet, seen, history, slip, piece, &mut now.1);
     }
     if fed.ended {
-        now.0 = subject.feed_end(feed, desk, sheet, seen, slip, &mut now.1);
+        now.0 = subject.feed_end(feed, desk, sheet, seen, history, slip, &mut now.1);
     }
     hold(0, by_cut, now, &other, &ran.subject)?;
     // The whole log, from a start.
     if fed.started {
         let mut other = Bench { feed: ran.reference.feed.clone(), ..Bench::of(case) };
-        let Bench { desk, sheet, seen, slip, .. } = &mut other;
-        let now = (reference.whole_log)(&fed.bytes, desk.lend(), sheet.lend(), seen.lend(), slip.lend(), fed.ended);
+        let [desk, sheet, seen, history, slip, _] = other.lend_all();
+        let now = (reference.whole_log)(&fed.bytes, desk, sheet, seen, history, slip, fed.ended);
         hold(1, by_log, now, &other, &ran.reference)?;
         if let Some(text) = fed_numbers(fed, last, &ran.reference) {
             return Err(Diff { judge: BY_RECORDS, call: case.calls.len() - 1, text });
@@ -912,58 +965,60 @@ fn run_promise(case: &Case, fed: &Fed, ran: &Ran, judges: &mut Judges, counts: &
 
 /// What is wrong with count and numbers after a log in pieces from a start, told from the records alone.
 fn fed_numbers(fed: &Fed, (answer, number): (u8, u64), bench: &Bench) -> Option<String> {
-    if fed.bytes.len() < 4 || answer == 2 {
-        return None;
-    }
+    let (header, declared) = feeds::header_of(&fed.bytes).filter(|_| answer != 2)?;
     // 11, for a slip too short, is not told from the records.
     let accepted = number - u64::from(answer == 11);
-    let mut drawing = Drawing::opened(usize::from(fed.bytes[3]));
-    for record in fed.bytes[4..].chunks(6).take(accepted as usize) {
+    let mut drawing = Drawing::opened(usize::from(fed.bytes[3]), declared);
+    for record in fed.bytes[header..].chunks(6).take(accepted as usize) {
         drawing.take_in(&Rec::of(record));
     }
-    drawing.numbers_differ(bench.desk.see(), bench.seen.see())
+    let (desk, sheet, seen, history) = (bench.desk.see(), bench.sheet.see(), bench.seen.see(), bench.history.see());
+    drawing.numbers_differ(desk, seen).or_else(|| drawing.crosslocks_differ(desk, sheet, history))
 }
 
 /// By opening and steps: the first answer but 0 and its record number, or 0 and how many records there were.
 fn single_steps(fed: &Fed, subject: &mut Subject, bench: &mut Bench) -> (u8, u64) {
-    let Bench { desk, sheet, seen, slip, .. } = bench;
-    let (desk, sheet, seen, slip) = (desk.lend(), sheet.lend(), seen.lend(), slip.lend());
+    let [desk, sheet, seen, history, slip, _] = bench.lend_all();
     let (mut answer, mut number) = (fed.answer, fed.number);
     let mut rest = &[&fed.loose, &fed.bytes[..]].concat()[..];
     if answer == 0 && !fed.opened {
-        answer = match rest.split_first_chunk() {
-            None => if fed.ended { 2 } else { 0 },
-            Some((&[0x4C, 0x48, 1, k], _)) => subject.open(u64::from(k), desk, sheet, seen),
-            Some(_) => 2,
+        let header = feeds::header_of(rest);
+        answer = match (rest, header) {
+            (_, None) => if fed.ended { 2 } else { 0 },
+            (&[0x4C, 0x48, 1 | 2, k, ..], Some((_, declared))) => subject.open(u64::from(k), declared, desk, sheet, seen, history),
+            _ => 2,
         };
-        rest = rest.get(4..).unwrap_or(&[]);
+        rest = header.map_or(&[], |(length, _)| &rest[length..]);
     }
     for record in rest.chunks(6).filter(|record| record.len() == 6 || fed.ended) {
         if answer != 0 {
             break;
         }
         number = number.saturating_add(1);
-        answer = subject.step(desk, sheet, seen, slip, record);
+        answer = subject.step(desk, sheet, seen, history, slip, record);
     }
     (answer, number)
 }
 
 /// Demand 3: two lists, each from its own opening in buffers of its own, or both from the same join.
-fn run_pair(case: &Case, k: u64, in_first: &[bool], judges: &mut Judges, counts: &mut Counts) -> Result<(), Diff> {
+fn run_pair(case: &Case, pair: &Pair, judges: &mut Judges, counts: &mut Counts) -> Result<(), Diff> {
+    let (k, in_first) = (pair.k, &pair.in_first[..]);
     let fail = |judge: &'static str, call: usize, text: String| Err(Diff { judge, call, text });
-    let open = case.start.clone().unwrap_or(Call::Open(k));
-    let mut play = |case: &Case, places: &[usize]| {
+    let mut play = |case: &Case, places: &[usize], declared: u64| {
+        let open = case.start.clone().unwrap_or(Call::Open(k, declared));
         let calls: Vec<&Call> = std::iter::once(&open).chain(places.iter().map(|&at| &case.calls[at])).collect();
         run_calls(case, &calls, judges, counts)
     };
     let places: Vec<usize> = (0..case.calls.len()).collect();
     let first_places: Vec<usize> = places.iter().copied().filter(|&at| in_first[at]).collect();
-    let ran = play(case, &places)?;
+    let ran = play(case, &places, pair.declared[1])?;
     // Other bytes in the first list's buffers, the slip too.
     let mut other = case.clone();
-    let Buffers { desk, sheet, seen, slip } = &mut other.buffers;
+    let Buffers { desk, sheet, seen, history, slip } = &mut other.buffers;
     [desk, sheet, seen, slip].into_iter().flatten().for_each(|byte| *byte = !*byte);
-    let first_ran = play(&other, &first_places)?;
+    // Behind a join it may be any.
+    history.iter_mut().for_each(|byte| *byte = !*byte);
+    let first_ran = play(&other, &first_places, pair.declared[0])?;
     if (ran.answers[0], first_ran.answers[0]) != (0, 0) {
         return fail("generator", 0, "a pair that isn't opened".into());
     }
@@ -971,20 +1026,21 @@ fn run_pair(case: &Case, k: u64, in_first: &[bool], judges: &mut Judges, counts:
         Call::Step(record) => Some(record),
         _ => None,
     };
-    let run = |name, answers, places: Vec<usize>| {
+    let run = |name, answers, places: Vec<usize>, declared: u64| {
         let records: Vec<&Rec> = places.iter().filter_map(record).collect();
         let start = match &case.start {
             Some(Call::Join(sides)) => {
                 let [one, two] = sides.each_ref().map(|side| side.lent(case.buffers.lent()));
                 Drawing::joined(one, two)
             }
-            _ => Drawing::opened(k as usize),
+            _ => Drawing::opened(k as usize, declared),
         };
+        let declared = start.declared;
         let (drawn, drawing) = drawing::first_closed(start, records.iter().copied());
-        claim::Run { name, records, answers, places, drawing, drawn }
+        claim::Run { name, declared, records, answers, places, drawing, drawn }
     };
-    let first = run("first", &first_ran.answers[1..], first_places);
-    let second = run("second", &ran.answers[1..], places);
+    let first = run("first", &first_ran.answers[1..], first_places, pair.declared[0]);
+    let second = run("second", &ran.answers[1..], places, pair.declared[1]);
     let claimed = !case.meant.as_ref().is_some_and(|meant| meant.not_claimed);
     if second.records.len() != case.calls.len() || claim::applies(&first, &second) != claimed {
         return fail("generator", 0, format!("a pair of lists that demand 3 {}", if claimed { "does not speak of" } else { "speaks of" }));
@@ -996,13 +1052,15 @@ fn run_pair(case: &Case, k: u64, in_first: &[bool], judges: &mut Judges, counts:
     if !claimed {
         return Ok(());
     }
+    counts.pair_crosslocks += u64::from(first.records.iter().any(|record| record.of_crosslock()) && first.answers.contains(&0));
     if let Some((part, at, text)) = claim::broken(&first, &second) {
         return fail(part, at + 1, format!("demand 3, {part}: {text}"));
     }
     // What each list left, by its own records alone.
     for (run, Ran { reference, .. }) in [(&second, &ran), (&first, &first_ran)] {
         let (desk, sheet, seen) = (reference.desk.see(), reference.sheet.see(), reference.seen.see());
-        let differs = run.drawing.kinds_differ(desk, sheet).or_else(|| run.drawing.numbers_differ(desk, seen));
+        let lists = || run.drawing.crosslocks_differ(desk, sheet, reference.history.see());
+        let differs = run.drawing.kinds_differ(desk, sheet).or_else(|| run.drawing.numbers_differ(desk, seen)).or_else(lists);
         if let Some(text) = differs {
             return fail(BY_RECORDS, case.calls.len(), format!("{} list: {text}", run.name));
         }
@@ -1017,7 +1075,7 @@ fn run_pair(case: &Case, k: u64, in_first: &[bool], judges: &mut Judges, counts:
     let faults = usize::from(second.fault().is_some()) + usize::from(first.fault().is_some());
     if case.start.is_some() {
         counts.joined_pair_faults[faults] += 1;
-        let (from_opening, _) = drawing::first_closed(Drawing::opened(k as usize), second.records.iter().copied());
+        let (from_opening, _) = drawing::first_closed(Drawing::opened(k as usize, second.declared), second.records.iter().copied());
         counts.faults_by_start += u64::from(second.fault().is_some() && from_opening.is_none());
     } else {
         counts.pair_faults[faults] += 1;
@@ -1057,8 +1115,8 @@ pub fn shrink(case: &Case, judge: &'static str, judges: &mut Judges) -> Case {
             let mut c = best.clone();
             let end = (at + size).min(c.calls.len());
             c.calls.drain(at..end);
-            if let Some((_, first)) = &mut c.pair {
-                first.drain(at..end);
+            if let Some(pair) = &mut c.pair {
+                pair.in_first.drain(at..end);
             }
             if fails(&c) {
                 best = c;
@@ -1094,8 +1152,8 @@ pub fn shrink(case: &Case, judge: &'static str, judges: &mut Judges) -> Case {
         }
     }
     fn buffers(case: &mut Case) -> Vec<&mut Vec<u8>> {
-        let Buffers { desk, sheet, seen, slip } = &mut case.buffers;
-        let mut all = vec![desk, sheet, seen, slip, &mut case.feed];
+        let Buffers { desk, sheet, seen, history, slip } = &mut case.buffers;
+        let mut all = vec![desk, sheet, seen, history, slip, &mut case.feed];
         for call in case.calls.iter_mut().chain(&mut case.start) {
             let Call::Join(sides) = call else { continue };
             for side in sides.iter_mut() {
@@ -1167,23 +1225,24 @@ fn joining(sides: &[Side; 2]) -> String {
 
 pub fn describe(case: &Case) -> String {
     let mut out = format!("case \"{}\"\n", case.name);
-    let Buffers { desk, sheet, seen, slip } = &case.buffers;
+    let Buffers { desk, sheet, seen, history, slip } = &case.buffers;
     show_bytes("desk", desk, &mut out);
     show_bytes("sheet", sheet, &mut out);
     show_bytes("second sheet", seen, &mut out);
+    show_bytes("history", history, &mut out);
     show_bytes("slip", slip, &mut out);
     show_bytes("feed", &case.feed, &mut out);
-    if let Some((k, _)) = &case.pair {
+    if let Some(Pair { k, declared, .. }) = &case.pair {
         let start = match &case.start {
             Some(Call::Join(sides)) => format!("from this {}\n ", joining(sides)),
-            _ => format!("opened with K = {k}"),
+            _ => format!("opened with K = {k}, declared {declared:#x?}"),
         };
         out.push_str(&format!("  pair of lists, each {start}; + stands in the second only\n"));
     }
     for (i, call) in case.calls.iter().enumerate() {
-        let foreign = matches!(&case.pair, Some((_, first)) if !first[i]);
+        let foreign = matches!(&case.pair, Some(pair) if !pair.in_first[i]);
         let text = match call {
-            Call::Open(k) => format!("open {k}"),
+            Call::Open(k, declared) => format!("open {k}, declared {declared:#x}"),
             Call::Ask(c) => format!("ask {c}"),
             Call::Step(r) => format!("step{}", hex(r.slice())),
             Call::FeedStart => "feed start".into(),

@@ -2,15 +2,16 @@
 
 use crate::balances::{Tally, LONGEST};
 use crate::clashes;
+use crate::crosslocks;
 use crate::cycles::{Choice, Drawing, Shown};
 use crate::drawing::FRAME;
 use crate::feeds::{self, ANSWER, KEEP, KEPT, OPENED};
 use crate::gen::{mode_at, places_of, sizes};
-use crate::judges::Lent;
+use crate::judges::{unfit_bench, Lent, CLAUSES};
 use crate::numbers::{self, FULL, NO_KINDS, NO_NUMBER};
 use crate::older;
 use crate::run::{Call, History, Side};
-use reference::{CLAUSES, COUNT, DEEPEST, DEPTHS, DESK, FEED, FRAMES, HOLDS, MARKS, ORIGINS, STATES};
+use reference::{COUNT, DECLARED, DEEPEST, DEPTHS, DESK, FEED, FRAMES, HISTORY, HOLDS, MARKS, ORIGINS, STATES};
 use std::cell::OnceCell;
 use std::ops::{Range, RangeInclusive};
 
@@ -27,6 +28,8 @@ pub struct Look<'a> {
     /// The second sheet.
     pub seen: &'a [u8],
     pub seen_after: &'a [u8],
+    /// The lent history of kept acquires.
+    pub kept: &'a [u8],
     pub slip: &'a [u8],
     pub slip_before: &'a [u8],
     pub answer: u8,
@@ -84,7 +87,7 @@ impl Look<'_> {
     /// Core, kind, class and mode of a record of six bytes with the right signature.
     fn record(&self) -> Option<(u8, u8, u8, u8)> {
         let Call::Step(record) = self.call else { return None };
-        let &[0x4C, 0x4B, core @ 0..=7, kind @ 0..=9, class, mode] = record.slice() else { return None };
+        let &[0x4C, 0x4B, core @ 0..=7, kind @ 0..=12, class, mode] = record.slice() else { return None };
         Some((core, kind, class, mode))
     }
     /// The same if it was accepted, and has this kind.
@@ -166,12 +169,12 @@ impl Look<'_> {
             desk.resize(DESK, 0);
             desk
         };
-        let fit = |desk: &[u8]| reference::unfit(desk, &[0; 64 * 64], &[0; 4 * 64 * 64], None).is_none();
+        let fit = |desk: &[u8]| unfit_bench([desk, &[0; 64 * 64], &[0; 4 * 64 * 64]]).is_none();
         self.clause(CLAUSES[0]) && lens.contains(&self.before.len()) && fit(&whole())
     }
     /// An opening refused with a good K and a desk of such a length.
     fn opens(&self, lens: Range<usize>) -> bool {
-        matches!(self.call, Call::Open(1..=64)) && self.answer == 2 && lens.contains(&self.before.len())
+        matches!(self.call, Call::Open(1..=64, _)) && self.answer == 2 && lens.contains(&self.before.len())
     }
     fn refused(&self, answer: u8, such: impl Fn(u8, u8, u8) -> bool) -> bool {
         self.answer == answer && self.record().is_some_and(|(_, kind, class, mode)| such(kind, class, mode))
@@ -191,7 +194,7 @@ impl Look<'_> {
     }
     /// One with such a mode, of whichever class, that a fit and open desk got.
     fn released_by(&self, modes: RangeInclusive<u8>) -> bool {
-        self.answer < 10 && self.record().is_some_and(|(_, kind, _, mode)| kind == 1 && modes.contains(&mode))
+        ![10, 11].contains(&self.answer) && self.record().is_some_and(|(_, kind, _, mode)| kind == 1 && modes.contains(&mode))
     }
     /// One accepted in this mode.
     fn fitted(&self, mode: u8) -> bool {
@@ -287,7 +290,7 @@ impl Look<'_> {
         self.clause("depth over the limit") && self.before[DEPTHS..MARKS].iter().all(|&d| !over(d) || such(d)) && {
             let mut desk = self.before.to_vec();
             desk[DEPTHS..MARKS].iter_mut().for_each(|depth| *depth = (*depth).min(DEEPEST as u8));
-            reference::unfit(&desk, self.sheet, self.seen, None).is_none()
+            unfit_bench([&desk, self.sheet, self.seen]).is_none()
         }
     }
     /// Refused for the locks at places from this one on alone: by this clause, of which this is the test, of a lock and K.
@@ -310,7 +313,7 @@ impl Look<'_> {
     fn old(&self, such: impl Fn(&[u8]) -> bool) -> bool {
         let clauses = [CLAUSES[0], "hold class K or more", "hold mode 3", "unused hold not 0", ORIGIN];
         let refused = matches!(self.call, Call::Step(_) | Call::Ask(_)) && clauses.iter().any(|clause| self.clause(clause));
-        let fit = |desk: &[u8]| reference::unfit(desk, self.sheet, self.seen, None).is_none();
+        let fit = |desk: &[u8]| unfit_bench([desk, self.sheet, self.seen]).is_none();
         refused
             && self.before.get(older::DESK..).is_some_and(such)
             && older::read_as_old(self.before).is_some_and(|desk| fit(&desk))
@@ -319,6 +322,68 @@ impl Look<'_> {
     fn old_in_longer(&self, zeros: bool) -> bool {
         let today = DESK - older::DESK;
         self.old(|behind| behind.len() >= today && zeros == behind[..today].iter().all(|&byte| byte == 0))
+    }
+}
+
+/// Crosslocks.
+impl Look<'_> {
+    /// An accepted record of this kind: the class.
+    fn crossed(&self, wanted: u8) -> Option<usize> {
+        self.accepted(wanted).map(|(class, _)| usize::from(class))
+    }
+    fn crosses(&self, kind: u8, such: impl Fn(usize) -> bool) -> bool {
+        self.crossed(kind).is_some_and(such)
+    }
+    /// A record on a fit and open desk with this answer, such that this holds of its kind, class and mode.
+    fn answered(&self, answer: u8, such: impl Fn(u8, u8, u8) -> bool) -> bool {
+        self.refused(answer, such)
+    }
+    fn progress(&self) -> u64 {
+        crosslocks::in_progress(self.before)
+    }
+    fn kept_count(&self) -> usize {
+        crosslocks::kept(self.before)
+    }
+    /// The entries that are kept before the call, with their places.
+    fn entries(&self) -> impl DoubleEndedIterator<Item = (usize, [u8; 2])> + '_ {
+        (0..self.kept_count()).map(|at| (at, [self.kept[2 * at], self.kept[2 * at + 1]]))
+    }
+    /// An accepted commit such that this holds of a kept entry, by its place, the crosslock's since number, and the own frame.
+    fn commits(&self, such: impl Fn(usize, [u8; 2], usize, usize) -> bool) -> bool {
+        self.crosses(11, |class| {
+            let since = crosslocks::since(self.before, class) as usize;
+            self.entries().any(|(at, entry)| such(at, entry, since, self.frame()))
+        })
+    }
+    /// The same of one that it draws.
+    fn draws_kept(&self, such: impl Fn(usize, u8) -> bool) -> bool {
+        self.commits(|at, [place, lock], since, frame| at >= since && usize::from(place) == 1 + frame && such(at, lock))
+    }
+    /// An accepted take of a crosslock over a held lock such that this holds of its place.
+    fn takes_over(&self, such: impl Fn(&[u8], usize, usize) -> bool) -> bool {
+        self.crossed(10).is_some() && (0..depth(self.before, self.frame())).any(|place| such(self.before, self.frame(), place))
+    }
+    /// An acquire that is kept.
+    fn is_kept(&self) -> bool {
+        self.waits() && self.progress() != 0
+    }
+    /// An accepted exit of a handler, such that this holds of a kept entry's place byte and its own.
+    fn exits(&self, such: impl Fn(usize, u8, usize) -> bool) -> bool {
+        let exits = self.record().is_some_and(|r| self.answer < 2 && (r.1 == 7 || r.1 == 9));
+        exits && self.entries().any(|(at, [place, _])| such(at, place, 1 + self.frame()))
+    }
+    /// Whether the core's current frame holds a lock that lacks a mark it is to have.
+    fn lacks_mark(&self) -> bool {
+        let (desk, frame) = (self.before, self.frame());
+        (0..depth(desk, frame)).any(|place| {
+            let marks = clashes::marks_of(self.state(), mode_at(desk, frame, place));
+            desk[MARKS + usize::from(hold(desk, frame, place) % 64)] & marks != marks
+        })
+    }
+    /// A step on a fit desk, such that this holds of the word in progress and the kept count.
+    fn fit_lists(&self, such: impl Fn(u64, usize) -> bool) -> bool {
+        let fit = matches!(self.call, Call::Step(_)) && ![11].contains(&self.answer) && self.before.len() >= DESK;
+        fit && such(self.progress(), self.kept_count())
     }
 }
 
@@ -356,23 +421,31 @@ impl Look<'_> {
         let after = self.feed_after;
         self.piece(|p| !p.is_empty()) && self.answer == 0 && (after[OPENED], after[KEPT]) == (u8::from(opened), kept as u8)
     }
-    /// The first four bytes, where a piece completes the header and is refused, else accepted.
-    fn header(&self, refused: bool) -> Option<[u8; 4]> {
+    /// Its bytes, where a piece completes the header and is refused, else accepted.
+    fn header(&self, refused: bool) -> Option<Vec<u8>> {
         let piece = self.piece_at(false).filter(|piece| !self.opened() && feeds::completes(self.feed, piece))?;
-        let mut header = [0; 4];
-        header[..self.kept()].copy_from_slice(&self.feed[KEEP..KEEP + self.kept()]);
-        header[self.kept()..].copy_from_slice(&piece[..4 - self.kept()]);
+        let mut header = [&self.feed[KEEP..KEEP + self.kept()], &piece[..piece.len().min(12)]].concat();
+        header.truncate(feeds::header_length(&header));
         (refused == (self.feed_after[OPENED] == 0)).then_some(header)
     }
-    fn bad_header(&self, such: impl Fn([u8; 4]) -> bool) -> bool {
-        self.header(true).is_some_and(such)
+    fn bad_header(&self, such: impl Fn(&[u8]) -> bool) -> bool {
+        self.header(true).is_some_and(|header| such(&header))
     }
-    /// A good header whose desk, sheet or second sheet alone is too short, by its place among these.
+    /// The same of a header of four bytes, or of twelve: its first four bytes, and the word behind them.
+    fn bad(&self, length: usize, such: impl Fn([u8; 4], u64) -> bool) -> bool {
+        self.bad_header(|header| {
+            let word = header[4..].iter().rev().fold(0, |word, &byte| word << 8 | u64::from(byte));
+            header.len() == length && such([header[0], header[1], header[2], header[3]], word)
+        })
+    }
+    /// A good header whose desk, sheet, second sheet or history alone is too short, by its place among these.
     fn short_for_header(&self, which: usize) -> bool {
         self.bad_header(|h| {
             let pairs = usize::from(h[3]) * usize::from(h[3]);
-            let short = [self.before.len() < DESK, self.sheet.len() < pairs, self.seen.len() < 4 * pairs];
-            h[..3] == [0x4C, 0x48, 1] && (1..=64).contains(&h[3]) && (0..3).all(|i| short[i] == (i == which))
+            let short = [self.before.len() < DESK, self.sheet.len() < pairs, self.seen.len() < 4 * pairs, self.kept.len() < HISTORY];
+            let declared = h[4..].iter().rev().fold(0u64, |word, &byte| word << 8 | u64::from(byte));
+            let well = h[..2] == [0x4C, 0x48] && (1..=2).contains(&h[2]) && (1..=64).contains(&h[3]);
+            well && declared & !(u64::MAX >> (64 - h[3])) == 0 && (0..4).all(|i| short[i] == (i == which))
         })
     }
     /// How many records a piece got judged.
@@ -382,7 +455,8 @@ impl Look<'_> {
     /// How many bytes of a piece come behind the record that stops the feed.
     fn behind(&self) -> Option<usize> {
         let piece = self.piece_at(false).filter(|_| self.answer != 0)?;
-        let header = if self.opened() { 0 } else { 4 };
+        let begun = || [&self.feed[KEEP..KEEP + self.kept()], &piece[..piece.len().min(12)]].concat();
+        let header = if self.opened() { 0 } else { feeds::header_length(&begun()) };
         // The number stays at the top.
         (feeds::number(self.feed_after) != u64::MAX)
             .then(|| (self.kept() + piece.len()).checked_sub(header + 6 * self.records() as usize))?
@@ -393,7 +467,7 @@ impl Look<'_> {
     /// A record refused on a desk that an earlier version takes, in a buffer that is long enough today.
     fn fed_old(&self) -> bool {
         let (sheet, seen) = (self.sheet, self.seen);
-        let fit = |desk: &[u8]| reference::unfit(desk, sheet, seen, None).is_none();
+        let fit = |desk: &[u8]| unfit_bench([desk, sheet, seen]).is_none();
         let longer = self.stops(11) && self.records() == 1 && self.before.len() >= DESK && !self.short_slip(self.before);
         longer && !fit(self.before) && older::read_as_old(self.before).is_some_and(|desk| fit(&desk))
     }
@@ -472,7 +546,7 @@ impl Look<'_> {
 impl Look<'_> {
     /// A step on a fit desk, and whatever it answers but 10 and 11: the count before it.
     fn counted(&self) -> Option<u32> {
-        (matches!(self.call, Call::Step(_)) && self.answer < 10).then(|| numbers::count(self.before))
+        (matches!(self.call, Call::Step(_)) && ![10, 11].contains(&self.answer)).then(|| numbers::count(self.before))
     }
     /// An accepted step at such a count.
     fn counts_at(&self, such: impl Fn(u32) -> bool) -> bool {
@@ -482,11 +556,19 @@ impl Look<'_> {
     fn at_full(&self, answer: u8) -> bool {
         matches!(self.call, Call::Step(_)) && self.answer == answer && numbers::count(self.before) == FULL
     }
-    /// The pairs and kinds that this record draws, or would draw if it were accepted, where it is an acquire that waits; the
-    /// newest held lock's last.
+    /// The pairs and kinds that this record draws, or would draw if it were accepted, where it is an acquire that waits, or takes or
+    /// commits a crosslock; the newest held lock's last.
     fn draws(&self) -> Vec<(usize, u8)> {
-        let Some((_, 0, class, mode @ 0..3)) = self.record().filter(|_| self.answer < 10) else { return Vec::new() };
+        let Some((_, kind @ (0 | 10 | 11), class, mode @ 0..3)) = self.record().filter(|_| self.answer < 10) else { return Vec::new() };
         let (desk, k, frame) = (self.before, usize::from(self.classes()), self.frame());
+        if usize::from(class) >= k {
+            return Vec::new();
+        }
+        if kind == 11 {
+            let since = crosslocks::since(desk, usize::from(class)) as usize;
+            let kept = self.entries().filter(|&(at, [place, _])| at >= since && usize::from(place) == 1 + frame);
+            return kept.map(|(_, [_, lock])| (usize::from(class) * k + usize::from(lock % 64), if lock < 128 { 2 } else { 1 })).collect();
+        }
         let held = (0..depth(desk, frame)).map(|place| hold(desk, frame, place));
         let kind = |lock: u8| (if lock < 64 { 1 } else { 4 }) << u8::from(mode != 2);
         held.map(|lock| (usize::from(lock % 64) * k + usize::from(class), kind(lock))).collect()
@@ -529,7 +611,7 @@ impl Look<'_> {
     }
     /// A step or a question on a fit desk: K x K.
     fn fit_pairs(&self) -> Option<usize> {
-        let fit = matches!(self.call, Call::Step(_) | Call::Ask(_)) && self.answer < 11;
+        let fit = matches!(self.call, Call::Step(_) | Call::Ask(_)) && self.answer != 11;
         fit.then(|| usize::from(self.classes()) * usize::from(self.classes()))
     }
     /// The same: whether a number is the count; whether one under it has a greater low byte, and is under 2 to the 31 where the count
@@ -591,18 +673,18 @@ impl Look<'_> {
     }
     /// Refused for nothing but the slip's length.
     fn slip_of(&self, length: impl Fn(usize) -> usize) -> bool {
-        let fit = || reference::unfit(self.before, self.sheet, self.seen, None).is_none();
+        let fit = || unfit_bench([self.before, self.sheet, self.seen]).is_none();
         self.clause("slip too short") && self.slip.len() == length(usize::from(self.classes())) && fit()
     }
     /// An opening refused for nothing but the second sheet's length.
     fn opens_seen(&self, lens: impl Fn(usize) -> Range<usize>) -> bool {
-        let Call::Open(k @ 1..=64) = *self.call else { return false };
+        let Call::Open(k @ 1..=64, _) = *self.call else { return false };
         let pairs = (k * k) as usize;
         let well = self.before.len() >= DESK && self.sheet.len() >= pairs;
         self.answer == 2 && well && lens(pairs).contains(&self.seen.len())
     }
     fn opened_over(&self, such: impl Fn(usize) -> bool) -> bool {
-        matches!(self.call, Call::Open(k) if self.answer == 0 && such((k * k) as usize))
+        matches!(self.call, Call::Open(k, _) if self.answer == 0 && such((k * k) as usize))
     }
     /// A piece or an end over a feed that stands at 9.
     fn stood_at_9(&self) -> bool {
@@ -702,7 +784,7 @@ impl Look<'_> {
     }
     /// Whether each bench is fit.
     fn fit_benches(&self) -> [bool; 2] {
-        let fit = |[desk, sheet, seen]: Lent| reference::unfit(desk, sheet, seen, None).is_none();
+        let fit = |[desk, sheet, seen]: Lent| unfit_bench([desk, sheet, seen]).is_none();
         *self.fit_benches.get_or_init(|| self.benches().map_or([false; 2], |benches| benches.map(fit)))
     }
     /// The smaller and the larger K of two fit benches.
@@ -1058,8 +1140,8 @@ pub const SIGHTS: &[Sight] = &[
     sight("cycle of 4 to 7 dependencies", 190, |l| l.of_length(4..=7)),
     sight("cycle of 8 to 15 dependencies", 62, |l| l.of_length(8..=15)),
     sight("cycle of 16 to 31 dependencies", 31, |l| l.of_length(16..=31)),
-    sight("cycle of 32 to 63 dependencies", 71, |l| l.of_length(32..=63)),
-    sight("cycle of 64 dependencies", 23, |l| l.of_length(64..=64)),
+    sight("cycle of 32 to 63 dependencies", 17, |l| l.of_length(32..=63)),
+    sight("cycle of 64 dependencies", 3, |l| l.of_length(64..=64)),
     sight("several cycles of the fewest", 1000, |l| l.shows(|s| s.several)),
     sight("several cycles of the fewest, 4 or more dependencies", 230, |l| l.of_length(4..=64) && l.shows(|s| s.several)),
     sight("several cycles of the fewest, closed by one record", 160, |l| l.shows(|s| s.several) && l.clean_before()),
@@ -1150,12 +1232,12 @@ pub const SIGHTS: &[Sight] = &[
     sight("release of class K or more in mode 1 to 5", 500, |l| l.refused(4, |kind, _, mode| kind == 1 && mode > 0)),
     sight("release on a closed desk", 2200, |l| l.refused(10, |kind, _, mode| kind == 1 && mode < 6)),
     sight("event with a try's mode", 100, |l| {
-        l.refused(3, |kind, class, mode| kind > 1 && class == 0 && TRIES.contains(&mode))
+        l.refused(3, |kind, class, mode| (2..10).contains(&kind) && class == 0 && TRIES.contains(&mode))
     }),
     // The count.
     sight("acquire that draws nothing, counted", 53_000, |l| l.accepted(0).is_some() && l.draws().is_empty()),
     sight("release counted", 61_000, |l| l.accepted(1).is_some()),
-    sight("event counted", 70_000, |l| l.record().is_some_and(|r| l.answer < 2 && r.1 > 1)),
+    sight("event counted", 70_000, |l| l.record().is_some_and(|r| l.answer < 2 && (2..10).contains(&r.1))),
     sight("fault counted", 2800, |l| l.answer == 1 && l.record().is_some()),
     sight("refused record at a count but 0", 14_000, |l| (3..9).contains(&l.answer) && l.counted() > Some(0)),
     sight("count that carries to its second byte", 530, |l| l.counts_at(|count| count % 256 == 255)),
@@ -1167,15 +1249,15 @@ pub const SIGHTS: &[Sight] = &[
     sight("fault that reaches the last count", 72, |l| l.answer == 1 && l.counts_at(|count| count == FULL - 1)),
     sight("count two before its last", 200, |l| l.counts_at(|count| count == FULL - 2)),
     // 9.
-    sight("9 for an acquire that would draw a new pair", 190, |l| l.full_for(|_, _| l.draws().iter().any(|d| l.sheet[d.0] == 0))),
+    sight("9 for an acquire that would draw a new pair", 190, |l| l.full_for(|kind, _| kind == 0 && l.draws().iter().any(|d| l.sheet[d.0] == 0))),
     sight("9 for an acquire that would draw no new pair", 49, |l| {
-        l.full_for(|_, _| !l.draws().is_empty() && l.draws().iter().all(|d| l.sheet[d.0] != 0))
+        l.full_for(|kind, _| kind == 0 && !l.draws().is_empty() && l.draws().iter().all(|d| l.sheet[d.0] != 0))
     }),
     sight("9 for an acquire over nothing", 280, |l| l.full_for(|kind, mode| kind == 0 && mode < 3) && l.draws().is_empty()),
     sight("9 for a try", 560, |l| l.full_for(|kind, mode| kind == 0 && mode > 2)),
     sight("9 for a release", 1800, |l| l.full_for(|kind, _| kind == 1)),
     sight("9 for a release in mode 1 to 5", 1300, |l| l.full_for(|kind, mode| kind == 1 && mode > 0)),
-    sight("9 for an event", 1300, |l| l.full_for(|kind, _| kind > 1)),
+    sight("9 for an event", 1300, |l| l.full_for(|kind, _| (2..10).contains(&kind))),
     sight("9 where a cycle stands", 600, |l| l.full_for(|_, _| !l.clean_before())),
     sight("3 at the last count", 240, |l| l.at_full(3)),
     sight("4 at the last count", 110, |l| l.at_full(4)),
@@ -1234,6 +1316,209 @@ pub const SIGHTS: &[Sight] = &[
     sight("interrupt shown, its pair with a number", 180, |l| l.showed(|_, _, source, number| source > 0 && number != 0)),
     sight("cycle that the numbers' bytes would change", 50, |l| l.chooses(Choice::NumberBytes)),
     sight("cycle that the numbers would change", 50, |l| l.chooses(Choice::NumberValues)),
+    // Crosslocks: which class, and in which state.
+    sight("15 for an acquire of a crosslock", 610, |l| l.answered(15, |kind, _, mode| kind == 0 && mode < 3)),
+    sight("15 for a try of a crosslock", 250, |l| l.answered(15, |kind, _, mode| kind == 0 && mode > 2)),
+    sight("15 for a release of a crosslock as a lock", 590, |l| l.answered(15, |kind, _, _| kind == 1)),
+    sight("15 for a take of a lock as a crosslock", 270, |l| l.answered(15, |kind, _, _| kind == 10)),
+    sight("15 for a commit of a lock", 840, |l| l.answered(15, |kind, _, _| kind == 11)),
+    sight("15 for a release of a lock as a crosslock", 480, |l| l.answered(15, |kind, _, _| kind == 12)),
+    sight("15 where none is declared", 460, |l| l.answered(15, |_, _, _| crosslocks::declared(l.before) == 0)),
+    sight("4 for kinds 10 to 12", 930, |l| l.answered(4, |kind, _, _| kind > 9)),
+    sight("kinds 10 to 12 with a mode", 68, |l| {
+        matches!(l.call, Call::Step(r) if l.answer == 3 && r.len == 6 && (10..13).contains(&r.bytes[3]) && r.bytes[5] > 0 && r.bytes[2] < 8)
+    }),
+    sight("kind 13", 15, |l| matches!(l.call, Call::Step(r) if l.answer == 3 && r.len == 6 && r.bytes[3] == 13 && r.bytes[5] == 0)),
+    sight("15 in a full frame", 170, |l| l.answered(15, |_, _, _| depth(l.before, l.frame()) == DEEPEST)),
+    sight("class 63 a crosslock, taken", 3, |l| l.crosses(10, |class| class == 63)),
+    sight("crosslock of class 8 or more taken", 220, |l| l.crosses(10, |class| class > 7)),
+    sight("crosslock taken in a task", 1900, |l| l.crossed(10).is_some() && l.state() < 4),
+    sight("crosslock taken with all off", 230, |l| l.crossed(10).is_some() && l.state() == 3),
+    sight("crosslock taken in a soft handler", 330, |l| l.crossed(10).is_some() && [4, 5].contains(&l.state())),
+    sight("crosslock taken in a hard handler", 310, |l| l.crossed(10).is_some() && l.state() > 5),
+    sight("commit in a soft handler", 830, |l| l.crossed(11).is_some() && [4, 5].contains(&l.state())),
+    sight("commit in a hard handler", 600, |l| l.crossed(11).is_some() && l.state() > 5),
+    sight("release of a crosslock in a handler", 580, |l| l.crossed(12).is_some() && l.state() > 3),
+    sight("crosslock taken in a full frame", 3, |l| l.crossed(10).is_some() && depth(l.before, l.frame()) == DEEPEST),
+    sight("crosslock taken over a lock that lacks a mark", 22, |l| l.crossed(10).is_some() && l.lacks_mark()),
+    sight("commit over a lock that lacks a mark", 99, |l| l.crossed(11).is_some() && l.lacks_mark()),
+    sight("release of a crosslock over a lock that lacks a mark", 41, |l| l.crossed(12).is_some() && l.lacks_mark()),
+    sight("record of a crosslock that closes the desk", 66, |l| l.answer == 1 && l.record().is_some_and(|r| r.1 > 9)),
+    // Taken: from the held locks.
+    sight("crosslock taken over an exclusive lock", 260, |l| l.takes_over(|desk, f, p| hold(desk, f, p) < 64)),
+    sight("crosslock taken over a read", 220, |l| l.takes_over(|desk, f, p| hold(desk, f, p) / 64 == 1)),
+    sight("crosslock taken over a recursive read", 340, |l| l.takes_over(|desk, f, p| hold(desk, f, p) / 64 == 2)),
+    sight("crosslock taken over a try", 220, |l| l.takes_over(is_try)),
+    sight("crosslock taken over two locks", 200, |l| l.takes_over(|_, _, p| p > 0)),
+    sight("crosslock taken over nothing, the frame below has locks", 74, |l| {
+        l.crossed(10).is_some() && l.state() > 3 && depth(l.before, l.frame()) == 0 && (0..l.frame() % 3).any(|f| depth(l.before, l.frame() / 3 * 3 + f) > 0)
+    }),
+    sight("crosslock taken over locks, the frame below has others", 55, |l| {
+        l.takes_over(|_, _, _| true) && (0..l.frame() % 3).any(|f| depth(l.before, l.frame() / 3 * 3 + f) > 0)
+    }),
+    sight("pair drawn first by a take of a crosslock", 410, |l| l.crosses(10, |class| {
+        let k = usize::from(l.classes());
+        (0..k).any(|from| l.sheet[from * k + class] == 0 && l.sheet_after[from * k + class] != 0)
+    })),
+    sight("crosslock taken with others in progress", 920, |l| l.crossed(10).is_some() && l.progress() != 0),
+    sight("crosslock taken with some kept", 450, |l| l.crossed(10).is_some() && l.kept_count() > 0),
+    sight("crosslock taken with 255 kept", 23, |l| l.crossed(10).is_some() && l.kept_count() == 255),
+    sight("crosslock taken with 256 kept", 17, |l| l.crossed(10).is_some() && l.kept_count() == 256),
+    sight("crosslock taken whose since number was another", 540, |l| l.crosses(10, |class| crosslocks::since(l.before, class) as usize != l.kept_count())),
+    sight("sixteenth crosslock taken", 3, |l| l.crossed(10).is_some() && l.progress().count_ones() == 15),
+    // Committed.
+    sight("commit that draws an exclusive acquire", 290, |l| l.draws_kept(|_, lock| lock < 64)),
+    sight("commit that draws a read", 230, |l| l.draws_kept(|_, lock| lock / 64 == 1)),
+    sight("commit that draws a recursive read", 460, |l| l.draws_kept(|_, lock| lock / 64 == 2)),
+    sight("commit that draws one released meanwhile", 420, |l| {
+        l.draws_kept(|_, lock| !(0..depth(l.before, l.frame())).any(|p| hold(l.before, l.frame(), p) % 64 == lock % 64))
+    }),
+    sight("commit that draws several", 200, |l| {
+        l.draws_kept(|at, lock| l.draws_kept(|other, second| at != other && lock % 64 != second % 64))
+    }),
+    sight("commit that draws the last of 256", 17, |l| l.draws_kept(|at, _| at == 255)),
+    sight("commit that draws the first kept", 340, |l| l.draws_kept(|at, _| at == 0)),
+    sight("commit that draws a pair by two kinds", 89, |l| {
+        l.draws_kept(|_, lock| l.draws_kept(|_, other| lock % 64 == other % 64 && (lock < 128) != (other < 128)))
+    }),
+    sight("pair drawn first by a commit", 410, |l| l.crosses(11, |class| {
+        let k = usize::from(l.classes());
+        (0..k).any(|to| l.sheet[class * k + to] == 0 && l.sheet_after[class * k + to] != 0)
+    })),
+    sight("second kind of a pair by a commit", 36, |l| l.crosses(11, |class| {
+        let k = usize::from(l.classes());
+        (0..k).any(|to| l.sheet[class * k + to] != 0 && l.sheet_after[class * k + to] != l.sheet[class * k + to])
+    })),
+    sight("commit that draws nothing", 3700, |l| l.crossed(11).is_some() && !l.draws_kept(|_, _| true)),
+    sight("commit, an acquire before the crosslock in the frame", 430, |l| l.commits(|at, [place, _], since, frame| at < since && usize::from(place) == 1 + frame)),
+    sight("commit, an acquire right before the crosslock", 130, |l| l.commits(|at, [place, _], since, frame| at + 1 == since && usize::from(place) == 1 + frame)),
+    sight("commit, an acquire right behind the crosslock", 420, |l| l.commits(|at, [place, _], since, frame| at == since && usize::from(place) == 1 + frame)),
+    sight("commit, an acquire of another core since", 1200, |l| l.commits(|at, [place, _], since, frame| {
+        at >= since && place > 0 && (usize::from(place) - 1) / 3 != frame / 3
+    })),
+    sight("commit, an acquire of another frame of the core since", 66, |l| l.commits(|at, [place, _], since, frame| {
+        at >= since && place > 0 && (usize::from(place) - 1) / 3 == frame / 3 && usize::from(place) != 1 + frame
+    })),
+    sight("commit, one struck out since", 400, |l| l.commits(|at, [place, _], since, _| at >= since && place == 0)),
+    sight("commit with a since number of 256", 34, |l| l.crosses(11, |class| crosslocks::since(l.before, class) == 256)),
+    sight("commit with a since number over 256", 200, |l| l.crosses(11, |class| crosslocks::since(l.before, class) > 256)),
+    sight("commit with a since number whose low byte is less", 100, |l| l.commits(|at, [place, _], since, frame| {
+        at < since && at >= since % 256 && usize::from(place) == 1 + frame
+    })),
+    sight("commit, another crosslock with another since number", 650, |l| l.crosses(11, |class| {
+        crosslocks::classes(l.progress()).iter().any(|&c| crosslocks::since(l.before, usize::from(c)) != crosslocks::since(l.before, class))
+    })),
+    sight("commit, entries behind the kept count of its frame", 850, |l| l.crossed(11).is_some() && {
+        let place = 1 + l.frame();
+        l.kept[..HISTORY].chunks_exact(2).skip(l.kept_count()).any(|entry| usize::from(entry[0]) == place)
+    }),
+    sight("commit over a held lock that is not kept", 870, |l| l.crossed(11).is_some() && {
+        let in_history = |class: u8| l.entries().any(|(_, [place, lock])| usize::from(place) == 1 + l.frame() && lock % 64 == class);
+        (0..depth(l.before, l.frame())).any(|p| !in_history(hold(l.before, l.frame(), p) % 64))
+    }),
+    // Released.
+    sight("release of the last crosslock, some kept", 510, |l| l.crosses(12, |class| l.progress() == 1 << class) && l.kept_count() > 0),
+    sight("release of the last crosslock, 256 kept", 28, |l| l.crosses(12, |class| l.progress() == 1 << class) && l.kept_count() == 256),
+    sight("release of one of several, some kept", 460, |l| l.crosses(12, |class| l.progress() != 1 << class) && l.kept_count() > 0),
+    sight("release of a crosslock with a since number but 0", 430, |l| l.crosses(12, |class| crosslocks::since(l.before, class) != 0)),
+    sight("release of a crosslock with acquires that a commit would draw", 370, |l| l.crosses(12, |class| {
+        let since = crosslocks::since(l.before, class) as usize;
+        l.entries().any(|(at, [place, _])| at >= since && usize::from(place) == 1 + l.frame())
+    })),
+    // Kept and struck out.
+    sight("acquire kept of an exclusive lock", 1900, |l| l.is_kept() && l.tries_mode(0)),
+    sight("acquire kept of a read", 1600, |l| l.is_kept() && l.tries_mode(1)),
+    sight("acquire kept of a recursive read", 3200, |l| l.is_kept() && l.tries_mode(2)),
+    sight("acquire kept in a handler", 960, |l| l.is_kept() && l.state() > 3),
+    sight("acquire kept as the first", 650, |l| l.is_kept() && l.kept_count() == 0),
+    sight("acquire kept as the last of 256", 33, |l| l.is_kept() && l.kept_count() == 255),
+    sight("acquire kept behind 128 and more", 2300, |l| l.is_kept() && l.kept_count() >= 128),
+    sight("try not kept", 1100, |l| l.tries() && l.progress() != 0),
+    sight("try with 256 kept", 37, |l| l.tries() && l.progress() != 0 && l.kept_count() == 256),
+    sight("acquire not kept, none in progress", 2900, |l| l.waits() && l.progress() == 0 && crosslocks::declared(l.before) != 0),
+    sight("acquire with 256 kept, none in progress", 3, |l| l.waits() && l.progress() == 0 && l.kept_count() == 256),
+    sight("exit that strikes out", 270, |l| l.exits(|_, place, own| usize::from(place) == own)),
+    sight("exit that strikes out several", 90, |l| {
+        l.exits(|at, place, own| usize::from(place) == own && l.exits(|other, second, own| other != at && usize::from(second) == own))
+    }),
+    sight("exit that strikes out the first", 77, |l| l.exits(|at, place, own| at == 0 && usize::from(place) == own)),
+    sight("exit that strikes out the last kept", 170, |l| l.exits(|at, place, own| at + 1 == l.kept_count() && usize::from(place) == own)),
+    sight("exit beside entries of the task", 150, |l| l.exits(|_, place, own| place > 0 && usize::from(place) < own && (usize::from(place) - 1) % 3 == 0 && (usize::from(place) - 1) / 3 == (own - 1) / 3)),
+    sight("exit of a hard handler beside entries of the soft one", 53, |l| l.exits(|_, place, own| own % 3 == 0 && usize::from(place) + 1 == own)),
+    sight("exit beside entries of another core's handler", 180, |l| l.exits(|_, place, own| place > 0 && usize::from(place) % 3 == own % 3 && usize::from(place) != own)),
+    sight("exit, its frame behind the kept count", 410, |l| {
+        l.record().is_some_and(|r| l.answer < 2 && (r.1 == 7 || r.1 == 9))
+            && l.kept[..HISTORY].chunks_exact(2).skip(l.kept_count()).any(|entry| usize::from(entry[0]) == 1 + l.frame())
+    }),
+    sight("exit refused with 7 beside entries of its frame", 24, |l| l.answered(7, |_, _, _| l.entries().any(|(_, [place, _])| usize::from(place) == 1 + l.frame()))),
+    // Refused.
+    sight("16 with fewer than 16 in progress", 1100, |l| l.answered(16, |_, _, _| l.progress().count_ones() < 16)),
+    sight("16 before 18", 41, |l| l.answered(16, |_, _, _| l.progress().count_ones() == 16)),
+    sight("17 for a commit", 570, |l| l.answered(17, |kind, _, _| kind == 11)),
+    sight("17 for a release", 440, |l| l.answered(17, |kind, _, _| kind == 12)),
+    sight("17 with others in progress", 280, |l| l.answered(17, |_, _, _| l.progress() != 0)),
+    sight("18 with 16 in progress", 13, |l| l.answered(18, |_, _, _| true)),
+    sight("19 for an acquire", 3, |l| l.answered(19, |_, _, _| true)),
+    sight("19 in a log from opening", 27, |l| l.answered(19, |_, _, _| l.history.steps.is_some())),
+    sight("19 over a lock that lacks a mark", 18, |l| l.answered(19, |_, _, _| l.lacks_mark())),
+    sight("8 before 19", 15, |l| l.answered(8, |_, _, mode| mode < 3 && l.progress() != 0 && l.kept_count() == 256)),
+    sight("19 before 9", 22, |l| l.at_full(19)),
+    sight("16 before 9", 46, |l| l.at_full(16)),
+    sight("17 before 9", 3, |l| l.at_full(17)),
+    sight("18 before 9", 3, |l| l.at_full(18)),
+    sight("15 before 9", 130, |l| l.at_full(15)),
+    sight("9 for kinds 10 to 12", 120, |l| l.full_for(|kind, _| kind > 9)),
+    sight("9 for an acquire to be kept", 25, |l| l.full_for(|kind, mode| kind == 0 && mode < 3 && l.progress() != 0)),
+    sight("15 before 16 to 18", 3, |l| l.answered(15, |kind, _, _| kind > 9 && l.progress().count_ones() == 16)),
+    sight("record of a crosslock on a closed desk", 390, |l| l.answered(10, |kind, _, _| kind > 9)),
+    // Fit oddities.
+    sight("step with 16 in progress", 360, |l| l.fit_lists(|progress, _| progress.count_ones() == 16)),
+    sight("step with 256 kept", 1500, |l| l.fit_lists(|_, kept| kept == 256)),
+    sight("step with some kept and none in progress", 1000, |l| l.fit_lists(|progress, kept| progress == 0 && kept > 0)),
+    sight("step with a lock held of a crosslock", 4300, |l| l.fit_lists(|_, _| {
+        let crosslocks = crosslocks::declared(l.before);
+        crosslocks != 0 && (0..FRAMES).any(|f| (0..depth(l.before, f)).any(|p| crosslocks >> (hold(l.before, f, p) % 64) & 1 == 1))
+    })),
+    sight("step with a mark on a crosslock", 2800, |l| l.fit_lists(|_, _| {
+        let crosslocks = crosslocks::declared(l.before);
+        crosslocks != 0 && (0..64).any(|class| crosslocks >> class & 1 == 1 && l.before[MARKS + class] != 0)
+    })),
+    sight("step with an entry of a crosslock", 3500, |l| l.fit_lists(|_, _| {
+        let crosslocks = crosslocks::declared(l.before);
+        crosslocks != 0 && l.entries().any(|(_, [place, lock])| place > 0 && crosslocks >> (lock % 64) & 1 == 1)
+    })),
+    sight("step with an entry of frame 23", 1200, |l| l.fit_lists(|_, _| l.entries().any(|(_, [place, _])| place == 24))),
+    sight("step with bytes behind the kept count that would not fit", 26_000, |l| l.fit_lists(|_, kept| {
+        l.kept[..HISTORY].chunks_exact(2).skip(kept).any(|entry| entry[0] > 24)
+    })),
+    sight("step with a history a byte longer", 5700, |l| l.fit_lists(|_, _| l.kept.len() == HISTORY + 1)),
+    sight("step with a history a byte short", 15, |l| l.clause("history too short") && l.kept.len() == HISTORY - 1),
+    sight("257 kept", 18, |l| l.clause("more than 256 kept") && l.kept_count() == 257),
+    sight("more kept by its third or fourth byte", 51, |l| l.clause("more than 256 kept") && l.kept_count() > 65_535 && l.kept_count() % 65_536 < 257),
+    sight("17 in progress", 47, |l| l.clause("more than 16 in progress") && l.progress().count_ones() == 17),
+    sight("declared class K", 55, |l| l.clause("declared class K or more") && crosslocks::declared(l.before) >> l.classes() & 1 == 1),
+    sight("place byte 25", 38, |l| l.clause("kept place over 24") && l.entries().any(|(_, [place, _])| place == 25)),
+    sight("unfit entry kept as the last", 120, |l| {
+        let k = l.classes();
+        let unfit = |[place, lock]: [u8; 2]| place > 24 || place == 0 && lock != 0 || place > 0 && (lock > 191 || lock % 64 >= k);
+        matches!(l.call, Call::Step(_)) && l.answer == 11 && l.before.len() >= DESK && l.kept.len() >= HISTORY
+            && (1..=256).contains(&l.kept_count()) && l.entries().next_back().is_some_and(|(_, entry)| unfit(entry))
+    }),
+    sight("opening with a class of K or more declared", 39, |l| matches!(*l.call, Call::Open(k @ 1..64, word) if l.answer == 2 && word >> k != 0)),
+    sight("opening with class K alone over the limit", 17, |l| {
+        matches!(*l.call, Call::Open(k @ 1..64, word) if l.answer == 2 && word >> k == 1)
+    }),
+    sight("opening with crosslocks", 640, |l| matches!(*l.call, Call::Open(_, word) if l.answer == 0 && word != 0)),
+    sight("opening with class K - 1 a crosslock", 340, |l| matches!(*l.call, Call::Open(k, word) if l.answer == 0 && word >> (k - 1) & 1 == 1)),
+    sight("opening over a history with bytes", 1900, |l| matches!(l.call, Call::Open(..)) && l.answer == 0 && l.kept[..HISTORY].iter().any(|&b| b != 0)),
+    sight("opening with a history a byte short", 13, |l| matches!(l.call, Call::Open(1..=64, _)) && l.answer == 2 && l.kept.len() == HISTORY - 1),
+    sight("opening with a history longer", 330, |l| matches!(l.call, Call::Open(..)) && l.answer == 0 && l.kept.len() > HISTORY),
+    sight("question with crosslocks in progress", 1200, |l| matches!(l.call, Call::Ask(_)) && l.answer == 0 && l.progress() != 0),
+    sight("question beside a history that does not fit", 29, |l| {
+        matches!(l.call, Call::Ask(_)) && l.answer == 0 && l.kept.len() >= HISTORY && l.entries().any(|(_, [place, _])| place > 24)
+    }),
+    sight("first step on a joined desk with crosslocks", 110, |l| l.steps_joined(|steps| steps == 0) && l.answer < 2 && crosslocks::declared(l.before) != 0),
+    sight("crosslock taken on a joined desk", 93, |l| l.steps_joined(|_| true) && l.crossed(10).is_some()),
     // On a joined desk.
     sight("first step on a joined desk with a number", 700, |l| l.steps_joined(|steps| steps == 0) && l.fit_numbers()[3]),
     sight("first step on a joined desk, accepted", 440, |l| l.steps_joined(|steps| steps == 0) && l.answer < 2),
@@ -1278,7 +1563,7 @@ pub const SIGHTS: &[Sight] = &[
     sight("call with a second sheet a byte longer", 11_000, |l| l.fit_pairs().is_some_and(|pairs| l.seen.len() == 4 * pairs + 1)),
     sight("step with a slip a byte short", 79, |l| l.slip_of(|k| 7 * k)),
     sight("step with a slip of 1 + 3K bytes", 69, |l| l.slip_of(|k| 1 + 3 * k)),
-    sight("call on a fit desk with a try", 130_000, |l| l.answer < 10 && has_origins(l.before)),
+    sight("call on a fit desk with a try", 130_000, |l| ![2, 10, 11, 12, 13, 14].contains(&l.answer) && has_origins(l.before)),
     sight("origin right past the depth", 270, |l| l.origin(|f, p| p == depth(l.before, f))),
     sight("origin in an empty frame", 690, |l| l.origin(|f, _| depth(l.before, f) == 0)),
     sight("origin in the last byte of a frame alone", 370, |l| l.origins_only(|_, p| p >= DEEPEST - 8)),
@@ -1318,10 +1603,12 @@ pub const SIGHTS: &[Sight] = &[
     sight("call on a desk a byte short of the origins", 76, |l| l.short(ORIGINS - 1..ORIGINS)),
     sight("call on a desk without the origins", 40, |l| l.short(ORIGINS..ORIGINS + 1)),
     sight("call on a desk with part of the origins", 100, |l| l.short(ORIGINS + 1..COUNT)),
-    sight("call on a desk without the count", 93, |l| l.short(COUNT..COUNT + 1)),
-    sight("call on a desk with part of the count", 140, |l| l.short(COUNT + 1..DESK)),
+    sight("call on a desk without the count", 23, |l| l.short(COUNT..COUNT + 1)),
+    sight("call on a desk with part of the count", 6, |l| l.short(COUNT + 1..DECLARED)),
+    sight("call on a desk without crosslocks", 26, |l| l.short(DECLARED..DECLARED + 1)),
+    sight("call on a desk with part of the crosslocks", 13, |l| l.short(DECLARED + 1..DESK - 1)),
     sight("call on a desk a byte short", 92, |l| l.short(DESK - 1..DESK)),
-    sight("call on a desk a byte longer", 21_000, |l| l.answer < 10 && l.before.len() == DESK + 1),
+    sight("call on a desk a byte longer", 21_000, |l| ![2, 10, 11, 12, 13, 14].contains(&l.answer) && l.before.len() == DESK + 1),
     // Opening.
     sight("opening of a desk of 578 bytes", 27, |l| l.opens(older::ORIGINS..older::ORIGINS + 1)),
     sight("opening of a desk of 638 bytes", 25, |l| l.opens(older::COUNT..older::COUNT + 1)),
@@ -1329,16 +1616,18 @@ pub const SIGHTS: &[Sight] = &[
     sight("opening over held locks behind byte 642", 2200, |l| {
         l.opened_over(|_| l.before[older::DESK..ORIGINS].iter().any(|&byte| byte != 0))
     }),
-    sight("opening of a desk a byte short of the origins", 31, |l| l.opens(ORIGINS - 1..ORIGINS)),
-    sight("opening of a desk without the origins", 28, |l| l.opens(ORIGINS..ORIGINS + 1)),
+    sight("opening of a desk a byte short of the origins", 6, |l| l.opens(ORIGINS - 1..ORIGINS)),
+    sight("opening of a desk without the origins", 6, |l| l.opens(ORIGINS..ORIGINS + 1)),
     sight("opening of a desk with part of the origins", 56, |l| l.opens(ORIGINS + 1..COUNT)),
     sight("opening of a desk without the count", 23, |l| l.opens(COUNT..COUNT + 1)),
-    sight("opening of a desk with part of the count", 42, |l| l.opens(COUNT + 1..DESK)),
+    sight("opening of a desk with part of the count", 4, |l| l.opens(COUNT + 1..DECLARED)),
+    sight("opening of a desk without crosslocks", 3, |l| l.opens(DECLARED..DECLARED + 1)),
+    sight("opening of a desk with part of the crosslocks", 3, |l| l.opens(DECLARED + 1..DESK - 1)),
     sight("opening of a desk a byte short", 44, |l| l.opens(DESK - 1..DESK)),
     sight("opening of a desk a byte longer", 130, |l| {
-        matches!(l.call, Call::Open(_)) && l.answer == 0 && l.before.len() == DESK + 1
+        matches!(l.call, Call::Open(..)) && l.answer == 0 && l.before.len() == DESK + 1
     }),
-    sight("opening over origins", 4400, |l| matches!(l.call, Call::Open(_)) && l.answer == 0 && has_origins(l.before)),
+    sight("opening over origins", 4400, |l| matches!(l.call, Call::Open(..)) && l.answer == 0 && has_origins(l.before)),
     sight("opening of a second sheet a byte short", 59, |l| l.opens_seen(|pairs| 4 * pairs - 1..4 * pairs)),
     sight("opening of a second sheet of K x K bytes", 21, |l| l.opens_seen(|pairs| pairs..pairs + 1)),
     sight("opening of a second sheet a byte longer", 120, |l| l.opened_over(|pairs| l.seen.len() == 4 * pairs + 1)),
@@ -1349,6 +1638,8 @@ pub const SIGHTS: &[Sight] = &[
     at_feed("piece over 1 loose byte of the header", 280, |l| l.over(false, 1)),
     at_feed("piece over 2 loose bytes of the header", 320, |l| l.over(false, 2)),
     at_feed("piece over 3 loose bytes of the header", 310, |l| l.over(false, 3)),
+    at_feed("piece over 4 to 10 bytes of the header", 280, |l| (4..11).any(|kept| l.over(false, kept))),
+    at_feed("piece over 11 bytes of the header", 34, |l| l.over(false, 11)),
     at_feed("piece over 0 loose bytes of a record", 2200, |l| l.over(true, 0)),
     at_feed("piece over 1 loose byte of a record", 2000, |l| l.over(true, 1)),
     at_feed("piece over 2 loose bytes of a record", 2000, |l| l.over(true, 2)),
@@ -1358,6 +1649,8 @@ pub const SIGHTS: &[Sight] = &[
     at_feed("piece that leaves 1 loose byte of the header", 280, |l| l.leaves(false, 1)),
     at_feed("piece that leaves 2 loose bytes of the header", 320, |l| l.leaves(false, 2)),
     at_feed("piece that leaves 3 loose bytes of the header", 310, |l| l.leaves(false, 3)),
+    at_feed("piece that leaves 4 to 10 bytes of the header", 280, |l| (4..11).any(|kept| l.leaves(false, kept))),
+    at_feed("piece that leaves 11 bytes of the header", 36, |l| l.leaves(false, 11)),
     at_feed("piece that leaves 0 loose bytes of a record", 2300, |l| l.leaves(true, 0)),
     at_feed("piece that leaves 1 loose byte of a record", 2000, |l| l.leaves(true, 1)),
     at_feed("piece that leaves 2 loose bytes of a record", 2000, |l| l.leaves(true, 2)),
@@ -1367,7 +1660,7 @@ pub const SIGHTS: &[Sight] = &[
     at_feed("piece within the header", 380, |l| l.kept() > 0 && l.piece(|p| !p.is_empty() && !l.opened() && !feeds::completes(l.feed, p))),
     at_feed("piece within a record", 4700, |l| l.kept() > 0 && l.piece(|p| !p.is_empty() && l.opened() && !feeds::completes(l.feed, p))),
     at_feed("header and records in one piece", 190, |l| l.header(false).is_some() && l.records() > 0),
-    at_feed("record over a cut and more in one piece", 1300, |l| {
+    at_feed("record over a cut and more in one piece", 260, |l| {
         l.opened() && l.kept() > 0 && l.piece(|_| true) && l.records() > 1
     }),
     at_feed("piece of more than 65,535 bytes", 12, |l| l.piece(|p| p.len() > 65_535)),
@@ -1388,15 +1681,24 @@ pub const SIGHTS: &[Sight] = &[
             l.feed_after[KEEP..KEEP + kept] != [0x4C, 0x4B][..kept]
         }
     }),
-    at_feed("header with a wrong first byte", 49, |l| l.bad_header(|h| h[0] != 0x4C)),
-    at_feed("header with a wrong second byte", 57, |l| l.bad_header(|h| h[0] == 0x4C && h[1] != 0x48)),
-    at_feed("header with a wrong third byte", 39, |l| l.bad_header(|h| h[..2] == [0x4C, 0x48] && h[2] != 1)),
-    at_feed("header with K = 0", 39, |l| l.bad_header(|h| h == [0x4C, 0x48, 1, 0])),
-    at_feed("header with K over 64", 38, |l| l.bad_header(|h| h[..3] == [0x4C, 0x48, 1] && h[3] > 64)),
-    at_feed("header with a short desk", 40, |l| l.short_for_header(0)),
-    at_feed("header with a desk of 578, 638 or 642 bytes", 8, |l| l.short_for_header(0) && older::SIZES.contains(&l.before.len())),
-    at_feed("header with a short sheet", 41, |l| l.short_for_header(1)),
-    at_feed("header with a short second sheet", 40, |l| l.short_for_header(2)),
+    at_feed("header with a wrong first byte", 12, |l| l.bad(4, |h, _| h[0] != 0x4C)),
+    at_feed("header with a wrong second byte", 11, |l| l.bad(4, |h, _| h[0] == 0x4C && h[1] != 0x48)),
+    at_feed("header with a wrong third byte", 39, |l| l.bad(4, |h, _| h[..2] == [0x4C, 0x48] && h[2] != 1)),
+    at_feed("header with K = 0", 6, |l| l.bad(4, |h, _| h == [0x4C, 0x48, 1, 0])),
+    at_feed("header with K over 64", 5, |l| l.bad(4, |h, _| h[..3] == [0x4C, 0x48, 1] && h[3] > 64)),
+    at_feed("long header with a wrong first or second byte", 3, |l| l.bad(12, |h, _| h[..2] != [0x4C, 0x48])),
+    at_feed("long header with K = 0 or over 64", 3, |l| l.bad(12, |h, _| h[..2] == [0x4C, 0x48] && !(1..=64).contains(&h[3]))),
+    at_feed("long header with a class of K or more", 14, |l| {
+        l.bad(12, |h, word| h[..2] == [0x4C, 0x48] && (1..64).contains(&h[3]) && word >> h[3] != 0)
+    }),
+    at_feed("header with a short history", 3, |l| l.short_for_header(3)),
+    at_feed("long header that opens", 71, |l| l.header(false).is_some_and(|h| h.len() == 12)),
+    at_feed("long header that declares none opens", 19, |l| l.header(false).is_some_and(|h| h.len() == 12 && h[4..] == [0; 8])),
+    at_feed("long header that declares class 8 or more opens", 15, |l| l.header(false).is_some_and(|h| h.len() == 12 && h[5..] != [0; 7])),
+    at_feed("header with a short desk", 9, |l| l.short_for_header(0)),
+    at_feed("header with a desk of 578, 638 or 642 bytes", 3, |l| l.short_for_header(0) && older::SIZES.contains(&l.before.len())),
+    at_feed("header with a short sheet", 6, |l| l.short_for_header(1)),
+    at_feed("header with a short second sheet", 9, |l| l.short_for_header(2)),
     at_feed("header that opens", 750, |l| l.header(false).is_some()),
     at_feed("first record with a short slip", 75, |l| {
         l.stops(11) && feeds::number(l.feed_after) == 1 && l.short_slip(l.after)
@@ -1412,7 +1714,7 @@ pub const SIGHTS: &[Sight] = &[
     at_feed("fault over a cut", 200, |l| l.stops(1) && l.opened() && l.kept() > 0 && l.records() == 1),
     at_feed("fault, and bytes behind it", 95, |l| l.stops(1) && l.behind() > Some(0)),
     at_feed("fault in a piece, several cycles of the fewest", 150, |l| l.shows(|s| s.several)),
-    at_feed("fault in a piece, a shorter cycle above a longer one", 46, |l| l.shows(Shown::above_a_lower)),
+    at_feed("fault in a piece, a shorter cycle above a longer one", 9, |l| l.shows(Shown::above_a_lower)),
     at_feed("fault in a piece by a clash", 53, |l| l.shows(|s| s.n() == 1 && s.cycle[0][2] > 0)),
     at_feed("piece after a stop", 10_000, |l| l.piece_at(true).is_some_and(|p| !p.is_empty())),
     at_feed("empty piece after a stop", 1300, |l| l.piece_at(true).is_some_and(|p| p.is_empty())),
@@ -1442,10 +1744,10 @@ pub const SIGHTS: &[Sight] = &[
     at_feed("number that passes 255", 52, |l| l.piece(|_| true) && feeds::number(l.feed) < 256 && feeds::number(l.feed_after) > 255),
     // Ends.
     at_feed("end without a byte", 35, |l| l.end(false, 0, 2)),
-    at_feed("end over 1 byte of the header", 47, |l| l.end(false, 1, 2)),
-    at_feed("end over 2 bytes of the header", 45, |l| l.end(false, 2, 2)),
-    at_feed("end over 3 bytes of the header", 44, |l| l.end(false, 3, 2)),
-    at_feed("end right after the header", 210, |l| l.end(true, 0, 0) && feeds::number(l.feed) == 0),
+    at_feed("end over 1 byte of the header", 12, |l| l.end(false, 1, 2)),
+    at_feed("end over 2 bytes of the header", 8, |l| l.end(false, 2, 2)),
+    at_feed("end over 3 bytes of the header", 8, |l| l.end(false, 3, 2)),
+    at_feed("end right after the header", 41, |l| l.end(true, 0, 0) && feeds::number(l.feed) == 0),
     at_feed("end between records", 950, |l| l.end(true, 0, 0) && feeds::number(l.feed) > 0),
     at_feed("end between records, the desk closed", 23, |l| l.end(true, 0, 0) && l.before.get(1) == Some(&1)),
     at_feed("end over 1 loose byte, 3", 64, |l| l.end(true, 1, 3)),
@@ -1456,13 +1758,13 @@ pub const SIGHTS: &[Sight] = &[
     at_feed("end over 1 loose byte, 10", 34, |l| l.end(true, 1, 10)),
     at_feed("end over 2 loose bytes, 10", 33, |l| l.end(true, 2, 10)),
     at_feed("end over 3 loose bytes, 10", 34, |l| l.end(true, 3, 10)),
-    at_feed("end over 4 loose bytes, 10", 36, |l| l.end(true, 4, 10)),
+    at_feed("end over 4 loose bytes, 10", 4, |l| l.end(true, 4, 10)),
     at_feed("end over 5 loose bytes, 10", 32, |l| l.end(true, 5, 10)),
     at_feed("end over 1 loose byte, 11", 31, |l| l.end(true, 1, 11)),
     at_feed("end over 2 loose bytes, 11", 29, |l| l.end(true, 2, 11)),
     at_feed("end over 3 loose bytes, 11", 33, |l| l.end(true, 3, 11)),
     at_feed("end over 4 loose bytes, 11", 26, |l| l.end(true, 4, 11)),
-    at_feed("end over 5 loose bytes, 11", 30, |l| l.end(true, 5, 11)),
+    at_feed("end over 5 loose bytes, 11", 6, |l| l.end(true, 5, 11)),
     at_feed("end over loose bytes, the number at the top", 36, |l| {
         (1..6).any(|kept| l.end(true, kept, l.answer)) && feeds::number(l.feed) == u64::MAX
     }),
@@ -1527,11 +1829,15 @@ pub const SIGHTS: &[Sight] = &[
     at_balance("class 64 in a piece", 180, |l| l.weighs(|t| t.balances[64] != 0)),
     at_balance("class 65 to 127 in a piece", 220, |l| l.weighs(|t| t.balances[65..128].iter().any(|&b| b != 0))),
     at_balance("class 128 to 254 in a piece", 220, |l| l.weighs(|t| t.balances[128..255].iter().any(|&b| b != 0))),
+    at_balance("class of 64 or more in a piece", 20, |l| l.weighs(|t| t.over || t.classes[64..].iter().any(|&records| records > 0))),
     at_balance("class 255 in a piece", 170, |l| l.weighs(|t| t.balances[255] != 0)),
     at_balance("kind 2 in a piece", 470, |l| l.weighs(|t| t.events[2] > 0)),
     at_balance("kind 3 in a piece", 470, |l| l.weighs(|t| t.events[3] > 0)),
     at_balance("kind 4 to 8 in a piece", 470, |l| l.weighs(|t| t.events[4..9].iter().any(|&events| events > 0))),
     at_balance("kind 9 in a piece", 400, |l| l.weighs(|t| t.events[9] > 0)),
+    at_balance("kind 10 in a piece", 210, |l| l.weighs(|t| t.events[10] > 0)),
+    at_balance("kind 11 in a piece", 190, |l| l.weighs(|t| t.events[11] > 0)),
+    at_balance("kind 12 in a piece", 200, |l| l.weighs(|t| t.events[12] > 0)),
     at_balance("first record of a piece that counts", 850, |l| l.weighs(|t| t.first && t.records > 1)),
     at_balance("last record of a piece that counts", 920, |l| l.weighs(|t| t.last && t.records > 1)),
     // What is malformed, and counts for nothing.
@@ -1543,8 +1849,9 @@ pub const SIGHTS: &[Sight] = &[
     at_balance("malformed by a mode over 6 alone", 140, |l| l.only_by(5)),
     at_balance("malformed by a release's mode 6 alone", 140, |l| l.only_by(6)),
     at_balance("malformed by a release's mode over 6 alone", 130, |l| l.only_by(7)),
-    at_balance("malformed by kind 10 alone", 150, |l| l.only_by(8)),
-    at_balance("malformed by a kind over 10 alone", 190, |l| l.only_by(9)),
+    at_balance("malformed by kind 13 alone", 93, |l| l.only_by(8)),
+    at_balance("malformed by a kind over 13 alone", 120, |l| l.only_by(9)),
+    at_balance("malformed by the mode of a crosslock's record alone", 97, |l| l.only_by(12)),
     at_balance("malformed by an event's class alone", 170, |l| l.only_by(10)),
     at_balance("malformed by an event's mode alone", 150, |l| l.only_by(11)),
     at_balance("record that counts right behind a malformed one", 270, |l| l.weighs(|t| t.right_behind)),
@@ -1578,8 +1885,31 @@ pub const SIGHTS: &[Sight] = &[
     at_balance("balances of records refused with 6", 100, |l| l.desk_said(6)),
     at_balance("balances of records refused with 7", 24, |l| l.desk_said(7)),
     at_balance("balances of records refused with 8", 34, |l| l.desk_said(8)),
+    at_balance("balances of records refused with 15", 56, |l| l.desk_said(15)),
     at_balance("balances of records with a fault", 49, |l| l.desk_said(1)),
     at_balance("balances of records behind a fault", 17, |l| l.desk_said(10)),
+    // Crosslocks on benches that are joined.
+    at_join("12 for other crosslocks alone", 50, |l| {
+        l.answer == 12 && l.with_room().is_some() && l.joins(|one, two| one[0][0] == two[0][0])
+    }),
+    at_join("12 for class 8 or more a crosslock of one alone", 3, |l| {
+        l.answer == 12 && l.with_room().is_some() && l.joins(|one, two| {
+            one[0][0] == two[0][0] && crosslocks::declared(one[0]) as u8 == crosslocks::declared(two[0]) as u8
+        })
+    }),
+    at_join("12 for other crosslocks, a bench closed", 3, |l| {
+        l.answer == 12 && l.with_room().is_some_and(|closed| closed != [false; 2]) && l.joins(|one, two| one[0][0] == two[0][0])
+    }),
+    at_join("join with the same crosslocks", 220, |l| l.joins_desk(0, |desk| crosslocks::declared(desk) != 0)),
+    at_join("join with a crosslock in progress on the first bench", 110, |l| l.joins_desk(0, |desk| crosslocks::in_progress(desk) != 0)),
+    at_join("join with a crosslock in progress on the second bench", 96, |l| l.joins_desk(1, |desk| crosslocks::in_progress(desk) != 0)),
+    at_join("join with some kept on the first bench", 160, |l| l.joins_desk(0, |desk| crosslocks::kept(desk) != 0)),
+    at_join("join with some kept on the second bench", 140, |l| l.joins_desk(1, |desk| crosslocks::kept(desk) != 0)),
+    at_join("join with a since number on the first bench", 180, |l| l.joins_desk(0, |desk| (0..64).any(|class| crosslocks::since(desk, class) != 0))),
+    at_join("join with a since number on the second bench", 160, |l| l.joins_desk(1, |desk| (0..64).any(|class| crosslocks::since(desk, class) != 0))),
+    at_join("join with 256 kept on a bench", 61, |l| {
+        l.joins_desk(0, |desk| crosslocks::kept(desk) == 256) || l.joins_desk(1, |desk| crosslocks::kept(desk) == 256)
+    }),
     // Joins refused: for a bench.
     at_join("join with both benches unfit", 100, |l| l.answer == 11 && l.fit_benches() == [false; 2]),
     at_join("join with the first bench unfit alone", 320, |l| l.one_unfit(0, |_| true)),
@@ -1598,7 +1928,7 @@ pub const SIGHTS: &[Sight] = &[
     at_join("join with a slip a byte short", 48, |l| l.short_alone(3, |length, _, size| length + 1 == size)),
     at_join("join into a second sheet of K x K bytes", 24, |l| l.short_alone(2, |length, _, size| 4 * length == size)),
     at_join("join with a slip of 1 + 3K bytes", 36, |l| l.short_alone(3, |length, _, size| length == 1 + 3 * (size - 1) / 7)),
-    at_join("join into a sheet for the smaller K", 45, |l| l.short_alone(1, |length, small, _| length >= small)),
+    at_join("join into a sheet for the smaller K", 8, |l| l.short_alone(1, |length, small, _| length >= small)),
     at_join("join into a second sheet for the smaller K", 46, |l| l.short_alone(2, |length, small, _| length >= small)),
     at_join("join with a slip for the smaller K", 64, |l| l.short_alone(3, |length, small, _| length >= small)),
     at_join("join with a short slip, a cycle there", 25, |l| {

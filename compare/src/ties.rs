@@ -517,7 +517,7 @@ pub fn closing(rng: &mut Rng) -> (Vec<Rec>, usize) {
 /// Such a log by steps.
 pub fn closing_log(rng: &mut Rng) -> Case {
     let (log, k) = closing(rng);
-    let mut calls = vec![Call::Open(k as u64)];
+    let mut calls = vec![Call::Open(k as u64, 0)];
     calls.extend(log.into_iter().map(Call::Step));
     case(any_buffers(rng, k), calls)
 }

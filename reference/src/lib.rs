@@ -3,9 +3,10 @@
 //! Written from the documents alone (01, "What will be built, and the rules", and
 //! of 02 "A try never waits", "Logs arrive in pieces", "Show the shortest circle",
 //! "Clash of one class by table", "Where was this arrow first seen?", "Balance of a piece",
-//! "Deeper nesting", "Strict release" and "Two benches, one drawing", with the feed's layout
-//! and fit test as they were handed over), to be compared byte for byte with the proved
-//! library. Sentences in quotation marks are the documents'.
+//! "Deeper nesting", "Strict release", "Two benches, one drawing" and "Crosslocks", with the
+//! layouts and fit tests of the feed, of the desk's last bytes and of the history as they were
+//! handed over), to be compared byte for byte with the proved library. Sentences in quotation
+//! marks are the documents'.
 //!
 //! How closed strong paths are decided: a path is a walk over *arrivals*, an
 //! arrival being a class together with the second letter (N or R) of the arrow
@@ -24,8 +25,13 @@
 //! slip; [`first_seen`] works them out from the list of records alone, with books of its
 //! own, and neither reads the other. For a joined desk, [`Books::joined`] does the same
 //! beside [`join`].
+//!
+//! The crosslocks of request j are unpacked from desk and history into plain values
+//! ([`Crosslocks`]), changed there and packed again. [`Books`] keeps them another way: with
+//! each crosslock in progress the takes since then, each with the number of its visit.
 #![forbid(unsafe_code)]
 
+use std::collections::{BTreeMap, BTreeSet};
 use std::ffi::{OsStr, OsString};
 use std::fs::File;
 use std::io::{BufReader, ErrorKind, Read, Write};
@@ -63,13 +69,26 @@ pub const MARKS: usize = DEPTHS + FRAMES; // "bytes 34-97 marks by class"
 pub const HOLDS: usize = MARKS + MAX_K; // from 98 on; 02 g: "The holds take 1,152 bytes"
 pub const ORIGINS: usize = HOLDS + PLACES; // from 1,250 on, "one bit per hold place in order"; 02 g: "and the origin bits 144"
 pub const COUNT: usize = ORIGINS + PLACES.div_ceil(8); // from 1,394 on, "a four-byte count of accepted records after its other bytes"
-pub const DESK: usize = COUNT + WORD; // 02 g: "so the desk is 1,398 bytes"
+pub const DECLARED: usize = COUNT + WORD; // from 1,398 on, the declared word: bit c for class c
+pub const PROGRESS: usize = DECLARED + 8; // from 1,406 on, the progress word, alike
+pub const KEPT_COUNT: usize = PROGRESS + 8; // from 1,414 on, how many entries of the history are taken
+pub const SINCE: usize = KEPT_COUNT + WORD; // from 1,418 on, for each class what the kept count was at its last take
+pub const DESK: usize = SINCE + WORD * MAX_K; // 1,674 bytes
+
+pub const MOST_IN_PROGRESS: usize = 16; // 02 j: "a list of up to 16 in progress, each class once"
+pub const MOST_KEPT: usize = 256; // 02 j: "kept in a lent history of 256"
+const KEPT_ENTRY: usize = 2; // a place byte, and class + 64 x mode
+pub const HISTORY: usize = MOST_KEPT * KEPT_ENTRY; // 512 bytes
 
 // "Kinds: 0 take, 1 release, .. 7 exit soft, .. 9 exit hard."
 const TAKE: u8 = 0;
 const RELEASE: u8 = 1;
 const EXIT_SOFT: u8 = 7;
 const EXIT_HARD: u8 = 9;
+// "Three new kinds with mode 0, 10 to 12: take, commit, release of a crosslock."
+const TAKE_CROSSLOCK: u8 = 10;
+const COMMIT: u8 = 11;
+const RELEASE_CROSSLOCK: u8 = 12;
 
 // "Modes of a take: 0 exclusive, 1 non-recursive read, 2 recursive read."
 const EXCLUSIVE: u8 = 0;
@@ -94,28 +113,50 @@ fn ends_with_r(kind: u8) -> bool {
 
 // ------------------------------------------------------------------ opening
 
-/// Opening writes K, zero in the other 1,397 desk bytes, in the sheet's K x K bytes and in
-/// the second sheet's 4 x K x K bytes. Answers 0, or 2: K not 1-64, desk under 1,398, sheet
-/// under K x K, or second sheet under 4 x K x K, "nothing changed".
-pub fn open(k: u64, desk: &mut [u8], sheet: &mut [u8], seen: &mut [u8]) -> u8 {
+/// Opening writes K and the declared word, zero in the other desk bytes up to 1,673, in the
+/// sheet's K x K bytes, the second sheet's 4 x K x K bytes and the history's 512. Answers 0,
+/// or 2: K not 1-64, "a declared class of K or more", desk under 1,674, sheet under K x K,
+/// second sheet under 4 x K x K, or history under 512, "nothing changed".
+pub fn open(
+    k: u64,
+    declared: u64,
+    desk: &mut [u8],
+    sheet: &mut [u8],
+    seen: &mut [u8],
+    history: &mut [u8],
+) -> u8 {
     if k < 1 || k > MAX_K as u64 {
         return 2;
     }
-    let (size, seen_size) = (sheet_len(k as usize), seen_len(k as usize));
-    if desk.len() < DESK || sheet.len() < size || seen.len() < seen_size {
+    if classes_of(declared).iter().any(|&c| u64::from(c) >= k) {
         return 2;
+    }
+    if history.len() < HISTORY || !fresh(k as usize, declared, desk, sheet, seen) {
+        return 2;
+    }
+    history[..HISTORY].fill(0);
+    0
+}
+
+/// A desk and sheets with nothing on them but K and the declared word. False, and nothing
+/// changed, if one of them is too short.
+fn fresh(k: usize, declared: u64, desk: &mut [u8], sheet: &mut [u8], seen: &mut [u8]) -> bool {
+    let (size, seen_size) = (sheet_len(k), seen_len(k));
+    if desk.len() < DESK || sheet.len() < size || seen.len() < seen_size {
+        return false;
     }
     desk[..DESK].fill(0);
     desk[0] = k as u8;
+    desk[DECLARED..PROGRESS].copy_from_slice(&declared.to_le_bytes());
     sheet[..size].fill(0);
     seen[..seen_size].fill(0);
-    0
+    true
 }
 
 // -------------------------------------------------------------------- unfit
 
 /// Every name that [`unfit`] can give, in the order in which it looks.
-pub const CLAUSES: [&str; 19] = [
+pub const CLAUSES: [&str; 23] = [
     "desk too short",
     "K not 1-64",
     "sheet too short",
@@ -135,6 +176,19 @@ pub const CLAUSES: [&str; 19] = [
     "second sheet too short",
     "kinds but number 0",
     "number but no kinds",
+    "declared class K or more",
+    "in progress but not declared",
+    "more than 16 in progress",
+    "more than 256 kept",
+];
+
+/// Every name that [`unfit_history`] can give, in the order in which it looks.
+pub const HISTORY_CLAUSES: [&str; 5] = [
+    "history too short",
+    "kept place over 24",
+    "struck out but not 0",
+    "kept class K or more",
+    "kept mode 3",
 ];
 
 /// The first clause of "Unfit" that is violated, in the order of [`CLAUSES`].
@@ -236,6 +290,48 @@ pub fn unfit(desk: &[u8], sheet: &[u8], seen: &[u8], slip: Option<&[u8]>) -> Opt
     if stray {
         return Some(CLAUSES[18]);
     }
+    // The list in progress. A since number may be any, and the kept count may be more than 0
+    // though nothing is in progress.
+    let declared = classes_of(long_word_at(desk, DECLARED));
+    let in_progress = classes_of(long_word_at(desk, PROGRESS));
+    if declared.iter().any(|&c| usize::from(c) >= k) {
+        return Some(CLAUSES[19]);
+    }
+    if !in_progress.is_subset(&declared) {
+        return Some(CLAUSES[20]);
+    }
+    if in_progress.len() > MOST_IN_PROGRESS {
+        return Some(CLAUSES[21]);
+    }
+    if word_at(desk, KEPT_COUNT) > MOST_KEPT as u32 {
+        return Some(CLAUSES[22]);
+    }
+    None
+}
+
+/// The first violated clause of the history's fit test beside a fit desk, in the order of
+/// [`HISTORY_CLAUSES`]: of its length, and of the entries below the kept count. Only step and
+/// feed have a history.
+pub fn unfit_history(desk: &[u8], history: &[u8]) -> Option<&'static str> {
+    if history.len() < HISTORY {
+        return Some(HISTORY_CLAUSES[0]);
+    }
+    let k = usize::from(desk[0]);
+    let kept = word_at(desk, KEPT_COUNT) as usize;
+    let entries = || history.chunks_exact(KEPT_ENTRY).take(kept);
+    let standing = || entries().filter(|entry| entry[0] != 0);
+    if standing().any(|entry| usize::from(entry[0]) > FRAMES) {
+        return Some(HISTORY_CLAUSES[1]);
+    }
+    if entries().any(|entry| entry[0] == 0 && entry[1] != 0) {
+        return Some(HISTORY_CLAUSES[2]);
+    }
+    if standing().any(|entry| usize::from(entry[1] % 64) >= k) {
+        return Some(HISTORY_CLAUSES[3]);
+    }
+    if standing().any(|entry| entry[1] / 64 == 3) {
+        return Some(HISTORY_CLAUSES[4]);
+    }
     None
 }
 
@@ -248,6 +344,114 @@ fn word_at(bytes: &[u8], at: usize) -> u32 {
 
 fn set_word(bytes: &mut [u8], at: usize, number: u32) {
     bytes[at..at + WORD].copy_from_slice(&number.to_le_bytes());
+}
+
+/// The 64-bit word in the eight bytes from `at` on, "low byte first".
+fn long_word_at(bytes: &[u8], at: usize) -> u64 {
+    let (low, high) = (word_at(bytes, at), word_at(bytes, at + WORD));
+    u64::from(high) << 32 | u64::from(low)
+}
+
+/// The classes whose bits are 1 in a 64-bit word.
+fn classes_of(word: u64) -> BTreeSet<u8> {
+    (0..64).filter(|&c| word >> c & 1 == 1).collect()
+}
+
+// ---------------------------------------------------------------- crosslocks
+
+/// A take that is kept: where, of which class, and its mode (0-2; tries are never kept).
+#[derive(Clone, Copy)]
+struct Kept {
+    frame: usize,
+    class: u8,
+    mode: u8,
+}
+
+/// What desk and history hold of crosslocks, in plain values.
+struct Crosslocks {
+    declared: BTreeSet<u8>,
+    /// Each crosslock in progress, and how many takes were kept when it was taken.
+    in_progress: BTreeMap<u8, usize>,
+    /// The kept takes in their order, None where one is struck out: its visit has ended, and
+    /// "no room in it is free again until none is" in progress.
+    history: Vec<Option<Kept>>,
+}
+
+impl Crosslocks {
+    /// From a fit desk and a fit history.
+    fn unpack(desk: &[u8], history: &[u8]) -> Crosslocks {
+        let since = |class: u8| word_at(desk, SINCE + WORD * usize::from(class)) as usize;
+        let kept = word_at(desk, KEPT_COUNT) as usize;
+        Crosslocks {
+            declared: classes_of(long_word_at(desk, DECLARED)),
+            in_progress: classes_of(long_word_at(desk, PROGRESS))
+                .into_iter()
+                .map(|class| (class, since(class)))
+                .collect(),
+            history: history
+                .chunks_exact(KEPT_ENTRY)
+                .take(kept)
+                .map(|entry| {
+                    Some(Kept {
+                        frame: usize::from(entry[0]).checked_sub(1)?,
+                        class: entry[1] % 64,
+                        mode: entry[1] / 64,
+                    })
+                })
+                .collect(),
+        }
+    }
+
+    /// Onto the same desk and history. The since number of a class that isn't in progress
+    /// stays, and so do the bytes of the history past what is kept.
+    fn pack(&self, desk: &mut [u8], history: &mut [u8]) {
+        let word: u64 = self.in_progress.keys().map(|&class| 1 << class).sum();
+        desk[PROGRESS..KEPT_COUNT].copy_from_slice(&word.to_le_bytes());
+        set_word(desk, KEPT_COUNT, self.history.len() as u32);
+        for (&class, &since) in &self.in_progress {
+            set_word(desk, SINCE + WORD * usize::from(class), since as u32);
+        }
+        for (entry, kept) in history.chunks_exact_mut(KEPT_ENTRY).zip(&self.history) {
+            let bytes = match kept {
+                Some(kept) => [1 + kept.frame as u8, kept.class + 64 * kept.mode],
+                None => [0, 0],
+            };
+            entry.copy_from_slice(&bytes);
+        }
+    }
+
+    /// Whether a record of this kind and mode is a "take to be kept": "Ordinary takes other
+    /// than tries are kept in a lent history of 256 only while a crosslock is in progress".
+    fn keeps(&self, kind: u8, mode: u8) -> bool {
+        kind == TAKE && mode < TRY && !self.in_progress.is_empty()
+    }
+
+    /// The takes accepted in a frame since a crosslock in progress was taken. "Takes of an
+    /// earlier handler visit do not count.": they are struck out.
+    fn since(&self, crosslock: u8, frame: usize) -> Vec<Kept> {
+        let Some(&since) = self.in_progress.get(&crosslock) else {
+            return Vec::new();
+        };
+        let later = self.history.iter().skip(since).flatten();
+        later.filter(|kept| kept.frame == frame).copied().collect()
+    }
+
+    /// A handler visit ends, and what was taken in it is struck out.
+    fn end_visit(&mut self, frame: usize) {
+        for entry in &mut self.history {
+            if entry.is_some_and(|kept| kept.frame == frame) {
+                *entry = None;
+            }
+        }
+    }
+
+    /// "no room in it is free again until none is" in progress: then all of it is.
+    fn release(&mut self, crosslock: u8) {
+        self.in_progress.remove(&crosslock);
+        if self.in_progress.is_empty() {
+            self.history.clear();
+        }
+    }
 }
 
 // ------------------------------------------------------------------- origins
@@ -313,17 +517,23 @@ struct Record {
     mode: u8,
 }
 
-/// None for answer 3: "not six bytes, wrong mark, core over 7, kind over 9, mode
-/// over" 5, "or a byte that should be 0".
+/// None for answer 3: "not six bytes, wrong mark, core over 7, kind over" 12, "mode
+/// over" 5, "or a byte that should be 0". 02 j: "Refusal 3 begins at kind 13".
 fn read_record(bytes: &[u8]) -> Option<Record> {
     let &[0x4C, 0x4B, core, kind, class, mode] = bytes else {
         return None;
     };
-    if core > 7 || kind > 9 || mode > LAST_MODE {
+    if core > 7 || kind > RELEASE_CROSSLOCK || mode > LAST_MODE {
         return None;
     }
-    // "class and mode are 0 for kinds 2 to 9"; 02 h: "Document 01's mode 0 for a release goes"
-    if kind >= 2 && (class != 0 || mode != 0) {
+    // "class and mode are 0 for kinds 2 to 9"; 02 h: "Document 01's mode 0 for a release goes";
+    // 02 j: "Three new kinds with mode 0, 10 to 12"
+    let (names_a_class, has_a_mode) = match kind {
+        TAKE | RELEASE => (true, true),
+        TAKE_CROSSLOCK | COMMIT | RELEASE_CROSSLOCK => (true, false),
+        _ => (false, false),
+    };
+    if (class != 0 && !names_a_class) || (mode != 0 && !has_a_mode) {
         return None;
     }
     Some(Record {
@@ -334,16 +544,18 @@ fn read_record(bytes: &[u8]) -> Option<Record> {
     })
 }
 
-/// Judges one record: answers 0, 1, 3-11.
+/// Judges one record: answers 0, 1, 3-11, 15-19.
 pub fn step(
     desk: &mut [u8],
     sheet: &mut [u8],
     seen: &mut [u8],
+    history: &mut [u8],
     slip: &mut [u8],
     record: &[u8],
 ) -> u8 {
-    // "Order: 11, 10, 3, 4, 6, 7, 5, 8.", and "New refusal 9, last in order".
-    if unfit(desk, sheet, seen, Some(slip)).is_some() {
+    // "Order: 11, 10, 3, 4, 6, 7, 5, 8.", and "New refusal 9, last in order". 02 j: "New
+    // refusals: 15 .., right after 4; then, before 9 and in this order", 16, 17, 18, 19.
+    if unfit(desk, sheet, seen, Some(slip)).is_some() || unfit_history(desk, history).is_some() {
         return 11;
     }
     if desk[1] == 1 {
@@ -358,19 +570,29 @@ pub fn step(
     else {
         return 3;
     };
-    // 4: "take or release, class K or more"
+    // 4: "take or release, class K or more"; 02 j: "4 covers kinds 10 to 12". With the other
+    // kinds the class is 0.
     let k = usize::from(desk[0]);
-    if (kind == TAKE || kind == RELEASE) && usize::from(class) >= k {
+    if usize::from(class) >= k {
         return 4;
     }
-    // 6: "x in the table"
+    // 15: "wrong sort of class for the kind"
+    let mut crosslocks = Crosslocks::unpack(desk, history);
+    let of_a_lock = [TAKE, RELEASE].contains(&kind);
+    let of_a_crosslock = [TAKE_CROSSLOCK, COMMIT, RELEASE_CROSSLOCK].contains(&kind);
+    let is_crosslock = crosslocks.declared.contains(&class);
+    if (of_a_lock && is_crosslock) || (of_a_crosslock && !is_crosslock) {
+        return 15;
+    }
+    // 6: "x in the table", which has no column for those.
     let state = desk[STATES + usize::from(core)];
-    let state_after = match kind {
-        TAKE | RELEASE => state,
-        _ => match next_state(state, kind) {
+    let state_after = if of_a_lock || of_a_crosslock {
+        state
+    } else {
+        match next_state(state, kind) {
             Some(next) => next,
             None => return 6,
-        },
+        }
     };
     // 7: "k7 or k9 allowed, but holds stand in the frame"
     let here = frame(core, state);
@@ -392,13 +614,44 @@ pub fn step(
     if kind == TAKE && depth == DEEPEST {
         return 8;
     }
+    // 16: "already in progress"
+    let in_progress = crosslocks.in_progress.contains_key(&class);
+    if kind == TAKE_CROSSLOCK && in_progress {
+        return 16;
+    }
+    // 17: "not in progress (commit or release)"
+    if (kind == COMMIT || kind == RELEASE_CROSSLOCK) && !in_progress {
+        return 17;
+    }
+    // 18: "list full"
+    if kind == TAKE_CROSSLOCK && crosslocks.in_progress.len() == MOST_IN_PROGRESS {
+        return 18;
+    }
+    // 19: "history full at a take to be kept"
+    let to_be_kept = crosslocks.keeps(kind, mode);
+    if to_be_kept && crosslocks.history.len() == MOST_KEPT {
+        return 19;
+    }
     // 9: "the count stands at 4,294,967,295"; else the record's own number is one more.
     let Some(own_number) = word_at(desk, COUNT).checked_add(1) else {
         return 9;
     };
 
-    // Accepted: from here on desk and sheets change.
+    // Accepted: from here on desk, sheets and history change.
     set_word(desk, COUNT, own_number);
+    let mut draw = |from: u8, kind: u8, to: u8| {
+        // "for each pair, the number of the accepted record that first drew a hold arrow
+        // there, 0 for none"
+        let pair = usize::from(from) * k + usize::from(to);
+        if sheet[pair] == 0 {
+            set_word(seen, WORD * pair, own_number);
+        }
+        sheet[pair] |= kind;
+    };
+    let older_holds: Vec<(u8, u8)> = desk[first..first + depth]
+        .iter()
+        .map(|hold| (hold % 64, hold / 64))
+        .collect();
     match (kind, newest) {
         (TAKE, _) => {
             // "Once held it counts as mode 0, 1 or 2"
@@ -406,32 +659,21 @@ pub fn step(
             // "A take draws one hold arrow to the new class from every hold in the
             // core's current frame, then adds the hold." A try "draws no arrow from the
             // older holds".
-            let older_holds = if by_try {
-                first..first
-            } else {
-                first..first + depth
-            };
-            for at in older_holds {
-                let (older, older_mode) = (usize::from(desk[at] % 64), desk[at] / 64);
-                // "First letter: E if the older hold is exclusive, S for either read.
-                // Second: R if the take is recursive read, else N"
-                let arrow = match (older_mode == EXCLUSIVE, mode == RECURSIVE) {
-                    (true, true) => ER,
-                    (true, false) => EN,
-                    (false, true) => SR,
-                    (false, false) => SN,
-                };
-                // "for each pair, the number of the accepted record that first drew a hold
-                // arrow there, 0 for none"
-                let pair = older * k + usize::from(class);
-                if sheet[pair] == 0 {
-                    set_word(seen, WORD * pair, own_number);
+            if !by_try {
+                for (older, older_mode) in older_holds {
+                    draw(older, hold_arrow(older_mode, mode), class);
                 }
-                sheet[pair] |= arrow;
             }
             desk[first + depth] = class + 64 * mode;
             set_origin(desk, first + depth, by_try);
             desk[DEPTHS + here] += 1;
+            if to_be_kept {
+                crosslocks.history.push(Some(Kept {
+                    frame: here,
+                    class,
+                    mode,
+                }));
+            }
         }
         (RELEASE, Some(at)) => {
             // "later holds move down one", "Unused hold bytes are zero."; the origin is
@@ -446,8 +688,33 @@ pub fn step(
             set_origin(desk, last, false);
             desk[DEPTHS + here] -= 1;
         }
-        _ => desk[STATES + usize::from(core)] = state_after,
+        (TAKE_CROSSLOCK, _) => {
+            // "Its take draws hold arrows, EN or SN by the hold's mode, from the current
+            // frame's holds (TC) and enters it in a list .. It is no hold and gets no marks."
+            for (older, older_mode) in older_holds {
+                draw(older, hold_arrow(older_mode, EXCLUSIVE), class);
+            }
+            let kept_so_far = crosslocks.history.len();
+            crosslocks.in_progress.insert(class, kept_so_far);
+        }
+        (COMMIT, _) => {
+            // "a hold arrow EN from the crosslock to each ordinary take accepted since then
+            // in the committing core's current frame (CT), ER where that take was a recursive
+            // read"; released meanwhile or not.
+            for kept in crosslocks.since(class, here) {
+                draw(class, hold_arrow(EXCLUSIVE, kept.mode), kept.class);
+            }
+        }
+        (RELEASE_CROSSLOCK, _) => crosslocks.release(class),
+        _ => {
+            desk[STATES + usize::from(core)] = state_after;
+            // A hard handler over a soft one doesn't end the soft one's visit.
+            if kind == EXIT_SOFT || kind == EXIT_HARD {
+                crosslocks.end_visit(here);
+            }
+        }
     }
+    crosslocks.pack(desk, history);
     mark(desk, core);
 
     let drawing = Arrivals::of(desk, sheet);
@@ -464,6 +731,18 @@ pub fn step(
         seen,
     );
     1
+}
+
+/// The kind of a hold arrow: "First letter: E if the older hold is exclusive, S for either
+/// read. Second: R if the take is recursive read, else N". As the older one or as the take, a
+/// crosslock is like an exclusive lock.
+fn hold_arrow(older_mode: u8, mode: u8) -> u8 {
+    match (older_mode == EXCLUSIVE, mode == RECURSIVE) {
+        (true, true) => ER,
+        (true, false) => EN,
+        (false, true) => SR,
+        (false, false) => SN,
+    }
 }
 
 /// "After each accepted record, every hold of that core's current frame is marked
@@ -935,16 +1214,41 @@ pub struct Books {
     numbers: Vec<u32>,
     accepted: u32,
     closed: bool,
+    /// Of each class, whether it is declared a crosslock.
+    declared: Vec<bool>,
+    /// The crosslocks in progress, in the order of their takes.
+    in_progress: Vec<InProgress>,
+    /// How many takes were kept since none was in progress.
+    kept: usize,
+    /// Of each frame, how many visits there have ended.
+    visits: [u64; FRAMES],
+}
+
+/// A crosslock in progress, and the takes kept since its own: frame, visit, class, and
+/// whether a recursive read.
+#[derive(Clone)]
+struct InProgress {
+    class: usize,
+    takes: Vec<(usize, u64, usize, bool)>,
 }
 
 impl Books {
-    /// None for K not 1-64.
+    /// With no crosslocks declared. None for K not 1-64.
     pub fn open(k: u64) -> Option<Books> {
-        if k < 1 || k > MAX_K as u64 {
+        Books::open_declared(k, 0)
+    }
+
+    /// None for K not 1-64, and for a declared class of K or more.
+    pub fn open_declared(k: u64, declared: u64) -> Option<Books> {
+        if k < 1 || k > MAX_K as u64 || (k < 64 && declared >> k != 0) {
             return None;
         }
         let k = k as usize;
         Some(Books {
+            declared: (0..k).map(|class| declared & (1 << class) != 0).collect(),
+            in_progress: Vec::new(),
+            kept: 0,
+            visits: [0; FRAMES],
             k,
             states: [0; CORES],
             holds: vec![Vec::new(); FRAMES],
@@ -983,12 +1287,20 @@ impl Books {
         let state = self.states[usize::from(core)];
         let here = frame(core, state);
         let newest = self.holds[here].iter().rposition(|hold| hold.0 == class);
+        let lock = self.declared.get(class) == Some(&false);
+        let crosslock = self.declared.get(class) == Some(&true);
+        let place = self.in_progress.iter().position(|it| it.class == class);
+        let keeps = kind == TAKE && mode < TRY && !self.in_progress.is_empty();
         let allowed = match kind {
-            TAKE => class < self.k && self.holds[here].len() < DEEPEST,
+            TAKE => lock && self.holds[here].len() < DEEPEST && !(keeps && self.kept == MOST_KEPT),
             RELEASE => {
                 let taken = (class, mode % TRY, mode >= TRY);
-                class < self.k && newest.is_some_and(|at| self.holds[here][at] == taken)
+                lock && newest.is_some_and(|at| self.holds[here][at] == taken)
             }
+            TAKE_CROSSLOCK => {
+                crosslock && place.is_none() && self.in_progress.len() < MOST_IN_PROGRESS
+            }
+            COMMIT | RELEASE_CROSSLOCK => crosslock && place.is_some(),
             EXIT_SOFT | EXIT_HARD => {
                 next_state(state, kind).is_some() && self.holds[here].is_empty()
             }
@@ -998,32 +1310,64 @@ impl Books {
             return false;
         }
         self.accepted += 1;
-        let mut drew = false;
-        match (kind, newest) {
-            (TAKE, _) => {
-                let by_try = mode >= TRY;
-                let waits = if by_try {
-                    &[][..]
-                } else {
-                    &self.holds[here][..]
-                };
-                for &(older, older_mode, _) in waits {
-                    let first = if older_mode == EXCLUSIVE { 'E' } else { 'S' };
-                    let second = if mode == RECURSIVE { 'R' } else { 'N' };
-                    let pair = older * self.k + class;
-                    if self.numbers[pair] == 0 {
-                        self.numbers[pair] = self.accepted;
-                    }
-                    drew |= note(&mut self.kinds[pair], (first, second));
-                }
-                self.holds[here].push((class, mode % TRY, by_try));
+        // The hold arrows: from, to and the two letters.
+        let mut new_arrows: Vec<(usize, usize, (char, char))> = Vec::new();
+        if (kind == TAKE && mode < TRY) || kind == TAKE_CROSSLOCK {
+            for &(older, older_mode, _) in &self.holds[here] {
+                let first = if older_mode == EXCLUSIVE { 'E' } else { 'S' };
+                let second = if mode == RECURSIVE { 'R' } else { 'N' };
+                new_arrows.push((older, class, (first, second)));
             }
-            (RELEASE, Some(at)) => {
+        }
+        if kind == COMMIT {
+            for it in self.in_progress.iter().filter(|it| it.class == class) {
+                for &(at, visit, taken, recursive) in &it.takes {
+                    if (at, visit) == (here, self.visits[here]) {
+                        let second = if recursive { 'R' } else { 'N' };
+                        new_arrows.push((class, taken, ('E', second)));
+                    }
+                }
+            }
+        }
+        let mut drew = false;
+        for (from, to, letters) in new_arrows {
+            let pair = from * self.k + to;
+            if self.numbers[pair] == 0 {
+                self.numbers[pair] = self.accepted;
+            }
+            drew |= note(&mut self.kinds[pair], letters);
+        }
+        match (kind, newest, place) {
+            (TAKE, _, _) => {
+                self.holds[here].push((class, mode % TRY, mode >= TRY));
+                if keeps {
+                    self.kept += 1;
+                    let this = (here, self.visits[here], class, mode == RECURSIVE);
+                    for it in &mut self.in_progress {
+                        it.takes.push(this);
+                    }
+                }
+            }
+            (RELEASE, Some(at), _) => {
                 self.holds[here].remove(at);
             }
-            (_, _) => {
+            (TAKE_CROSSLOCK, _, _) => self.in_progress.push(InProgress {
+                class,
+                takes: Vec::new(),
+            }),
+            (RELEASE_CROSSLOCK, _, Some(place)) => {
+                self.in_progress.remove(place);
+                if self.in_progress.is_empty() {
+                    self.kept = 0;
+                }
+            }
+            (COMMIT, _, _) => {}
+            (_, _, _) => {
                 if let Some(next) = next_state(state, kind) {
                     self.states[usize::from(core)] = next;
+                }
+                if [EXIT_SOFT, EXIT_HARD].contains(&kind) {
+                    self.visits[here] += 1;
                 }
             }
         }
@@ -1109,7 +1453,17 @@ fn note<T: PartialEq>(list: &mut Vec<T>, what: T) -> bool {
 /// first drew a hold arrow there, counted among the accepted from 1, 0 for none. Worked
 /// out from K and the list alone, refused records standing in it. None for K not 1-64.
 pub fn first_seen<R: AsRef<[u8]>>(k: u64, records: &[R]) -> Option<Vec<u32>> {
-    let mut books = Books::open(k)?;
+    first_seen_declared(k, 0, records)
+}
+
+/// The same with these classes declared crosslocks. None also for a declared class of K or
+/// more.
+pub fn first_seen_declared<R: AsRef<[u8]>>(
+    k: u64,
+    declared: u64,
+    records: &[R],
+) -> Option<Vec<u32>> {
+    let mut books = Books::open_declared(k, declared)?;
     for record in records {
         books.enter(record.as_ref());
     }
@@ -1150,8 +1504,9 @@ pub fn join(
     if (0..lengths.len()).any(|i| lengths[i] < sizes[i]) {
         return 11;
     }
-    // "then 12 for different K"
-    if k1 != k2 {
+    // "then 12 for different K"; 02 j: "The joiner gives 12 for different declarations too"
+    let declared = [desk1, desk2].map(|desk| long_word_at(desk, DECLARED));
+    if k1 != k2 || declared[0] != declared[1] {
         return 12;
     }
     // "then 13 for a closed desk"
@@ -1160,8 +1515,9 @@ pub fn join(
     }
 
     // "the cores are fresh, the record count 0": as opening leaves a desk, with no hold and
-    // no origin, and so it stays where a circle comes.
-    open(k1 as u64, desk, sheet, seen);
+    // no origin, and so it stays where a circle comes. 02 j: "and starts with none in
+    // progress", whatever is on the two benches; their histories aren't asked for.
+    fresh(k1, declared[0], desk, sheet, seen);
     // "The joined sheet has exactly the kinds of either, the marks likewise"
     for class in 0..k1 {
         desk[MARKS + class] = desk1[MARKS + class] | desk2[MARKS + class];
@@ -1199,7 +1555,9 @@ impl Books {
         if unfit(desk, sheet, seen, None).is_some() {
             return None;
         }
-        let mut books = Books::open(u64::from(desk[0]))?;
+        let declared = (0..64).filter(|c| desk[DECLARED + c / 8] >> (c % 8) & 1 == 1);
+        let word = declared.fold(0, |word, c| word | 1 << c);
+        let mut books = Books::open_declared(u64::from(desk[0]), word)?;
         for class in 0..books.k {
             let has = |bit: u8| desk[MARKS + class] & bit != 0;
             for (bit, level, letter) in [(4, 1, 'E'), (8, 1, 'S'), (64, 2, 'E'), (128, 2, 'S')] {
@@ -1234,10 +1592,11 @@ impl Books {
 
     /// These books and the second's in one. None where [`join`] refuses with 12 or 13.
     pub fn joined(&self, second: &Books) -> Option<Books> {
-        if self.k != second.k || self.closed || second.closed {
+        if self.declared != second.declared || self.closed || second.closed {
             return None;
         }
         let mut books = Books::open(self.k as u64)?;
+        books.declared.clone_from(&self.declared);
         for either in [self, second] {
             for pair in 0..self.k * self.k {
                 for &arrow in &either.kinds[pair] {
@@ -1296,17 +1655,18 @@ pub fn ask(
 // ----------------------------------------------------------------- the feed
 
 const HEADER: usize = 4; // "A log is the header 4C 48 01 K and then records."
+const LONG_HEADER: usize = HEADER + 8; // 02 j: "a header 4C 48 02 K is followed by it, low byte first"
 const RECORD: usize = 6; // "Six bytes"
-pub const LOOSE: usize = RECORD - 1; // "keeps at most five loose bytes"
+pub const LOOSE: usize = LONG_HEADER - 1; // 02 j: "the feed may then keep eleven bytes"
 
 // Where things lie in the feed. The standing answer is 0 or the first answer but 0;
 // the number is that of the records judged so far, or, with an answer but 0, of the
 // record that got it, low byte first.
 const STANDING: usize = 0;
 const OPENED: usize = 1; // 0 until the header was complete and the desk opened, then 1
-const KEPT: usize = 2; // how many loose bytes are kept
-const KEEP: usize = 3; // the loose bytes, in order, unused ones 0
-const NUMBER: usize = KEEP + LOOSE;
+const LOOSE_COUNT: usize = 2; // how many loose bytes there are
+const LOOSE_AT: usize = 3; // the loose bytes, in order, unused ones 0
+const NUMBER: usize = LOOSE_AT + LOOSE;
 pub const FEED: usize = NUMBER + 8;
 
 /// Every name that [`unfit_feed`] can give, in the order in which it looks.
@@ -1331,15 +1691,19 @@ pub fn unfit_feed(feed: &[u8]) -> Option<&'static str> {
         return Some(FEED_CLAUSES[1]);
     }
     let opened = feed[OPENED] == 1;
-    let kept = usize::from(feed[KEPT]);
-    if kept >= whole_item(opened) {
+    let count = usize::from(feed[LOOSE_COUNT]);
+    if count > LOOSE {
         return Some(FEED_CLAUSES[2]);
     }
-    if feed[KEEP + kept..NUMBER].iter().any(|&b| b != 0) {
+    let (loose, unused) = feed[LOOSE_AT..NUMBER].split_at(count);
+    if count >= whole_item(opened, loose) {
+        return Some(FEED_CLAUSES[2]);
+    }
+    if unused.iter().any(|&b| b != 0) {
         return Some(FEED_CLAUSES[3]);
     }
     let answer = feed[STANDING];
-    if answer != 0 && kept != 0 {
+    if answer != 0 && count != 0 {
         return Some(FEED_CLAUSES[4]);
     }
     let at_0 = feed[NUMBER..FEED].iter().all(|&b| b == 0);
@@ -1349,7 +1713,7 @@ pub fn unfit_feed(feed: &[u8]) -> Option<&'static str> {
     if !opened && !at_0 {
         return Some(FEED_CLAUSES[6]);
     }
-    if opened && ![0, 1, 3, 4, 5, 6, 7, 8, 9, 10, 11].contains(&answer) {
+    if opened && !matches!(answer, 0 | 1 | 3..=11 | 15..=19) {
         return Some(FEED_CLAUSES[7]);
     }
     if opened && answer != 0 && at_0 {
@@ -1358,13 +1722,29 @@ pub fn unfit_feed(feed: &[u8]) -> Option<&'static str> {
     None
 }
 
-/// How many bytes make the next item whole: the header, or after it a record.
-fn whole_item(opened: bool) -> usize {
-    if opened {
-        RECORD
-    } else {
-        HEADER
+/// How many bytes make the next item whole, by its first bytes: the header, or after it a
+/// record. A header's third byte alone decides how long it is.
+fn whole_item(opened: bool, first_bytes: &[u8]) -> usize {
+    match (opened, first_bytes) {
+        (true, _) => RECORD,
+        (false, [_, _, 0x02, ..]) => LONG_HEADER,
+        (false, _) => HEADER,
     }
+}
+
+/// K and the declared word of a whole header. None for a bad or short one.
+fn read_header(header: &[u8]) -> Option<(u64, u64)> {
+    let (k, declared) = match header {
+        [0x4C, 0x48, 0x01, k] => (k, &[][..]),
+        [0x4C, 0x48, 0x02, k, declared @ ..] if declared.len() == 8 => (k, declared),
+        _ => return None,
+    };
+    // "low byte first"
+    let word = declared
+        .iter()
+        .rev()
+        .fold(0, |word, &byte| word << 8 | u64::from(byte));
+    Some((u64::from(*k), word))
 }
 
 /// What a feed holds.
@@ -1384,7 +1764,7 @@ impl Feed {
         Some(Feed {
             answer: feed[STANDING],
             opened: feed[OPENED] == 1,
-            loose: feed[KEEP..KEEP + usize::from(feed[KEPT])].to_vec(),
+            loose: feed[LOOSE_AT..LOOSE_AT + usize::from(feed[LOOSE_COUNT])].to_vec(),
             number: feed[NUMBER..FEED]
                 .iter()
                 .rev()
@@ -1397,22 +1777,29 @@ impl Feed {
         feed[..FEED].fill(0);
         feed[STANDING] = self.answer;
         feed[OPENED] = u8::from(self.opened);
-        feed[KEPT] = self.loose.len() as u8;
-        feed[KEEP..KEEP + self.loose.len()].copy_from_slice(&self.loose);
+        feed[LOOSE_COUNT] = self.loose.len() as u8;
+        feed[LOOSE_AT..LOOSE_AT + self.loose.len()].copy_from_slice(&self.loose);
         feed[NUMBER..FEED].copy_from_slice(&self.number.to_le_bytes());
     }
 
     /// Judges the loose bytes, whole or short, as the header or after it as the next
     /// record. None are left.
-    fn judge(&mut self, desk: &mut [u8], sheet: &mut [u8], seen: &mut [u8], slip: &mut [u8]) {
+    fn judge(
+        &mut self,
+        desk: &mut [u8],
+        sheet: &mut [u8],
+        seen: &mut [u8],
+        history: &mut [u8],
+        slip: &mut [u8],
+    ) {
         if self.opened {
             // The number stays at 2^64 - 1 where it would pass it.
             self.number = self.number.saturating_add(1);
-            self.answer = step(desk, sheet, seen, slip, &self.loose);
+            self.answer = step(desk, sheet, seen, history, slip, &self.loose);
         } else {
-            self.answer = match self.loose[..] {
-                [0x4C, 0x48, 0x01, k] => open(u64::from(k), desk, sheet, seen),
-                _ => 2,
+            self.answer = match read_header(&self.loose) {
+                Some((k, declared)) => open(k, declared, desk, sheet, seen, history),
+                None => 2,
             };
             self.opened = self.answer == 0;
         }
@@ -1420,7 +1807,7 @@ impl Feed {
     }
 }
 
-/// A fresh feed, 16 zeros. Answers 0, or 2: feed under 16, nothing changed.
+/// A fresh feed, 22 zeros. Answers 0, or 2: feed under 22, nothing changed.
 pub fn feed_start(feed: &mut [u8]) -> u8 {
     if feed.len() < FEED {
         return 2;
@@ -1432,11 +1819,13 @@ pub fn feed_start(feed: &mut [u8]) -> u8 {
 /// "takes a log under 2 to the 64 bytes in pieces cut anywhere, empty ones too": one
 /// more piece, byte by byte. Answers the standing answer, with its number in `record`,
 /// or 11 at record 0: feed unfit, nothing changed.
+#[allow(clippy::too_many_arguments)]
 pub fn feed(
     feed: &mut [u8],
     desk: &mut [u8],
     sheet: &mut [u8],
     seen: &mut [u8],
+    history: &mut [u8],
     slip: &mut [u8],
     piece: &[u8],
     record: &mut u64,
@@ -1452,8 +1841,8 @@ pub fn feed(
         }
         // "Header and records are judged when complete."
         held.loose.push(byte);
-        if held.loose.len() == whole_item(held.opened) {
-            held.judge(desk, sheet, seen, slip);
+        if held.loose.len() == whole_item(held.opened, &held.loose) {
+            held.judge(desk, sheet, seen, history, slip);
         }
     }
     held.write(feed);
@@ -1470,6 +1859,7 @@ pub fn feed_end(
     desk: &mut [u8],
     sheet: &mut [u8],
     seen: &mut [u8],
+    history: &mut [u8],
     slip: &mut [u8],
     record: &mut u64,
 ) -> u8 {
@@ -1478,7 +1868,7 @@ pub fn feed_end(
         return 11;
     };
     if held.answer == 0 && (!held.opened || !held.loose.is_empty()) {
-        held.judge(desk, sheet, seen, slip);
+        held.judge(desk, sheet, seen, history, slip);
     }
     held.write(feed);
     *record = held.number;
@@ -1487,6 +1877,7 @@ pub fn feed_end(
 
 /// The first answer but 0 of a log in one piece and its record number, or 0 and how
 /// many records were judged. What is short at its end is looked at only if it has ended.
+/// With a history of its own; [`whole_log_kept`] is lent one.
 pub fn whole_log(
     log: &[u8],
     desk: &mut [u8],
@@ -1495,10 +1886,26 @@ pub fn whole_log(
     slip: &mut [u8],
     ended: bool,
 ) -> (u8, u64) {
-    let Some((header, records)) = log.split_at_checked(4) else {
+    whole_log_kept(log, desk, sheet, seen, &mut [0; HISTORY], slip, ended)
+}
+
+/// The same with a lent history.
+pub fn whole_log_kept(
+    log: &[u8],
+    desk: &mut [u8],
+    sheet: &mut [u8],
+    seen: &mut [u8],
+    history: &mut [u8],
+    slip: &mut [u8],
+    ended: bool,
+) -> (u8, u64) {
+    let Some((header, records)) = log.split_at_checked(whole_item(false, log)) else {
         return (if ended { 2 } else { 0 }, 0);
     };
-    if header[..3] != [0x4C, 0x48, 0x01] || open(u64::from(header[3]), desk, sheet, seen) != 0 {
+    let Some((k, declared)) = read_header(header) else {
+        return (2, 0);
+    };
+    if open(k, declared, desk, sheet, seen, history) != 0 {
         return (2, 0);
     }
     let mut number = 0;
@@ -1506,13 +1913,13 @@ pub fn whole_log(
     let rest = whole.remainder();
     for record in whole {
         number += 1;
-        let answer = step(desk, sheet, seen, slip, record);
+        let answer = step(desk, sheet, seen, history, slip, record);
         if answer != 0 {
             return (answer, number);
         }
     }
     if ended && !rest.is_empty() {
-        return (step(desk, sheet, seen, slip, rest), number + 1);
+        return (step(desk, sheet, seen, history, slip, rest), number + 1);
     }
     (0, number)
 }
@@ -1535,6 +1942,7 @@ pub fn balance(piece: &[u8]) -> (u8, [i32; 64]) {
         match kind {
             TAKE => takes[usize::from(class)] += 1,
             RELEASE => releases[usize::from(class)] += 1,
+            // Those of crosslocks neither.
             _ => {}
         }
     }
@@ -1600,16 +2008,18 @@ pub fn run_log(input: &mut dyn Read, out: &mut dyn Write) -> std::io::Result<()>
     let mut desk = [0; DESK];
     let mut sheet = [0; MAX_K * MAX_K];
     let mut seen = [0; WORD * MAX_K * MAX_K];
+    let mut history = [0; HISTORY];
     let mut slip = [0; 1 + ENTRY * MAX_K];
 
-    // "A log is the header 4C 48 01 K and then records." "A bad or short header gives
-    // `refused 2 at record 0`"
-    let mut header = [0; 4];
-    let got = fill(input, &mut header)?;
-    let well = got == 4
-        && header[..3] == [0x4C, 0x48, 0x01]
-        && open(u64::from(header[3]), &mut desk, &mut sheet, &mut seen) == 0;
-    if !well {
+    // "A log is the header 4C 48 01 K and then records.", or the longer header of 02 j. "A bad
+    // or short header gives `refused 2 at record 0`"
+    let mut header = [0; LONG_HEADER];
+    let mut got = fill(input, &mut header[..HEADER])?;
+    let size = whole_item(false, &header[..got]);
+    got += fill(input, &mut header[got..size])?;
+    let opened = read_header(&header[..got])
+        .map(|(k, declared)| open(k, declared, &mut desk, &mut sheet, &mut seen, &mut history));
+    if opened != Some(0) {
         writeln!(out, "refused 2 at record 0")?;
         return out.flush();
     }
@@ -1625,7 +2035,15 @@ pub fn run_log(input: &mut dyn Read, out: &mut dyn Write) -> std::io::Result<()>
         }
         // "records count from 1 and include the one named"; "a short last record is a 3"
         number += 1;
-        match step(&mut desk, &mut sheet, &mut seen, &mut slip, &record[..got]) {
+        let answer = step(
+            &mut desk,
+            &mut sheet,
+            &mut seen,
+            &mut history,
+            &mut slip,
+            &record[..got],
+        );
+        match answer {
             0 => {}
             1 => {
                 writeln!(out, "fault at record {number}")?;
@@ -1646,6 +2064,7 @@ struct Left {
     desk: Vec<u8>,
     sheet: Vec<u8>,
     seen: Vec<u8>,
+    history: Vec<u8>,
     slip: Vec<u8>,
     said: u8,
     at: u64,
@@ -1657,6 +2076,7 @@ impl Left {
             desk: vec![0; DESK],
             sheet: vec![0; sheet_len(MAX_K)],
             seen: vec![0; seen_len(MAX_K)],
+            history: vec![0; HISTORY],
             slip: vec![0; slip_len(MAX_K)],
             said: 0,
             at: 0,
@@ -1671,24 +2091,29 @@ impl Left {
             desk,
             sheet,
             seen,
+            history,
             slip,
             said,
             at,
         } = &mut left;
         let mut held = [0; FEED];
-        let mut piece = [0; RECORD];
+        let mut piece = [0; LONG_HEADER];
         let mut size = HEADER;
         loop {
             let got = fill(log, &mut piece[..size])?;
-            *said = feed(&mut held, desk, sheet, seen, slip, &piece[..got], at);
+            let bytes = &piece[..got];
+            *said = feed(&mut held, desk, sheet, seen, history, slip, bytes, at);
             let ended = got < size;
             if ended {
-                *said = feed_end(&mut held, desk, sheet, seen, slip, at);
+                *said = feed_end(&mut held, desk, sheet, seen, history, slip, at);
             }
             if ended || *said != 0 {
                 return Ok(left);
             }
-            size = RECORD;
+            // As many as are missing of the longer header, then record by record.
+            let loose = usize::from(held[LOOSE_COUNT]);
+            let first_bytes = &held[LOOSE_AT..LOOSE_AT + loose];
+            size = whole_item(held[OPENED] == 1, first_bytes) - loose;
         }
     }
 }

@@ -1,6 +1,9 @@
 //! The logs of document 01 and the rules of both documents one by one.
 use super::*;
 
+/// Of request j.
+mod crosslocks;
+
 // ------------------------------------------------------------------- helpers
 
 const E: u8 = 0;
@@ -32,33 +35,65 @@ fn event(core: u8, kind: u8) -> Rec {
     [0x4C, 0x4B, core, kind, 0, 0]
 }
 
+fn take_cross(core: u8, class: u8) -> Rec {
+    [0x4C, 0x4B, core, 10, class, 0]
+}
+fn commit(core: u8, class: u8) -> Rec {
+    [0x4C, 0x4B, core, 11, class, 0]
+}
+fn release_cross(core: u8, class: u8) -> Rec {
+    [0x4C, 0x4B, core, 12, class, 0]
+}
+
+/// The word in which the bits of these classes are 1.
+fn word_of(classes: &[u8]) -> u64 {
+    classes.iter().fold(0, |word, class| word | 1u64 << class)
+}
+
 #[derive(Clone, PartialEq, Debug)]
 struct Bench {
     desk: Vec<u8>,
     sheet: Vec<u8>,
     seen: Vec<u8>,
+    history: Vec<u8>,
     slip: Vec<u8>,
 }
 
 impl Bench {
     fn new(k: usize) -> Bench {
+        Bench::declaring(k, &[])
+    }
+    /// With these classes declared crosslocks.
+    fn declaring(k: usize, crosslocks: &[u8]) -> Bench {
         let mut b = Bench {
             desk: vec![0xA5; DESK],
             sheet: vec![0xA5; sheet_len(k)],
             seen: vec![0xA5; seen_len(k)],
+            history: vec![0xA5; 512],
             slip: vec![0xA5; slip_len(k)],
         };
-        assert_eq!(b.open(k as u64), 0);
+        assert_eq!(b.open_declared(k as u64, word_of(crosslocks)), 0);
         b
     }
     fn open(&mut self, k: u64) -> u8 {
-        open(k, &mut self.desk, &mut self.sheet, &mut self.seen)
+        self.open_declared(k, 0)
+    }
+    fn open_declared(&mut self, k: u64, declared: u64) -> u8 {
+        let Bench {
+            desk,
+            sheet,
+            seen,
+            history,
+            ..
+        } = self;
+        open(k, declared, desk, sheet, seen, history)
     }
     fn step(&mut self, record: &[u8]) -> u8 {
         step(
             &mut self.desk,
             &mut self.sheet,
             &mut self.seen,
+            &mut self.history,
             &mut self.slip,
             record,
         )
@@ -143,6 +178,7 @@ impl Bench {
     }
     fn unfit(&self) -> Option<&'static str> {
         unfit(&self.desk, &self.sheet, &self.seen, Some(&self.slip))
+            .or_else(|| unfit_history(&self.desk, &self.history))
     }
     fn least_circle(&self) -> Option<Vec<Triple>> {
         least_circle(&self.desk, &self.sheet, &self.seen)
@@ -164,6 +200,14 @@ fn program(bytes: &[u8]) -> String {
 
 fn log(k: u8, records: &[Rec]) -> Vec<u8> {
     let mut bytes = vec![0x4C, 0x48, 0x01, k];
+    bytes.extend(records.concat());
+    bytes
+}
+
+/// With the header that declares crosslocks.
+fn log_declaring(k: u8, declared: u64, records: &[Rec]) -> Vec<u8> {
+    let mut bytes = vec![0x4C, 0x48, 0x02, k];
+    bytes.extend((0..8).map(|i| (declared >> (8 * i)) as u8));
     bytes.extend(records.concat());
     bytes
 }
@@ -638,7 +682,9 @@ fn answer_3() {
     b.refused(&[0x4B, 0x4B, 0, 0, 2, 0], 3);
     b.refused(&[0x4C, 0x4C, 0, 0, 2, 0], 3);
     b.refused(&[0x4C, 0x4B, 8, 0, 2, 0], 3);
-    b.refused(&[0x4C, 0x4B, 0, 10, 0, 0], 3);
+    for kind in 13..=255 {
+        b.refused(&[0x4C, 0x4B, 0, kind, 0, 0], 3);
+    }
     for mode in 6..=255 {
         b.refused(&[0x4C, 0x4B, 0, TAKE, 2, mode], 3);
     }
@@ -646,8 +692,8 @@ fn answer_3() {
     for mode in 6..=255 {
         b.refused(&release(0, 1, mode), 3);
     }
-    // No mode but 0 with the kinds 2 to 9, those of a try neither.
-    for kind in 2..10 {
+    // No mode but 0 with the kinds 2 to 12, those of a try neither.
+    for kind in 2..13 {
         for mode in 1..=255 {
             b.refused(&[0x4C, 0x4B, 0, kind, 0, mode], 3);
         }
@@ -728,22 +774,23 @@ fn opening() {
     for k in 1..=64 {
         let size = k * k;
         for (desk, sheet, seen, answer) in [
-            (1398, size, 4 * size, 0),
-            (1401, size + 5, 4 * size, 0),
-            (1398, size, 4 * size + 1, 0),
-            (1398, size, 4 * size + 70, 0),
-            (1397, size, 4 * size, 2),
+            (1674, size, 4 * size, 0),
+            (1677, size + 5, 4 * size, 0),
+            (1674, size, 4 * size + 1, 0),
+            (1674, size, 4 * size + 70, 0),
+            (1673, size, 4 * size, 2),
+            (1398, size, 4 * size, 2),
             (1394, size, 4 * size, 2),
             (1250, size, 4 * size, 2),
             (642, size, 4 * size, 2),
             (638, size, 4 * size, 2),
             (578, size, 4 * size, 2),
             (577, size, 4 * size, 2),
-            (1398, size - 1, 4 * size, 2),
-            (1398, size, 4 * size - 1, 2),
-            (1398, size, 4 * size - 4, 2),
-            (1398, size, size, 2),
-            (1398, size, 0, 2),
+            (1674, size - 1, 4 * size, 2),
+            (1674, size, 4 * size - 1, 2),
+            (1674, size, 4 * size - 4, 2),
+            (1674, size, size, 2),
+            (1674, size, 0, 2),
             (0, 0, 0, 2),
         ] {
             // The slip isn't looked at.
@@ -754,12 +801,13 @@ fn opening() {
                 continue;
             }
             assert_eq!(b.desk[0], k as u8);
-            assert!(b.desk[1..1398]
+            assert!(b.desk[1..1674]
                 .iter()
                 .chain(&b.sheet[..size])
                 .all(|&x| x == 0));
             assert!(b.seen[..4 * size].iter().all(|&x| x == 0));
-            assert!(b.desk[1398..]
+            assert!(b.history.iter().all(|&x| x == 0));
+            assert!(b.desk[1674..]
                 .iter()
                 .chain(&b.sheet[size..])
                 .all(|&x| x == 0xA5));
@@ -796,7 +844,7 @@ fn bytes_past_the_sizes_stay() {
         [2, 1, EN, 0, 9, 0, 0, 0, 2, EN, 0, 13, 0, 0, 0]
     );
     assert_eq!(b.desk[1], 1);
-    for tail in [&b.desk[1398..], &b.sheet[9..], &b.seen[36..], &b.slip[15..]] {
+    for tail in [&b.desk[1674..], &b.sheet[9..], &b.seen[36..], &b.slip[15..]] {
         assert!(!tail.is_empty() && tail.iter().all(|&b| b == 0xA5));
     }
     assert!(b.true_circle(&b.slip));
@@ -833,7 +881,9 @@ fn each_clause_of_unfit() {
             met.push(clause);
         }
     };
-    for length in [1397, 1394, 1393, 1250, 1249, 642, 641, 638, 637, 578, 577] {
+    for length in [
+        1673, 1672, 1418, 1414, 1406, 1398, 1397, 1394, 1393, 1250, 642, 578, 577,
+    ] {
         violate(CLAUSES[0], &|b| b.desk.truncate(length));
     }
     violate(CLAUSES[0], &|b| b.desk.clear());
@@ -917,8 +967,26 @@ fn each_clause_of_unfit() {
             }
         }
     }
+    // The declared word and the progress word, bit by bit; the kept count.
+    for class in 8..64 {
+        violate(CLAUSES[19], &|b| {
+            b.desk[1398 + class / 8] |= 1 << (class % 8)
+        });
+    }
+    for class in 0..64 {
+        violate(CLAUSES[20], &|b| {
+            b.desk[1406 + class / 8] |= 1 << (class % 8)
+        });
+    }
+    violate(CLAUSES[22], &|b| (b.desk[1414], b.desk[1415]) = (1, 1));
+    violate(CLAUSES[22], &|b| b.desk[1415] = 2);
+    violate(CLAUSES[22], &|b| b.desk[1416] = 1);
+    violate(CLAUSES[22], &|b| b.desk[1417] = 1);
+    violate(CLAUSES[22], &|b| b.desk[1417] = 128);
+    // For more than 16 in progress 8 classes are too few: see `fit_lists`.
+    met.insert(21, CLAUSES[21]);
     assert_eq!(met, CLAUSES);
-    assert_eq!(CLAUSES.len(), 19);
+    assert_eq!(CLAUSES.len(), 23);
     assert!(CLAUSES.iter().all(|clause| !clause.contains("count")));
 
     // And what is still fit.
@@ -928,6 +996,22 @@ fn each_clause_of_unfit() {
         assert_eq!(b.unfit(), None);
     };
     fit(&|b| b.desk[1] = 1);
+    for class in 0..8 {
+        fit(&|b| b.desk[1398] = 1 << class);
+        fit(&|b| (b.desk[1398], b.desk[1406]) = (1 << class, 1 << class));
+    }
+    fit(&|b| (b.desk[1398], b.desk[1406]) = (255, 255));
+    fit(&|b| {
+        b.desk[1414] = 255;
+        b.history.fill(0);
+    });
+    fit(&|b| {
+        b.desk[1415] = 1;
+        b.history.fill(0);
+    });
+    for at in 1418..1674 {
+        fit(&|b| b.desk[at] = 255);
+    }
     for place in standing {
         fit(&|b| b.desk[1250 + place / 8] |= 1 << (place % 8));
     }
@@ -1497,7 +1581,7 @@ fn assert_shows(b: &Bench, circle: &[Triple]) {
             assert!(after.true_circle(&after.slip));
             after.refused(&r, 10);
             assert_eq!(after.least_circle().as_deref(), Some(circle));
-            let mut fed = Fed::lying(0, 1, 0, [0; 5], 41, b.clone());
+            let mut fed = Fed::lying(0, 1, 0, &[], 41, b.clone());
             assert_eq!(fed.feed(&r[..core as usize % 6]), (0, 41));
             assert_eq!(
                 fed.feed(&[&r[core as usize % 6..], &[0x4C]].concat()),
@@ -2535,7 +2619,7 @@ fn no_circle_and_unfit() {
     let circle = made(8, &[(0, EN, 0)], &[]);
     assert_shows(&circle, &[(0, EN, 0)]);
     let changes: [&dyn Fn(&mut Bench); 8] = [
-        &|b| b.desk.truncate(1397),
+        &|b| b.desk.truncate(1673),
         &|b| b.desk[0] = 65,
         &|b| b.sheet.truncate(63),
         &|b| (b.sheet[63], b.seen[252]) = (16, 1),
@@ -2875,11 +2959,28 @@ struct Naive {
     arrows: Vec<(u8, u8, u8, u32)>, // hold arrows (from, kind, to, record's number)
     marks: Vec<(u8, &'static str)>,
     accepted: u32,
+    declared: u64,
+    in_progress: Vec<u8>,
+    since: [u32; 64],
+    /// All takes but tries since none was in progress: frame, visit there, class, mode.
+    takes: Vec<(usize, u64, u8, u8)>,
+    visits: [u64; 24],
+    /// As it should lie.
+    history: Vec<u8>,
 }
 
 impl Naive {
     fn new(k: u8) -> Naive {
+        Naive::declaring(k, 0)
+    }
+    fn declaring(k: u8, declared: u64) -> Naive {
         Naive {
+            declared,
+            in_progress: Vec::new(),
+            since: [0; 64],
+            takes: Vec::new(),
+            visits: [0; 24],
+            history: vec![0; 512],
             k,
             state: [0; 8],
             holds: vec![Vec::new(); 24],
@@ -2900,16 +3001,47 @@ impl Naive {
         let (core, kind, class, mode) = (r[2], r[3], r[4], r[5]);
         let at = frame(core, self.state[core as usize]);
         self.accepted += 1;
+        let accepted = self.accepted;
+        let mut draw = |from: u8, kind: u8, to: u8| {
+            let there = |a: &(u8, u8, u8, u32)| (a.0, a.1, a.2) == (from, kind, to);
+            if !self.arrows.iter().any(there) {
+                self.arrows.push((from, kind, to, accepted));
+            }
+        };
         match kind {
+            10 => {
+                for &(older, mode) in &self.holds[at] {
+                    draw(older, [2, 8, 8][mode as usize % 3], class);
+                }
+                self.in_progress.push(class);
+                self.since[class as usize] = self.takes.len() as u32;
+            }
+            11 => {
+                let since = self.since[class as usize] as usize;
+                for &(frame, visit, taken, mode) in &self.takes[since..] {
+                    if (frame, visit) == (at, self.visits[at]) {
+                        draw(class, [2, 2, 1][mode as usize], taken);
+                    }
+                }
+            }
+            12 => {
+                self.in_progress.retain(|&other| other != class);
+                if self.in_progress.is_empty() {
+                    self.takes.clear();
+                }
+            }
             TAKE => {
+                if mode < 3 && !self.in_progress.is_empty() {
+                    let entry = [at as u8 + 1, class + 64 * mode];
+                    let place = 2 * self.takes.len();
+                    self.history[place..place + 2].copy_from_slice(&entry);
+                    self.takes.push((at, self.visits[at], class, mode));
+                }
                 for &(older, older_mode) in self.holds[at].iter().filter(|_| mode < 3) {
                     let kind =
                         [[2, 2, 1], [8, 8, 4], [8, 8, 4]][older_mode as usize % 3][mode as usize];
                     // The first of a kind between the two is enough.
-                    let there = |a: &(u8, u8, u8, u32)| (a.0, a.1, a.2) == (older, kind, class);
-                    if !self.arrows.iter().any(there) {
-                        self.arrows.push((older, kind, class, self.accepted));
-                    }
+                    draw(older, kind, class);
                 }
                 self.holds[at].push((class, mode));
             }
@@ -2917,7 +3049,17 @@ impl Naive {
                 let i = self.holds[at].iter().rposition(|h| h.0 == class).unwrap();
                 assert_eq!(self.holds[at].remove(i).1, mode);
             }
-            _ => self.state[core as usize] = next_state(self.state[core as usize], kind).unwrap(),
+            _ => {
+                self.state[core as usize] = next_state(self.state[core as usize], kind).unwrap();
+                if kind == 7 || kind == 9 {
+                    for (i, take) in self.takes.iter().enumerate() {
+                        if take.0 == at {
+                            self.history[2 * i..2 * i + 2].fill(0);
+                        }
+                    }
+                    self.visits[at] += 1;
+                }
+            }
         }
         let state = self.state[core as usize];
         for &(class, mode) in &self.holds[frame(core, state)] {
@@ -2974,6 +3116,10 @@ impl Naive {
                 .map(|eight| eight.iter().rev().fold(0, |byte, bit| 2 * byte + bit)),
         );
         desk.extend(bytes_of(&[self.accepted]));
+        desk.extend(self.declared.to_le_bytes());
+        desk.extend(word_of(&self.in_progress).to_le_bytes());
+        desk.extend(bytes_of(&[self.takes.len() as u32]));
+        desk.extend(bytes_of(&self.since));
         let (mut sheet, mut seen) = (Vec::new(), Vec::new());
         for from in 0..self.k {
             for to in 0..self.k {
@@ -3011,6 +3157,15 @@ fn random_record(dice: &mut Dice, k: u64, modes: &[u8]) -> Rec {
         }
         _ => event(core, 2 + dice.under(8) as u8),
     }
+}
+
+/// Half of them of kinds 10 to 12.
+fn random_cross_record(dice: &mut Dice, k: u64, modes: &[u8]) -> Rec {
+    if dice.under(2) == 0 {
+        return random_record(dice, k, modes);
+    }
+    let (core, kind, class) = (dice.under(3), 10 + dice.under(3), dice.under(k));
+    [0x4C, 0x4B, core as u8, kind as u8, class as u8, 0]
 }
 
 /// Two in three are takes of core 0, so that its frames get full.
@@ -3208,9 +3363,14 @@ fn other_cores_records_never_undo_a_fault() {
 #[test]
 fn sizes() {
     assert_eq!(
-        (STATES, DEPTHS, MARKS, HOLDS, ORIGINS, COUNT, DESK),
-        (2, 10, 34, 98, 1250, 1394, 1398)
+        (STATES, DEPTHS, MARKS, HOLDS, ORIGINS, COUNT),
+        (2, 10, 34, 98, 1250, 1394)
     );
+    assert_eq!(
+        (DECLARED, PROGRESS, KEPT_COUNT, SINCE, DESK),
+        (1398, 1406, 1414, 1418, 1674)
+    );
+    assert_eq!((MOST_IN_PROGRESS, MOST_KEPT, HISTORY), (16, 256, 512));
     assert_eq!((CORES, FRAMES, DEEPEST), (8, 24, 48));
     assert_eq!(ENTRY, 7);
     assert_eq!([1, 2, 8, 64].map(sheet_len), [1, 4, 64, 4096]);
@@ -3241,7 +3401,7 @@ fn a_try_byte_by_byte() {
     let mut seen = vec![0; 64];
     (seen[4 * 2], seen[4 * (4 + 2)]) = (3, 3);
     assert_eq!(b.seen, seen);
-    let mut desk = vec![0; 1398];
+    let mut desk = vec![0; 1674];
     desk[0] = 4;
     desk[1394] = 9;
     desk[10 + 3] = 9;
@@ -3754,6 +3914,7 @@ fn lent(desk: usize, sheet: usize, seen: usize, slip: usize) -> Bench {
         desk,
         sheet,
         seen,
+        history: vec![0xA5; 512],
         slip,
     }
 }
@@ -3762,6 +3923,10 @@ fn lent(desk: usize, sheet: usize, seen: usize, slip: usize) -> Bench {
 fn lent_for(k: usize) -> Bench {
     lent(DESK, sheet_len(k), seen_len(k), slip_len(k))
 }
+
+/// The answers but 0 that a step can give, and so a feed that is opened.
+const STOPS: [u8; 15] = [1, 3, 4, 5, 6, 7, 8, 9, 10, 11, 15, 16, 17, 18, 19];
+const STOPS_AND_0: [u8; 16] = [0, 1, 3, 4, 5, 6, 7, 8, 9, 10, 11, 15, 16, 17, 18, 19];
 
 /// A feed, with four bytes past its size, and its bench.
 #[derive(Clone, PartialEq, Debug)]
@@ -3773,16 +3938,17 @@ struct Fed {
 impl Fed {
     fn new(b: Bench) -> Fed {
         let mut fed = Fed {
-            feed: vec![0xA5; 20],
+            feed: vec![0xA5; 26],
             b,
         };
         assert_eq!(feed_start(&mut fed.feed), 0);
         fed
     }
     /// A feed that lies as told, on this bench.
-    fn lying(answer: u8, opened: u8, kept: u8, loose: [u8; 5], number: u64, b: Bench) -> Fed {
+    fn lying(answer: u8, opened: u8, kept: u8, loose: &[u8], number: u64, b: Bench) -> Fed {
         let mut feed = vec![answer, opened, kept];
         feed.extend(loose);
+        feed.resize(14, 0);
         feed.extend(number.to_le_bytes());
         feed.extend([0xA5; 4]);
         Fed { feed, b }
@@ -3793,9 +3959,20 @@ impl Fed {
             desk,
             sheet,
             seen,
+            history,
             slip,
         } = &mut self.b;
-        let answer = feed(&mut self.feed, desk, sheet, seen, slip, piece, &mut record);
+        let feeding = &mut self.feed;
+        let answer = feed(
+            feeding,
+            desk,
+            sheet,
+            seen,
+            history,
+            slip,
+            piece,
+            &mut record,
+        );
         (answer, record)
     }
     fn end(&mut self) -> (u8, u64) {
@@ -3804,9 +3981,11 @@ impl Fed {
             desk,
             sheet,
             seen,
+            history,
             slip,
         } = &mut self.b;
-        let answer = feed_end(&mut self.feed, desk, sheet, seen, slip, &mut record);
+        let feeding = &mut self.feed;
+        let answer = feed_end(feeding, desk, sheet, seen, history, slip, &mut record);
         (answer, record)
     }
     /// Further pieces and end calls all give this and change nothing.
@@ -3829,15 +4008,16 @@ impl Fed {
 
 /// How a feed should lie after these bytes of a log, with what was answered last.
 fn lies(log: &[u8], (answer, number): (u8, u64)) -> Vec<u8> {
+    let header = if log.get(2) == Some(&2) { 12 } else { 4 };
     let loose = match (answer, log.len()) {
-        (0, 0..=3) => log,
-        (0, length) => &log[length - (length - 4) % 6..],
+        (0, length) if length < header => log,
+        (0, length) => &log[length - (length - header) % 6..],
         _ => &[],
     };
-    let opened = log.len() >= 4 && answer != 2;
+    let opened = log.len() >= header && answer != 2;
     let mut bytes = vec![answer, u8::from(opened), loose.len() as u8];
     bytes.extend(loose);
-    bytes.resize(8, 0);
+    bytes.resize(14, 0);
     bytes.extend((0..8).map(|i| (number >> (8 * i)) as u8));
     bytes.extend([0xA5; 4]);
     bytes
@@ -3867,13 +4047,15 @@ impl<'a> Whole<'a> {
                     mut desk,
                     mut sheet,
                     mut seen,
+                    mut history,
                     mut slip,
                 } = b.clone();
-                let told = whole_log(
+                let told = whole_log_kept(
                     &log[..length],
                     &mut desk,
                     &mut sheet,
                     &mut seen,
+                    &mut history,
                     &mut slip,
                     ended,
                 );
@@ -3883,6 +4065,7 @@ impl<'a> Whole<'a> {
                         desk,
                         sheet,
                         seen,
+                        history,
                         slip,
                     },
                 )
@@ -3946,20 +4129,20 @@ fn all_cuts(b: &Bench, log: &[u8]) -> [(u8, u64); 2] {
 
 #[test]
 fn feed_sizes() {
-    assert_eq!((LOOSE, NUMBER, FEED), (5, 8, 16));
+    assert_eq!((LOOSE, NUMBER, FEED), (11, 14, 22));
 }
 
 #[test]
 fn a_fresh_feed() {
     for length in 0..40 {
         let mut buffer = vec![0xA5; length];
-        if length < 16 {
+        if length < 22 {
             assert_eq!(feed_start(&mut buffer), 2);
             assert_eq!(buffer, vec![0xA5; length]);
         } else {
             assert_eq!(feed_start(&mut buffer), 0);
-            assert_eq!(buffer[..16], [0; 16]);
-            assert_eq!(buffer[16..], vec![0xA5; length - 16]);
+            assert_eq!(buffer[..22], [0; 22]);
+            assert_eq!(buffer[22..], vec![0xA5; length - 22]);
             assert_eq!(unfit_feed(&buffer), None);
         }
     }
@@ -3979,6 +4162,7 @@ fn the_whole_log_by_hand() {
             mut sheet,
             mut seen,
             mut slip,
+            ..
         } = b.clone();
         [false, true]
             .map(|ended| whole_log(log, &mut desk, &mut sheet, &mut seen, &mut slip, ended))
@@ -4022,7 +4206,7 @@ fn all_cuts_of_short_logs() {
         (vec![0, 0, 0], (0, 0), (2, 0)),
         (vec![0x4D, 0x48, 1, 2, 0x4C, 0x4B], (2, 0), (2, 0)),
         (vec![0x4C, 0x4B, 1, 2, 0x4C, 0x4B], (2, 0), (2, 0)),
-        (vec![0x4C, 0x48, 2, 2, 0x4C, 0x4B], (2, 0), (2, 0)),
+        (vec![0x4C, 0x48, 3, 2, 0x4C, 0x4B], (2, 0), (2, 0)),
         (log(0, &[take(0, 0, E)]), (2, 0), (2, 0)),
         (log(65, &[take(0, 0, E)]), (2, 0), (2, 0)),
         (log(3, &[take(0, 0, E)]), (2, 0), (2, 0)), // the sheet is for 2
@@ -4154,9 +4338,9 @@ fn cuts_of_a_full_frame() {
 #[test]
 fn random_logs_in_random_pieces() {
     let mut dice = Dice(0xFEED_0123_4567_89AB);
-    let mut seen = [[0u64; 12]; 2];
+    let mut seen = [[0u64; 20]; 2];
     let mut longest = 0;
-    for round in 0..6_000u64 {
+    for round in 0..4_000u64 {
         let k = 1 + dice.under(if round % 10 == 0 { 64 } else { 6 });
         let modes: &[u8] =
             [&MODES[..], &[R], &[R, R, R, NR, TRR], &[TE, TR, TRR]][round as usize % 4];
@@ -4198,7 +4382,7 @@ fn random_logs_in_random_pieces() {
         }
         let mut b = lent_for(k as usize);
         match dice.under(40) {
-            0 => b.desk.truncate(1397),
+            0 => b.desk.truncate(1673),
             1 => b.sheet.truncate(b.sheet.len() - 1),
             2 => b.slip.truncate(b.slip.len() - 1),
             3 => b.seen.truncate(b.seen.len() - 1),
@@ -4269,13 +4453,13 @@ fn the_header_is_judged_when_complete() {
         }
         if !well {
             assert_eq!(fed.feed(&header[3..]), (2, 0));
-            assert_eq!(fed.feed, [vec![2], vec![0; 15], vec![0xA5; 4]].concat());
+            assert_eq!(fed.feed, [vec![2], vec![0; 21], vec![0xA5; 4]].concat());
             assert_eq!(fed.b, before);
             fed.stands(2, 0);
             continue;
         }
         assert_eq!(fed.feed(&header[3..]), (0, 0));
-        assert_eq!(fed.feed, [vec![0, 1], vec![0; 14], vec![0xA5; 4]].concat());
+        assert_eq!(fed.feed, [vec![0, 1], vec![0; 20], vec![0xA5; 4]].concat());
         let mut after = before.clone();
         assert_eq!(after.open(header[3].into()), 0);
         assert_eq!(fed.b, after);
@@ -4305,7 +4489,7 @@ fn records_are_judged_when_complete() {
         assert_eq!(fed.b, after);
         assert_eq!(
             fed.feed,
-            [&[answer, 1, 0, 0, 0, 0, 0, 0, 2][..], &[0; 7], &[0xA5; 4]].concat()
+            [&[answer, 1][..], &[0; 12], &[2], &[0; 7], &[0xA5; 4]].concat()
         );
     }
 }
@@ -4392,15 +4576,15 @@ fn nothing_after_the_stop() {
         changed.stands(1, 6);
     }
     // Every answer that can stand.
-    for answer in [1, 3, 4, 5, 6, 7, 8, 9, 10, 11] {
+    for answer in STOPS {
         for number in [1, 2, 256, 1 << 63, u64::MAX] {
             for b in [Bench::new(2), lent(0, 0, 0, 0), lent_for(2)] {
-                Fed::lying(answer, 1, 0, [0; 5], number, b).stands(answer, number);
+                Fed::lying(answer, 1, 0, &[], number, b).stands(answer, number);
             }
         }
     }
     for b in [Bench::new(2), lent(0, 0, 0, 0), lent_for(2)] {
-        Fed::lying(2, 0, 0, [0; 5], 0, b).stands(2, 0);
+        Fed::lying(2, 0, 0, &[], 0, b).stands(2, 0);
     }
 }
 
@@ -4427,7 +4611,7 @@ fn an_end_between_records() {
             ..lent_for(2)
         },
     ] {
-        let mut fed = Fed::lying(0, 1, 0, [0; 5], 77, b);
+        let mut fed = Fed::lying(0, 1, 0, &[], 77, b);
         let before = fed.clone();
         assert_eq!(fed.end(), (0, 77));
         assert_eq!(fed, before);
@@ -4443,7 +4627,7 @@ fn an_end_in_the_header() {
                 let mut fed = Fed::new(b.clone());
                 assert_eq!(fed.feed(&start[..length]), (0, 0));
                 assert_eq!(fed.end(), (2, 0));
-                assert_eq!(fed.feed, [vec![2], vec![0; 15], vec![0xA5; 4]].concat());
+                assert_eq!(fed.feed, [vec![2], vec![0; 21], vec![0xA5; 4]].concat());
                 assert_eq!(fed.b, b);
                 fed.stands(2, 0);
                 assert_eq!(fed.feed(&good[length..]), (2, 0));
@@ -4467,7 +4651,7 @@ fn an_end_with_loose_bytes() {
         (changed(&|b| b.desk[1] = 1), 10),
         (changed(&|b| b.desk[1] = 2), 11),
         (changed(&|b| b.desk[0] = 0), 11),
-        (changed(&|b| b.desk.truncate(1397)), 11),
+        (changed(&|b| b.desk.truncate(1673)), 11),
         (changed(&|b| b.sheet.truncate(63)), 11),
         (changed(&|b| b.seen.truncate(255)), 11),
         (changed(&|b| b.slip.truncate(56)), 11),
@@ -4488,10 +4672,10 @@ fn an_end_with_loose_bytes() {
         (changed(&|b| (b.desk[1], b.slip) = (1, vec![])), 11),
         (lent(0, 0, 0, 0), 11),
     ] {
-        for short in [[0x4C, 0x4B, 0, 0, 2], [0xFF; 5], [0; 5]] {
+        for short in [[0x4C, 0x4B, 0, 0, 2], [0xFF; 5], [0u8; 5]] {
             for length in 1..=5usize {
                 for number in [0, 1, 255, 1 << 40, u64::MAX - 1, u64::MAX] {
-                    let mut fed = Fed::lying(0, 1, 0, [0; 5], number, b.clone());
+                    let mut fed = Fed::lying(0, 1, 0, &[], number, b.clone());
                     // Kept without a look at the bench.
                     assert_eq!(fed.feed(&short[..length]), (0, number));
                     assert_eq!(
@@ -4501,7 +4685,7 @@ fn an_end_with_loose_bytes() {
                     assert_eq!(fed.b, b);
                     let named = number.saturating_add(1);
                     assert_eq!(fed.end(), (answer, named));
-                    assert_eq!(fed, Fed::lying(answer, 1, 0, [0; 5], named, b.clone()));
+                    assert_eq!(fed, Fed::lying(answer, 1, 0, &[], named, b.clone()));
                     fed.stands(answer, named);
                 }
             }
@@ -4514,13 +4698,13 @@ fn counts_near_the_limit() {
     // From 2^64 - 4 on, one record a piece and all in one.
     let records =
         [HARD_OFF, HARD_ON, SOFT_OFF, SOFT_ON, HARD_OFF, HARD_ON].map(|kind| event(2, kind));
-    let start = Fed::lying(0, 1, 0, [0; 5], u64::MAX - 3, Bench::new(2));
+    let start = Fed::lying(0, 1, 0, &[], u64::MAX - 3, Bench::new(2));
     let mut fed = start.clone();
     for (i, r) in records.iter().enumerate() {
         let number = u64::MAX - [2, 1, 0, 0, 0, 0][i];
         assert_eq!(fed.feed(r), (0, number));
         assert_eq!(fed.end(), (0, number));
-        assert_eq!(fed.feed[8..16], number.to_le_bytes());
+        assert_eq!(fed.feed[14..22], number.to_le_bytes());
     }
     let mut at_once = start.clone();
     assert_eq!(at_once.feed(&records.concat()), (0, u64::MAX));
@@ -4539,19 +4723,19 @@ fn counts_near_the_limit() {
             (event(0, EXIT_HARD), 6),
             (release(0, 0, E), 5),
         ] {
-            let mut fed = Fed::lying(0, 1, 1, [record[0], 0, 0, 0, 0], before, Bench::new(2));
+            let mut fed = Fed::lying(0, 1, 1, &record[..1], before, Bench::new(2));
             assert_eq!(fed.feed(&record[1..]), (answer, named));
-            assert_eq!(fed, Fed::lying(answer, 1, 0, [0; 5], named, Bench::new(2)));
+            assert_eq!(fed, Fed::lying(answer, 1, 0, &[], named, Bench::new(2)));
             fed.stands(answer, named);
         }
     }
     // Each byte of the number has its place.
     for byte in 0..8 {
         let number = (0xFF << (8 * byte)) - 1;
-        let mut fed = Fed::lying(0, 1, 0, [0; 5], number, Bench::new(2));
+        let mut fed = Fed::lying(0, 1, 0, &[], number, Bench::new(2));
         assert_eq!(fed.feed(&[]), (0, number));
         assert_eq!(fed.feed(&take(0, 0, E)), (0, number + 1));
-        assert_eq!(fed.feed[8..16], (number + 1).to_le_bytes());
+        assert_eq!(fed.feed[14..22], (number + 1).to_le_bytes());
     }
 }
 
@@ -4576,19 +4760,19 @@ fn each_clause_of_the_unfit_feed() {
             met.push(clause);
         }
     };
-    let lying = |answer, opened, kept, loose, number| {
+    let lying = |answer, opened, kept, loose: &[u8], number| {
         Fed::lying(answer, opened, kept, loose, number, Bench::new(8))
     };
     let fit = |fed: &Fed| assert_eq!(unfit_feed(&fed.feed), None, "{:?}", fed.feed);
 
     for fed in [
-        lying(0, 0, 0, [0; 5], 0),
-        lying(2, 0, 0, [0; 5], 0),
-        lying(0, 1, 2, [1, 2, 0, 0, 0], 5),
-        lying(4, 1, 0, [0; 5], 9),
+        lying(0, 0, 0, &[], 0),
+        lying(2, 0, 0, &[], 0),
+        lying(0, 1, 2, &[1, 2], 5),
+        lying(4, 1, 0, &[], 9),
     ] {
         fit(&fed);
-        for length in 0..16 {
+        for length in 0..22 {
             violate(
                 FEED_CLAUSES[0],
                 &Fed {
@@ -4597,7 +4781,7 @@ fn each_clause_of_the_unfit_feed() {
                 },
             );
         }
-        for length in 16..20 {
+        for length in 22..26 {
             fit(&Fed {
                 feed: fed.feed[..length].to_vec(),
                 ..fed.clone()
@@ -4610,8 +4794,8 @@ fn each_clause_of_the_unfit_feed() {
         }
     }
     for kept in 0..=255 {
-        let before = lying(0, 0, kept, [0; 5], 0);
-        let after = lying(0, 1, kept, [0; 5], 7);
+        let before = lying(0, 0, kept, &[], 0);
+        let after = lying(0, 1, kept, &[], 7);
         if kept > 3 {
             violate(FEED_CLAUSES[2], &before);
         } else {
@@ -4629,7 +4813,7 @@ fn each_clause_of_the_unfit_feed() {
             loose[place as usize] = byte;
             for kept in 0..=5 {
                 for opened in 0..=1 {
-                    let fed = lying(0, opened, kept, loose, 0);
+                    let fed = lying(0, opened, kept, &loose, 0);
                     if opened == 0 && kept > 3 {
                         violate(FEED_CLAUSES[2], &fed);
                     } else if place >= kept {
@@ -4639,48 +4823,45 @@ fn each_clause_of_the_unfit_feed() {
                     }
                 }
             }
-            violate(FEED_CLAUSES[3], &lying(2, 0, 0, loose, 0));
-            violate(FEED_CLAUSES[3], &lying(3, 1, 0, loose, 1));
+            violate(FEED_CLAUSES[3], &lying(2, 0, 0, &loose, 0));
+            violate(FEED_CLAUSES[3], &lying(3, 1, 0, &loose, 1));
         }
     }
     for kept in 1..=5 {
         if kept <= 3 {
-            violate(FEED_CLAUSES[4], &lying(2, 0, kept, [0; 5], 0));
+            violate(FEED_CLAUSES[4], &lying(2, 0, kept, &[], 0));
         }
-        for answer in [1, 3, 4, 5, 6, 7, 8, 9, 10, 11] {
-            violate(FEED_CLAUSES[4], &lying(answer, 1, kept, [0; 5], 1));
+        for answer in STOPS {
+            violate(FEED_CLAUSES[4], &lying(answer, 1, kept, &[], 1));
         }
     }
     for answer in 0..=255 {
-        let before = lying(answer, 0, 0, [0; 5], 0);
+        let before = lying(answer, 0, 0, &[], 0);
         if answer == 0 || answer == 2 {
             fit(&before);
         } else {
             violate(FEED_CLAUSES[5], &before);
         }
-        let after = lying(answer, 1, 0, [0; 5], 1);
-        if [0, 1, 3, 4, 5, 6, 7, 8, 9, 10, 11].contains(&answer) {
+        let after = lying(answer, 1, 0, &[], 1);
+        if STOPS_AND_0.contains(&answer) {
             fit(&after);
         } else {
             violate(FEED_CLAUSES[7], &after);
         }
     }
     for number in (0..64).map(|bit| 1 << bit).chain([u64::MAX]) {
-        violate(FEED_CLAUSES[6], &lying(0, 0, 0, [0; 5], number));
-        violate(
-            FEED_CLAUSES[6],
-            &lying(0, 0, 3, [0x4C, 0x48, 1, 0, 0], number),
-        );
-        violate(FEED_CLAUSES[6], &lying(2, 0, 0, [0; 5], number));
-        for answer in [0, 1, 3, 4, 5, 6, 7, 8, 9, 10, 11] {
-            fit(&lying(answer, 1, 0, [0; 5], number));
+        violate(FEED_CLAUSES[6], &lying(0, 0, 0, &[], number));
+        violate(FEED_CLAUSES[6], &lying(0, 0, 3, &[0x4C, 0x48, 1], number));
+        violate(FEED_CLAUSES[6], &lying(2, 0, 0, &[], number));
+        for answer in STOPS_AND_0 {
+            fit(&lying(answer, 1, 0, &[], number));
         }
-        fit(&lying(0, 1, 5, [255; 5], number));
+        fit(&lying(0, 1, 5, &[255; 5], number));
     }
-    for answer in [1, 3, 4, 5, 6, 7, 8, 9, 10, 11] {
-        violate(FEED_CLAUSES[8], &lying(answer, 1, 0, [0; 5], 0));
+    for answer in STOPS {
+        violate(FEED_CLAUSES[8], &lying(answer, 1, 0, &[], 0));
     }
-    fit(&lying(0, 1, 0, [0; 5], 0));
+    fit(&lying(0, 1, 0, &[], 0));
     met.sort_by_key(|name| FEED_CLAUSES.iter().position(|clause| clause == name));
     assert_eq!(met, FEED_CLAUSES);
 }
@@ -4688,23 +4869,21 @@ fn each_clause_of_the_unfit_feed() {
 /// The fit feeds by their shapes: before the header is complete, refused there,
 /// between or within records, stopped at a record.
 fn fit_shape(feed: &[u8]) -> bool {
-    let Some(&[answer, opened, kept, a, b, c, d, e, ref number @ ..]) = feed.get(..16) else {
+    let Some(feed) = feed.get(..22) else {
         return false;
     };
+    let (answer, opened, kept) = (feed[0], feed[1], feed[2]);
+    let (loose, number) = feed[3..].split_at(11);
     let zero = number.iter().all(|&x| x == 0);
-    match (answer, opened, kept, [a, b, c, d, e]) {
-        (0, 0, 0, [0, 0, 0, 0, 0]) => zero,
-        (0, 0, 1, [_, 0, 0, 0, 0]) => zero,
-        (0, 0, 2, [_, _, 0, 0, 0]) => zero,
-        (0, 0, 3, [_, _, _, 0, 0]) => zero,
-        (2, 0, 0, [0, 0, 0, 0, 0]) => zero,
-        (0, 1, 0, [0, 0, 0, 0, 0]) => true,
-        (0, 1, 1, [_, 0, 0, 0, 0]) => true,
-        (0, 1, 2, [_, _, 0, 0, 0]) => true,
-        (0, 1, 3, [_, _, _, 0, 0]) => true,
-        (0, 1, 4, [_, _, _, _, 0]) => true,
-        (0, 1, 5, _) => true,
-        (1 | 3..=11, 1, 0, [0, 0, 0, 0, 0]) => !zero,
+    // Up to its last byte but 0 the feed has this many loose ones.
+    let used = loose.iter().rposition(|&x| x != 0).map_or(0, |at| at + 1);
+    let within = used <= kept as usize;
+    match (answer, opened, kept) {
+        (0, 0, 0..=3) => within && zero,
+        (0, 0, 4..=11) => within && zero && loose[2] == 2,
+        (2, 0, 0) => within && zero,
+        (0, 1, 0..=5) => within,
+        (1 | 3 | 4 | 5 | 6 | 7 | 8 | 9 | 10 | 11 | 15 | 16 | 17 | 18 | 19, 1, 0) => within && !zero,
         _ => false,
     }
 }
@@ -4712,13 +4891,22 @@ fn fit_shape(feed: &[u8]) -> bool {
 #[test]
 fn fit_feeds_by_their_shapes() {
     let (mut fits, mut unfits) = (0u64, 0u64);
-    for answer in (0..=13).chain([255]) {
+    for answer in (0..=21).chain([255]) {
         for opened in [0, 1, 2, 255] {
-            for kept in (0..=8).chain([255]) {
-                for pattern in 0..32u8 {
+            for kept in (0..=14).chain([255]) {
+                for pattern in 0..40u32 {
                     for number in [0, 1, 256, u64::MAX] {
-                        let loose = [0, 1, 2, 3, 4].map(|i| (pattern >> i & 1) * 0x4C);
-                        let fed = Fed::lying(answer, opened, kept, loose, number, lent(0, 0, 0, 0));
+                        // One byte, two in a row or all up to one, the third 1, 2 or 3.
+                        let mut loose = [0; 11];
+                        let (at, how) = (pattern as usize % 11, pattern / 11);
+                        match how {
+                            0 => loose[at] = 2,
+                            1 => loose[..=at].fill(2),
+                            2 => loose[..=at].fill(0x4C),
+                            _ => (loose[2], loose[at]) = (1 + at as u8, 3),
+                        }
+                        let b = lent(0, 0, 0, 0);
+                        let fed = Fed::lying(answer, opened, kept, &loose, number, b);
                         let fit = fit_shape(&fed.feed);
                         assert_eq!(unfit_feed(&fed.feed).is_none(), fit, "{:?}", fed.feed);
                         if fit {
@@ -4740,17 +4928,21 @@ fn any_bytes_at_all() {
     // Feeds and benches of any bytes: judged as they stand by the loose bytes and the piece
     // in a row, or refused.
     let mut dice = Dice(0xABCD_EF01_2345_6789);
-    let mut seen = [0u64; 12];
+    let mut seen = [0u64; 20];
     let mut unfits = 0;
     for _ in 0..60_000 {
         let mut b = match dice.under(4) {
             0 => {
-                let [desk, sheet, seen, slip] = [1520, 30, 100, 40].map(|n| dice.under(n) as usize);
+                let [desk, sheet, seen, slip] = [1800, 30, 100, 40].map(|n| dice.under(n) as usize);
                 lent(desk, sheet, seen, slip)
             }
             1 => lent_for(3),
+            2 => Bench::declaring(3, &[1]),
             _ => Bench::new(3),
         };
+        if dice.under(20) == 0 {
+            b.history.truncate(dice.under(514) as usize);
+        }
         if dice.under(3) == 0 {
             for _ in 0..1 + dice.under(3) {
                 let buffer = match dice.under(9) {
@@ -4766,7 +4958,7 @@ fn any_bytes_at_all() {
             }
             if dice.under(2) == 0
                 && b.desk.get(0) == Some(&3)
-                && b.desk.len() >= 1398
+                && b.desk.len() >= 1674
                 && b.seen.len() >= 36
             {
                 b.set_count([1, 2, 3, 0x0403_0201, u32::MAX - 1, u32::MAX][dice.under(6) as usize]);
@@ -4778,14 +4970,26 @@ fn any_bytes_at_all() {
             }
         }
         let answer = if dice.under(3) == 0 {
-            dice.under(13) as u8
+            dice.under(21) as u8
         } else {
             0
         };
         let opened = u8::from(dice.under(4) != 0);
-        let kept = if answer == 0 { dice.under(7) as u8 } else { 0 };
-        let stream: Vec<u8> = match dice.under(4) {
+        let kept = match (answer, opened) {
+            (0, 0) => dice.under(13) as u8,
+            (0, _) => dice.under(7) as u8,
+            _ => 0,
+        };
+        let stream: Vec<u8> = match dice.under(6) {
             0 => (0..dice.under(40)).map(|_| dice.next() as u8).collect(),
+            4 => log_declaring(
+                dice.under(5) as u8,
+                1 << dice.under(4),
+                &[take_cross(0, 1), take(0, 2, E), commit(0, 1), take(0, 1, E)],
+            ),
+            5 => (0..1 + dice.under(5))
+                .flat_map(|_| random_cross_record(&mut dice, 3, &MODES))
+                .collect(),
             1 => log(
                 dice.under(5) as u8,
                 &[take(0, 1, E), take(0, 2, E), take(0, 1, E)],
@@ -4794,9 +4998,8 @@ fn any_bytes_at_all() {
                 .flat_map(|_| random_record(&mut dice, 3, &MODES))
                 .collect(),
         };
-        let kept_here = stream.len().min(usize::from(kept)).min(5);
-        let mut loose = [0; 5];
-        loose[..kept_here].copy_from_slice(&stream[..kept_here]);
+        let kept_here = stream.len().min(usize::from(kept)).min(11);
+        let loose = &stream[..kept_here];
         let number = if opened == 0 {
             0
         } else {
@@ -4804,10 +5007,10 @@ fn any_bytes_at_all() {
         };
         let mut fed = Fed::lying(answer, opened, kept_here as u8, loose, number, b);
         if dice.under(10) == 0 {
-            fed.feed[dice.under(20) as usize] = dice.next() as u8;
+            fed.feed[dice.under(26) as usize] = dice.next() as u8;
         }
         if dice.under(20) == 0 {
-            fed.feed.truncate(dice.under(20) as usize);
+            fed.feed.truncate(dice.under(26) as usize);
         }
         let piece = &stream[kept_here..];
         let before = fed.clone();
@@ -4822,11 +5025,15 @@ fn any_bytes_at_all() {
         // What should lie there, item by item.
         let mut expected = before.clone();
         let (mut answer, mut opened) = (before.feed[0], before.feed[1]);
-        let mut number = u64::from_le_bytes(before.feed[8..16].try_into().unwrap());
+        let mut number = u64::from_le_bytes(before.feed[14..22].try_into().unwrap());
         let mut row = [&before.feed[3..3 + usize::from(before.feed[2])], piece].concat();
         for ended in [false, true] {
             while answer == 0 {
-                let whole = [4, 6][usize::from(opened)];
+                let whole = match (opened, row.get(2)) {
+                    (1, _) => 6,
+                    (_, Some(2)) => 12,
+                    _ => 4,
+                };
                 if row.len() < whole && !(ended && (opened == 0 || !row.is_empty())) {
                     break;
                 }
@@ -4840,24 +5047,26 @@ fn any_bytes_at_all() {
                 if item.len() == 4 && item[..3] == [0x4C, 0x48, 1] {
                     answer = expected.b.open(item[3].into());
                 }
+                if item.len() == 12 && item[..3] == [0x4C, 0x48, 2] {
+                    let word = u64::from_le_bytes(item[4..].try_into().unwrap());
+                    answer = expected.b.open_declared(item[3].into(), word);
+                }
                 opened = u8::from(answer == 0);
             }
             if answer != 0 {
                 row.clear();
             }
-            let mut loose = [0; 5];
-            loose[..row.len()].copy_from_slice(&row);
-            let past = before.feed[16..].to_vec();
+            let past = before.feed[22..].to_vec();
             expected.feed = Fed::lying(
                 answer,
                 opened,
                 row.len() as u8,
-                loose,
+                &row,
                 number,
                 lent(0, 0, 0, 0),
             )
             .feed;
-            expected.feed.truncate(16);
+            expected.feed.truncate(22);
             expected.feed.extend(past);
             assert_eq!(
                 (told, &fed),
@@ -4875,8 +5084,12 @@ fn any_bytes_at_all() {
         }
     }
     assert!(unfits > 3_000, "{unfits} unfit");
-    for answer in 0..12 {
-        assert!(seen[answer] > 20, "answer {answer}: {seen:?}");
+    for answer in STOPS_AND_0
+        .into_iter()
+        .chain([2])
+        .filter(|&answer| answer < 18)
+    {
+        assert!(seen[answer as usize] > 20, "answer {answer}: {seen:?}");
     }
 }
 
@@ -4890,7 +5103,7 @@ fn a_bench_written_meanwhile() {
         (&(|_: &mut Bench| ()) as &dyn Fn(&mut Bench), 0),
         (&|b| b.desk[1] = 1, 10),
         (&|b| b.desk[1] = 2, 11),
-        (&|b| b.desk.truncate(1397), 11),
+        (&|b| b.desk.truncate(1673), 11),
         (&|b| b.sheet.truncate(63), 11),
         (&|b| b.seen.truncate(255), 11),
         (&|b| b.slip.truncate(56), 11),
@@ -4936,7 +5149,7 @@ fn at_count(k: usize, count: u32) -> Bench {
 #[test]
 fn accepted_records_are_counted_and_no_others() {
     let mut b = Bench::new(3);
-    assert_eq!((b.count(), &b.desk[1394..]), (0, &[0, 0, 0, 0][..]));
+    assert_eq!((b.count(), &b.desk[1394..1398]), (0, &[0, 0, 0, 0][..]));
     let mut accepted = 0;
     let mut place = 0;
     let mut next = |record: &[u8], answer: u8| {
@@ -5594,7 +5807,7 @@ fn only_the_pairs_below_k_are_looked_at() {
         b.sheet[size..].copy_from_slice(&[EN, 0, EN, 255]);
         b.seen[4 * size..]
             .copy_from_slice(&[0, 0, 0, 0, 1, 0, 0, 0, 255, 255, 255, 255, 1, 0, 0, 0]);
-        b.desk[1398..].fill(255);
+        b.desk[1674..].fill(255);
         assert_eq!(b.unfit(), None, "{k}");
         assert_eq!(b.ask(k as u64 - 1), (0, 0, 0));
         let mut after = b.counted();
@@ -5918,7 +6131,7 @@ fn the_feed_and_refusal_9() {
     for room in 0..4u32 {
         let bench = at_count(8, u32::MAX - room);
         for cut in 0..=24 {
-            let mut fed = Fed::lying(0, 1, 0, [0; 5], 700, bench.clone());
+            let mut fed = Fed::lying(0, 1, 0, &[], 700, bench.clone());
             let bytes = records.concat();
             let told = [fed.feed(&bytes[..cut]), fed.feed(&bytes[cut..])];
             let stop = (9, 701 + u64::from(room));
@@ -5929,7 +6142,7 @@ fn the_feed_and_refusal_9() {
             };
             assert_eq!(told, [first, stop]);
             let after = bench.clone().clean(&records[..room as usize]);
-            assert_eq!(fed, Fed::lying(9, 1, 0, [0; 5], stop.1, after));
+            assert_eq!(fed, Fed::lying(9, 1, 0, &[], stop.1, after));
             fed.stands(9, stop.1);
         }
         // Short last records are a 3.
@@ -5937,7 +6150,7 @@ fn the_feed_and_refusal_9() {
             0,
             1,
             0,
-            [0; 5],
+            &[],
             700,
             bench.clone().clean(&records[..room as usize]),
         );
@@ -5951,7 +6164,7 @@ fn the_feed_and_refusal_9() {
         (event(0, EXIT_HARD), 6),
         ([0; 6], 3),
     ] {
-        let mut fed = Fed::lying(0, 1, 0, [0; 5], 0, at_count(8, u32::MAX));
+        let mut fed = Fed::lying(0, 1, 0, &[], 0, at_count(8, u32::MAX));
         assert_eq!(fed.feed(&r), (answer, 1));
     }
 }
@@ -6441,7 +6654,7 @@ fn a_malformed_record_is_skipped() {
         [0x4C, 0x48, 1, 8, 0, 0], // a header
         [0x4C, 0x48, 0, 0, 9, 0],
         [0x4C, 0x4B, 8, 0, 9, 0],
-        [0x4C, 0x4B, 0, 10, 0, 0],
+        [0x4C, 0x4B, 0, 13, 0, 0],
         [0x4C, 0x4B, 0, 0, 9, 6],
         [0x4C, 0x4B, 0, 1, 9, 6],
         [0x4C, 0x4B, 0, 1, 9, 255],
@@ -6982,12 +7195,39 @@ fn in_frame(k: usize, at: usize) -> Bench {
 /// Whether a bench is fit, read by the layout of request g byte by byte.
 fn fit_by_hand(b: &Bench) -> bool {
     let desk = &b.desk;
-    if desk.len() < 1398 || desk[0] < 1 || desk[0] > 64 || desk[1] > 1 {
+    if desk.len() < 1674 || desk[0] < 1 || desk[0] > 64 || desk[1] > 1 {
         return false;
     }
     let k = desk[0] as usize;
     if b.sheet.len() < k * k || b.seen.len() < 4 * k * k || b.slip.len() < 1 + 7 * k {
         return false;
+    }
+    // Crosslocks, class by class, and the history, entry by entry.
+    let mut in_progress = 0;
+    for class in 0..64 {
+        let bit = |at: usize| desk[at + class / 8] & 1 << (class % 8) != 0;
+        let (declared, taken) = (bit(1398), bit(1406));
+        if (declared && class >= k) || (taken && !declared) {
+            return false;
+        }
+        in_progress += u32::from(taken);
+    }
+    let kept = [1417, 1416, 1415, 1414].map(|at| desk[at]);
+    let kept = kept
+        .iter()
+        .fold(0u64, |sum, &byte| 256 * sum + u64::from(byte));
+    if in_progress > 16 || kept > 256 || b.history.len() < 512 {
+        return false;
+    }
+    for i in 0..kept as usize {
+        let fits = match (b.history[2 * i], b.history[2 * i + 1]) {
+            (0, second) => second == 0,
+            (1..=24, second) => second < 192 && usize::from(second & 63) < k,
+            _ => false,
+        };
+        if !fits {
+            return false;
+        }
     }
     for at in 0..24 {
         let (state, depth) = (desk[2 + at / 3], desk[10 + at] as usize);
@@ -7048,10 +7288,10 @@ fn assert_unfit(b: &Bench) {
     assert_eq!((b.least_circle(), b.all_circles(1)), (None, vec![]));
     assert!(!b.true_circle(&b.slip));
     // By an opened feed too, for a whole record and for a short one at the end.
-    let mut fed = Fed::lying(0, 1, 0, [0; 5], 6, b.clone());
+    let mut fed = Fed::lying(0, 1, 0, &[], 6, b.clone());
     assert_eq!(fed.feed(&take(0, 0, R)), (11, 7));
     assert_eq!(&fed.b, b);
-    let mut fed = Fed::lying(0, 1, 0, [0; 5], 6, b.clone());
+    let mut fed = Fed::lying(0, 1, 0, &[], 6, b.clone());
     assert_eq!((fed.feed(&[0x4C]), fed.end()), ((0, 6), (11, 7)));
     assert_eq!(&fed.b, b);
 }
@@ -7329,6 +7569,7 @@ fn all_frames_full_at_once() {
     let bits: Vec<bool> = places().map(|(at, p)| mode(at, p) == TRR).collect();
     desk.extend(packed(&bits));
     desk.extend([144, 4, 0, 0]);
+    desk.extend([0; 276]);
     assert_eq!(b.desk, desk);
     let [desk, sheet, seen] = naive.lie(false);
     assert_eq!((&b.desk, &b.sheet, &b.seen), (&desk, &sheet, &seen));
@@ -7363,7 +7604,7 @@ fn all_frames_full_at_once() {
         }
     }
     // 2 x 1,168 is 9 x 256 and 32.
-    assert_eq!(b.desk[1394..], [32, 9, 0, 0]);
+    assert_eq!(b.desk[1394..1398], [32, 9, 0, 0]);
     assert!(b.desk[98..1394].iter().all(|&x| x == 0));
 }
 
@@ -7591,9 +7832,9 @@ fn the_newest_of_two_places() {
 #[test]
 fn desks_of_every_length() {
     let opened = Bench::new(2).clean(&[take(0, 0, R), take(0, 1, TRR)]);
-    for length in 0..=1420 {
+    for length in (0..=1700).step_by(3).chain([1397, 1398, 1673, 1674]) {
         let mut b = lent(length, 4, 16, 15);
-        if length < 1398 {
+        if length < 1674 {
             // "Old desks in shorter buffers get 11"; opening gives 2.
             let before = b.clone();
             assert_eq!(b.open(2), 2);
@@ -7613,12 +7854,14 @@ fn desks_of_every_length() {
         }
         assert_eq!(b.open(2), 0);
         let mut b = b.clean(&[take(0, 0, R), take(0, 1, TRR)]);
-        assert!(b.desk[1398..].iter().all(|&x| x == 0xA5));
-        b.desk.truncate(1398);
+        assert!(b.desk[1674..].iter().all(|&x| x == 0xA5));
+        b.desk.truncate(1674);
         assert_eq!(b, opened);
     }
     // The old sizes, the next shorter one and some others, with every call.
-    for length in [577, 578, 638, 641, 642, 643, 1250, 1393, 1394, 1397] {
+    for length in [
+        577, 578, 638, 641, 642, 643, 1250, 1393, 1394, 1397, 1398, 1673,
+    ] {
         for fill in [0, 1, 0xA5, 255] {
             for desk in [&opened.desk, &old_layout(&opened), &Bench::new(2).desk] {
                 let mut b = opened.clone();
@@ -7631,7 +7874,7 @@ fn desks_of_every_length() {
             }
         }
     }
-    for length in [1398, 1399, 1400, 2000, 70_000] {
+    for length in [1674, 1675, 1676, 2000, 70_000] {
         let mut b = opened.clone();
         b.desk.resize(length, 0xA5);
         let mut after = b.counted();
@@ -7655,15 +7898,15 @@ fn old_layout(b: &Bench) -> Vec<u8> {
             old[578 + (20 * at + place) / 8] |= origin << ((20 * at + place) % 8);
         }
     }
-    old[638..].copy_from_slice(&b.desk[1394..]);
+    old[638..].copy_from_slice(&b.desk[1394..1398]);
     old
 }
 
-/// This bench with an old desk, and these bytes behind up to 1,398.
+/// This bench with an old desk, and these bytes behind up to 1,674.
 fn with_old_desk(b: &Bench, old: &[u8], fill: u8) -> Bench {
     let mut b = b.clone();
     b.desk = old.to_vec();
-    b.desk.resize(1398, fill);
+    b.desk.resize(1674, fill);
     b
 }
 
@@ -7694,7 +7937,7 @@ fn old_desks_that_read_the_same() {
             }
         }
         let mut counted = with_old_desk(&b, &old, 0);
-        counted.desk[1394..].copy_from_slice(&[4, 3, 2, 1]);
+        counted.desk[1394..1398].copy_from_slice(&[4, 3, 2, 1]);
         assert_eq!(counted.step(&event(0, HARD_ON)), 0);
         assert_eq!(counted.count(), 0x0102_0305);
     }
@@ -8307,9 +8550,9 @@ fn a_refused_release_changes_no_byte() {
                 b.refused(&r, answer);
                 // By an opened feed the answer stands, and no byte of the bench changes.
                 if mode < 8 || mode > 253 {
-                    let mut fed = Fed::lying(0, 1, 0, [0; 5], 10, b.clone());
+                    let mut fed = Fed::lying(0, 1, 0, &[], 10, b.clone());
                     assert_eq!(fed.feed(&r), (answer, 11));
-                    assert_eq!(fed, Fed::lying(answer, 1, 0, [0; 5], 11, b.clone()));
+                    assert_eq!(fed, Fed::lying(answer, 1, 0, &[], 11, b.clone()));
                 }
             }
         }
@@ -8905,6 +9148,26 @@ impl Bench {
     }
 }
 
+/// Declares the classes of this word that the bench has, takes any of them, and keeps any
+/// number of takes. The history is left as it is.
+fn in_the_middle(dice: &mut Dice, b: &mut Bench, declared: u64) {
+    let declared = (0..b.desk[0]).filter(|class| declared >> class & 1 == 1);
+    let mut in_progress = 0;
+    for class in declared {
+        let (at, bit) = (class as usize / 8, 1 << (class % 8));
+        b.desk[1398 + at] |= bit;
+        if in_progress < 16 && dice.under(2) == 0 {
+            in_progress += 1;
+            b.desk[1406 + at] |= bit;
+        }
+    }
+    let kept = [0, 1, 255, 256, dice.under(257)][dice.under(5) as usize];
+    b.desk[1414..1418].copy_from_slice(&(kept as u32).to_le_bytes());
+    for byte in &mut b.desk[1418..1674] {
+        *byte = dice.next() as u8;
+    }
+}
+
 /// What a join of two fit and open benches of one K should answer and leave in these
 /// buffers, worked out kind by kind and mark by mark, with the circle from this function.
 fn plainly(
@@ -8914,8 +9177,9 @@ fn plainly(
     circle_of: fn(&Bench) -> Option<Vec<Triple>>,
 ) -> (u8, Bench) {
     let k = one.desk[0] as usize;
-    let mut desk = vec![0u8; 1398];
+    let mut desk = vec![0u8; 1674];
     desk[0] = one.desk[0];
+    desk[1398..1406].copy_from_slice(&one.desk[1398..1406]);
     for class in 0..k {
         for bit in 0..8 {
             let has = |b: &Bench| b.desk[34 + class] / (1 << bit) % 2 == 1;
@@ -8943,6 +9207,7 @@ fn plainly(
         desk,
         sheet,
         seen,
+        history: into.history.clone(), // a join has none
         slip,
     };
     let circle = circle_of(&wanted);
@@ -9011,12 +9276,13 @@ fn a_clean_join_byte_by_byte() {
     assert_eq!(two.sheet, [0, 0, 0, 0, 0, SR, 0, 0, SR]);
     assert_eq!(two.seen, bytes_of(&[0, 0, 0, 0, 0, 3, 0, 0, 4]));
     let wanted = |numbers: [u32; 9]| {
-        let mut desk = vec![0; 1398];
+        let mut desk = vec![0; 1674];
         (desk[0], desk[34], desk[35], desk[36]) = (3, 26, 76, 76);
         Bench {
             desk,
             sheet: vec![0, 0, 0, 0, 0, EN | SR, 0, 0, SR],
             seen: bytes_of(&numbers),
+            history: vec![0xA5; 512],
             slip: vec![0xA5; 22],
         }
     };
@@ -9036,7 +9302,7 @@ fn a_fault_byte_by_byte() {
     let one = Bench::new(3).clean(&p2_records()[..4]);
     let two = Bench::new(3).clean(&[event(4, HARD_ON), take(4, 2, E), take(4, 1, E)]);
     let wanted = |first: u32, second: u32| {
-        let mut desk = vec![0; 1398];
+        let mut desk = vec![0; 1674];
         (desk[0], desk[1], desk[35], desk[36]) = (3, 1, 68, 68);
         let mut slip = entries(&[(1, EN, 0, first), (2, EN, 0, second)]);
         slip.resize(22, 0xA5);
@@ -9044,6 +9310,7 @@ fn a_fault_byte_by_byte() {
             desk,
             sheet: vec![0, 0, 0, 0, 0, EN, 0, EN, 0],
             seen: bytes_of(&[0, 0, 0, 0, 0, first, 0, second, 0]),
+            history: vec![0xA5; 512],
             slip,
         }
     };
@@ -9064,7 +9331,7 @@ fn a_fault_byte_by_byte() {
 /// slip's.
 fn ways_to_be_unfit() -> Vec<(&'static str, fn(&mut Bench))> {
     vec![
-        (CLAUSES[0], |b| b.desk.truncate(1397)),
+        (CLAUSES[0], |b| b.desk.truncate(1673)),
         (CLAUSES[0], |b| b.desk.clear()),
         (CLAUSES[1], |b| b.desk[0] = 0),
         (CLAUSES[1], |b| b.desk[0] = 65),
@@ -9085,6 +9352,11 @@ fn ways_to_be_unfit() -> Vec<(&'static str, fn(&mut Bench))> {
         (CLAUSES[16], |b| b.seen.truncate(255)),
         (CLAUSES[17], |b| b.sheet[63] = SR),
         (CLAUSES[18], |b| b.seen[255] = 1),
+        (CLAUSES[19], |b| b.desk[1399] = 1),
+        (CLAUSES[19], |b| b.desk[1405] = 128),
+        (CLAUSES[20], |b| b.desk[1406] = 1),
+        (CLAUSES[20], |b| b.desk[1413] = 128),
+        (CLAUSES[22], |b| (b.desk[1414], b.desk[1415]) = (1, 1)),
     ]
 }
 
@@ -9126,7 +9398,7 @@ fn either_bench_unfit() {
         assert!(b.books().is_none());
     }
     let mut clauses = CLAUSES.to_vec();
-    clauses.retain(|&clause| clause != "slip too short");
+    clauses.retain(|&clause| clause != "slip too short" && clause != "more than 16 in progress");
     assert_eq!(met, clauses);
     // The good one joins, a number above its count or not: nothing ties them.
     let mut b = good.clone();
@@ -9141,7 +9413,7 @@ fn either_bench_unfit() {
 
 /// Room for this K, with one buffer (desk, sheet, second sheet, slip) this much longer.
 fn room(k: usize, which: usize, more: isize) -> Bench {
-    let mut sizes = [1398, k * k, 4 * k * k, 1 + 7 * k];
+    let mut sizes = [1674, k * k, 4 * k * k, 1 + 7 * k];
     sizes[which] = sizes[which].saturating_add_signed(more);
     lent(sizes[0], sizes[1], sizes[2], sizes[3])
 }
@@ -9200,7 +9472,7 @@ fn buffers_to_be_written() {
                     let small = room(smaller, 0, 0);
                     let mut into = lent_for(larger);
                     match which {
-                        0 => into.desk.truncate(1397),
+                        0 => into.desk.truncate(1673),
                         1 => into.sheet = small.sheet,
                         2 => into.seen = small.seen,
                         _ => into.slip = small.slip,
@@ -9238,7 +9510,7 @@ fn refusals_of_a_join_in_order() {
         ];
         for (i, buffer) in lengths.into_iter().enumerate() {
             let k = if has(6) { 5 } else { 4 };
-            let size = [1398, k * k, 4 * k * k, 1 + 7 * k][i];
+            let size = [1674, k * k, 4 * k * k, 1 + 7 * k][i];
             buffer.truncate(size - usize::from(has(2 + i as u32)));
         }
         let answer = match code {
@@ -9330,8 +9602,8 @@ fn longer_buffers_of_a_join() {
                 let mut into = lent(2_000, 5_000, 20_000, 600);
                 let before = into.clone();
                 assert_eq!(one.join(&two, &mut into), answer);
-                assert_eq!(into.desk[..1398], exact.desk[..]);
-                assert_eq!(into.desk[1398..], before.desk[1398..]);
+                assert_eq!(into.desk[..1674], exact.desk[..]);
+                assert_eq!(into.desk[1674..], before.desk[1674..]);
                 assert_eq!(into.sheet[..k * k], exact.sheet[..]);
                 assert_eq!(into.sheet[k * k..], before.sheet[k * k..]);
                 assert_eq!(into.seen[..4 * k * k], exact.seen[..]);
@@ -9885,6 +10157,7 @@ fn with_an_empty_bench() {
         let mut wanted = b.clone();
         wanted.desk[2..34].fill(0);
         wanted.desk[98..].fill(0);
+        wanted.history = vec![0xA5; 512];
         let circle = by_choosing(&b);
         assert_eq!(circle.is_some(), round % 4 == 0);
         wanted.desk[1] = u8::from(circle.is_some());
@@ -9997,6 +10270,14 @@ fn any_benches_joined_plainly() {
             .iter()
             .map(|b| closed_strong_path(&b.desk, &b.sheet))
             .collect();
+        // In the middle of crosslocks, mostly of the same declaration.
+        let declared = dice.next();
+        for b in &mut benches {
+            let other = dice.under(12) == 0;
+            let declared = if other { dice.next() } else { declared };
+            in_the_middle(&mut dice, b, declared);
+            assert_eq!(unfit(&b.desk, &b.sheet, &b.seen, None), None);
+        }
         if dice.under(8) == 0 {
             benches[dice.under(2) as usize].desk[1] = 1;
         }
@@ -10004,7 +10285,7 @@ fn any_benches_joined_plainly() {
             let b = &mut benches[dice.under(2) as usize];
             match dice.under(5) {
                 0 => {
-                    let at = dice.under(1398) as usize;
+                    let at = dice.under(1674) as usize;
                     b.desk[at] = b.desk[at].wrapping_add(1 + dice.under(200) as u8);
                 }
                 1 => b.sheet[0] ^= 1 << dice.under(5),
@@ -10035,6 +10316,7 @@ fn any_benches_joined_plainly() {
         let fit = |b: &Bench| {
             let mut b = b.clone();
             b.slip = vec![0; 449];
+            b.history = vec![0; 512];
             fit_by_hand(&b)
         };
         let before = into.clone();
@@ -10044,11 +10326,12 @@ fn any_benches_joined_plainly() {
             11
         } else {
             let larger = usize::from(one.desk[0].max(two.desk[0]));
-            let short = before.desk.len() < 1398
+            let short = before.desk.len() < 1674
                 || before.sheet.len() < larger * larger
                 || before.seen.len() < 4 * larger * larger
                 || before.slip.len() < 1 + 7 * larger;
-            match (short, one.desk[0] == two.desk[0], one.desk[1] + two.desk[1]) {
+            let same = one.desk[0] == two.desk[0] && one.desk[1398..1406] == two.desk[1398..1406];
+            match (short, same, one.desk[1] + two.desk[1]) {
                 (true, _, _) => 11,
                 (_, false, _) => 12,
                 (_, _, 1..) => 13,
@@ -10246,7 +10529,7 @@ fn steps_on_a_joined_desk() {
         entries(&[(2, SR, 0, 72), (3, EN, 0, 3)])
     );
     for cut in 0..24 {
-        let mut fed = Fed::lying(0, 1, 0, [0; 5], 41, joined.clone());
+        let mut fed = Fed::lying(0, 1, 0, &[], 41, joined.clone());
         let bytes = records.concat();
         fed.feed(&bytes[..cut]);
         assert_eq!(fed.feed(&bytes[cut..]), (1, 44));
@@ -10474,13 +10757,21 @@ fn join_wanted(log1: &[u8], log2: &[u8]) -> String {
         return dirty;
     }
     let benches = [log1, log2].map(|log| {
-        let mut b = Bench::new(log[3] as usize);
-        for r in log[4..].chunks(6) {
+        let mut b = lent_for(log[3] as usize);
+        let records = if log[2] == 2 {
+            let word = u64::from_le_bytes(log[4..12].try_into().unwrap());
+            assert_eq!(b.open_declared(log[3].into(), word), 0);
+            &log[12..]
+        } else {
+            assert_eq!(b.open(log[3].into()), 0);
+            &log[4..]
+        };
+        for r in records.chunks(6) {
             assert_eq!(b.step(r), 0);
         }
         b
     });
-    if log1[3] != log2[3] {
+    if log1[3] != log2[3] || benches[0].desk[1398..1406] != benches[1].desk[1398..1406] {
         return "refused 12\n".to_string();
     }
     let into = lent_for(log1[3] as usize);

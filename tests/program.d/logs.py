@@ -8,24 +8,24 @@ BOUNDARIES = [BUFFER, 2 * BUFFER, 3 * BUFFER]
 FEW, BUSY_CORES, FREE_CORES = 8, range(2, 8), (0, 1)
 
 
-def end_of(number):
-    """The offset behind a record."""
-    return HEADER + RECORD * number
+def end_of(number, data=b""):
+    """The offset behind a record of a log, or of any with the header of version 01."""
+    return header_size(data) + RECORD * number
 
 
-def record_at(offset):
+def record_at(offset, data=b""):
     """The number of the record that has the byte at an offset."""
-    return (offset - HEADER) // RECORD + 1
+    return (offset - header_size(data)) // RECORD + 1
 
 
 # ---- logs whose record of a chosen number decides. The clean records before it leave FREE_CORES and the last class alone.
 
 LAST = FEW - 1
 BAD_RECORDS = {  # refused with 3
-    "first byte": b"\x4D\x4B\x00\x00\x00\x00", "second byte": b"\x4C\x48\x00\x00\x00\x00", "core": record(8, ACQUIRE), "kind": record(0, 10),
+    "first byte": b"\x4D\x4B\x00\x00\x00\x00", "second byte": b"\x4C\x48\x00\x00\x00\x00", "core": record(8, ACQUIRE), "kind": record(0, CROSS_RELEASE + 1),
     "mode": record(0, ACQUIRE, 0, MODES), "mode and class": record(0, ACQUIRE, 255, MODES), "mode of a release": record(0, RELEASE, 0, MODES),
     "mode and class of a release": record(0, RELEASE, 255, MODES), "class of an event": record(0, HARD_ON, 1), "mode of an event": record(0, SOFT_OFF, 0, 1),
-    "header again": header(1) + header(1)[:2],
+    "header again": header(1) + header(1)[:2], "mode of a crosslock": record(0, CROSS_ACQUIRE, 0, 1), "mode of a commit": record(0, COMMIT, 255, 1),
 }
 
 # By name: the records at the start, and those that end with the one that decides.
@@ -48,6 +48,30 @@ DECIDING = {
     "refused 8": ([], [record(0, ACQUIRE, LAST, RECURSIVE_READ)] * (DEPTH + 1)),
     "refused 8, try": ([], [record(0, ACQUIRE, LAST, TRY)] * (DEPTH + 1)),
 } | {f"refused 3, {name}": ([], [bad]) for name, bad in BAD_RECORDS.items()}
+
+# The same with crosslocks: a class more that the clean records leave alone, and behind it one crosslock, or seventeen. None is in progress while the clean
+# records go on.
+SPARE, CROSSLOCK = FEW, FEW + 1
+CROSS_HEAD, WIDE_HEAD = header(CROSSLOCK + 1, 1 << CROSSLOCK), header(2 * FEW + 17, (1 << 17) - 1 << 2 * FEW)
+WAITING = [record(0, HARD_OFF), record(0, SOFT_OFF), record(0, ACQUIRE, SPARE), record(0, CROSS_ACQUIRE, CROSSLOCK)]
+FULL = [record(0, CROSS_ACQUIRE, CROSSLOCK)] + [record(0, ACQUIRE, SPARE), record(0, RELEASE, SPARE)] * KEPT
+CROSS_DECIDING = {
+    "fault by a commit": ([], [record(0, ACQUIRE, 1), record(0, CROSS_ACQUIRE, CROSSLOCK), record(1, ACQUIRE, 1), record(1, COMMIT, CROSSLOCK)]),
+    "fault by a commit in a handler": ([record(1, ENTER_SOFT)], [*WAITING, record(1, ACQUIRE, SPARE), record(1, RELEASE, SPARE), record(1, ENTER_HARD),
+                                                                 record(1, EXIT_HARD), record(1, COMMIT, CROSSLOCK)]),
+    "refused 4, commit": ([], [record(0, COMMIT, CROSSLOCK + 1)]),
+    "refused 15": ([], [record(0, ACQUIRE, CROSSLOCK, TRY)]),
+    "refused 15, commit": ([], [record(0, COMMIT, SPARE)]),
+    "refused 16": ([], [record(0, CROSS_ACQUIRE, CROSSLOCK), record(1, CROSS_ACQUIRE, CROSSLOCK)]),
+    "refused 17": ([], [record(0, COMMIT, CROSSLOCK)]),
+    "refused 18": ([], [record(0, CROSS_ACQUIRE, 2 * FEW + c) for c in range(17)]),
+    "refused 19": ([], FULL + [record(1, ACQUIRE, SPARE)]),
+}
+DECIDING |= CROSS_DECIDING | {"refused 15, version 01": ([], [record(0, CROSS_ACQUIRE, 1)])}
+
+
+def head_of(name):
+    return WIDE_HEAD if name == "refused 18" else CROSS_HEAD if name in CROSS_DECIDING else header(FEW)
 
 
 def held_for_a_time(core, locks, rng):
@@ -80,13 +104,13 @@ def deciding_log(name, number):
     start, deciding = DECIDING[name]
     rng = random.Random(f"{name} {number}")
     after = DECIDING["refused 6" if name.startswith("refused 3") else "refused 3, core"][1] + clean_records(9, rng)
-    return header(FEW) + b"".join(start + clean_records(number - len(start) - len(deciding), rng) + deciding + after)
+    return head_of(name) + b"".join(start + clean_records(number - len(start) - len(deciding), rng) + deciding + after)
 
 
-def clean_log(number, loose=0):
+def clean_log(number, loose=0, head=header(FEW)):
     """A clean log of so many records, and behind them the first bytes of one more."""
     rng = random.Random(f"clean {number}")
-    return header(FEW) + b"".join(clean_records(number, rng)) + record(0, ACQUIRE)[:loose]
+    return head + b"".join(clean_records(number, rng)) + record(0, ACQUIRE)[:loose]
 
 
 def long_log(number):
@@ -109,24 +133,35 @@ def divided_logs():
             yield f"{name} at record 9, record {9 - back} cut", deciding_log(name, 9), end_of(9), end_of(8 - back)
     for loose in range(RECORD):
         yield f"{loose} bytes behind record 3", clean_log(3, loose), None, end_of(3 if loose else 2)
+    for name in ("fault by a commit", "refused 17"):
+        yield f"{name} at record 9 cut", deciding_log(name, 9), end_of(9, CROSS_HEAD), end_of(8, CROSS_HEAD)
+    for loose in (0, 1, 5):
+        yield f"{loose} bytes behind record 3, version 02", clean_log(3, loose, CROSS_HEAD), None, end_of(3 if loose else 2, CROSS_HEAD)
 
 
-def decided_logs(numbers, names):
-    """(name, log, the offset from which nothing matters any more, or None where the end of the log matters)."""
-    for number in numbers:
+def decided_logs(places, names):
+    """(name, log, the offset from which nothing matters any more, or None where the end of the log matters). The places are those of the records that decide:
+    (the offset of a byte of one, how many records behind that)."""
+    for offset, by in places:
         for name in names:
-            yield f"{name} at record {number}", deciding_log(name, number), end_of(number)
-        for loose in range(RECORD):
-            yield f"{loose} bytes behind record {number}", clean_log(number, loose), None
+            number = record_at(offset, head_of(name)) + by
+            yield f"{name} at record {number}", deciding_log(name, number), end_of(number, head_of(name))
+        for head in (header(FEW), CROSS_HEAD):
+            number = record_at(offset, head) + by
+            for loose in range(RECORD) if head != CROSS_HEAD else (0, 4):
+                yield f"{loose} bytes behind record {number}{', version 02' * (head == CROSS_HEAD)}", clean_log(number, loose, head), None
 
 
 # ---- records, byte by byte
 
 def byte_logs(kind, at):
-    """A clean record and then one of a kind, a release of its lock, with every value of its byte at an offset."""
-    good = record(0, kind, 0 if kind > RELEASE else 1, RECURSIVE_READ if kind == RELEASE else 0)
+    """A clean record and then one of a kind, a release of its lock, or, of a crosslock's, behind two more, with every value of its byte at an offset."""
+    good, head, before = record(0, kind, 0 if kind > RELEASE else 1, RECURSIVE_READ if kind == RELEASE else 0), header(FEW), b""
+    if kind >= CROSS_ACQUIRE:
+        good, head = record(0, kind, CROSSLOCK), CROSS_HEAD
+        before = record(1, CROSS_ACQUIRE, CROSSLOCK) + (record(1, CROSS_RELEASE, CROSSLOCK) if kind == CROSS_ACQUIRE else record(0, ACQUIRE, 1))
     for byte in range(256):
-        yield header(FEW) + record(0, ACQUIRE, 1, RECURSIVE_READ) + good[:at] + bytes([byte]) + good[at + 1:]
+        yield head + record(0, ACQUIRE, 1, RECURSIVE_READ if kind < CROSS_ACQUIRE else TRY) + before + good[:at] + bytes([byte]) + good[at + 1:]
 
 
 def release_logs(mode):
@@ -154,6 +189,17 @@ def header_logs():
     yield "a record for a header", record(0, ACQUIRE) * 3
     yield "64 classes", header(64) + record(0, ACQUIRE, 63)
     yield "a header only", good
+    good = header(FEW, 1 << LAST)
+    for size in range(HEADER, CROSS_HEADER):
+        yield f"a header of version 02, {size} bytes", good[:size]
+        yield f"a header of version 02 with a wrong first byte, {size} bytes", b"\x4D" + good[1:size]
+    for at, byte in ((0, 0), (1, 0x4B), (2, 3), (3, 0), (3, LAST), (3, 65), (3, 255), *((at, 1 << at % 8) for at in range(HEADER + 1, CROSS_HEADER))):
+        yield f"byte {at} of the header of version 02 {byte}", good[:at] + bytes([byte]) + good[at + 1:] + record(0, ACQUIRE)
+    yield "version 02, the first byte of the word 255", header(FEW, 255) + record(0, CROSS_ACQUIRE)
+    each = b"".join(record(0, kind, c) for c in range(64) for kind in (CROSS_ACQUIRE, CROSS_RELEASE))
+    yield "version 02, 64 classes, all declared", header(64, (1 << 64) - 1) + each
+    yield "version 02, none declared", header(FEW, 0) + record(0, ACQUIRE, LAST)
+    yield "a header of version 02 only", good
 
 
 # ---- random logs
@@ -169,9 +215,11 @@ class Walk:
     HELD_BETWEEN = [(0, 1), (0, 2), (0, 3), (0, 3), (1, 2), (1, 3), (2, 3), (2, 3), (2, 3)]
     TRIED_BETWEEN = [(0, 1), (0, 2), (0, 3), (0, 3), (0, 2), (0, 3), (0, 3), (0, 3), (0, 3)]
 
-    def __init__(self, classes, rng):
+    def __init__(self, classes, rng, declared=0):
+        """With crosslocks, if any are declared: they have ranks as the others do."""
         self.rng = rng
-        self.machine = Machine(classes)
+        self.machine = Machine(classes, declared)
+        self.crosslocks = list(members(declared))
         self.records = []
         self.by_rank = rng.sample(range(classes), classes)
         self.rank = {c: i for i, c in enumerate(self.by_rank)}
@@ -197,16 +245,28 @@ class Walk:
         over = max((self.rank[c] for c, _, _ in held), default=-1)
         if over in ranks and self.rng.random() < 0.2 and all(m == RECURSIVE_READ for c, m, _ in held if self.rank[c] == over):
             return record(core, ACQUIRE, self.by_rank[over], RECURSIVE_READ)
-        free = [r for r in ranks if r > over]
+        free = [r for r in ranks if r > over and self.by_rank[r] not in self.crosslocks]
         return free and record(core, ACQUIRE, self.by_rank[self.rng.choice(free[:5])], self.rng.randrange(TRY))
 
     def orderly_try(self, core):
         """Of any class that may be held, half of the time of a held one or one below it."""
         over = max((self.rank[c] for c, _, _ in self.machine.held_now(core)), default=-1)
         ranks = self.ranks(self.machine.states[core], True)
+        ranks = [r for r in ranks if self.by_rank[r] not in self.crosslocks] if self.crosslocks else ranks
         low = [r for r in ranks if r <= over]
         ranks = low if low and self.rng.random() < 0.5 else ranks
         return ranks and record(core, ACQUIRE, self.by_rank[self.rng.choice(ranks)], self.rng.randrange(TRY, MODES))
+
+    def orderly_cross(self, core):
+        """A crosslock over all that is held here, or a commit of one that is below all that it leads to, or a release."""
+        begun, which = list(self.machine.progress), self.rng.random()
+        if not begun or which < 0.3:
+            c = self.rng.choice(self.crosslocks)
+            return all(self.rank[h] < self.rank[c] for h, _, _ in self.machine.held_now(core)) and record(core, CROSS_ACQUIRE, c)
+        c = self.rng.choice(begun)
+        if which < 0.75:
+            return all(self.rank[c] < self.rank[to] for to, _ in self.machine.committed(core, c)) and record(core, COMMIT, c)
+        return record(core, CROSS_RELEASE, c)
 
     def orderly_event(self, core):
         kind = self.rng.randrange(HARD_ON, EXIT_HARD + 1)
@@ -218,6 +278,8 @@ class Walk:
 
     def any_record(self, core):
         kind = self.rng.choice((ACQUIRE, ACQUIRE, ACQUIRE, self.rng.randrange(HARD_ON, EXIT_HARD + 1)))
+        if self.crosslocks and self.rng.random() < 0.3:
+            return record(core, self.rng.choice((CROSS_ACQUIRE, COMMIT, COMMIT)), self.rng.choice(self.crosslocks))
         if kind > ACQUIRE:
             return record(core, kind)
         return record(core, ACQUIRE, self.rng.randrange(self.machine.classes), self.rng.randrange(MODES))
@@ -229,6 +291,8 @@ class Walk:
             held = self.machine.held_now(core)
             if self.rng.random() < disorder:
                 rec = self.any_record(core)
+            elif self.crosslocks and self.rng.random() < 0.25:
+                rec = self.orderly_cross(core)
             elif which < 0.3:
                 rec = self.orderly_acquire(core)
             elif which < 0.45:
@@ -250,6 +314,55 @@ class Walk:
             self.put(record(self.free_core, ACQUIRE, second, self.rng.randrange(TRY, MODES)))
             self.put(self.machine.release(self.free_core, second))
         self.put(record(self.free_core, ACQUIRE, second))
+
+    def empty(self):
+        """Releases all crosslocks."""
+        for c in list(self.machine.progress):
+            self.put(record(self.free_core, CROSS_RELEASE, c))
+
+    def end_with_commit(self):
+        """On a free core a crosslock over a lock, and then that lock before the commit; in a handler or not, with other visits of one before it."""
+        locks = [c for c in self.by_rank if c not in self.crosslocks]
+        if not locks:
+            return
+        lock, crosslock, core = self.rng.choice(locks), self.rng.choice(self.crosslocks), self.free_core
+        if self.rng.random() < 0.5 or len(self.machine.history) > KEPT - 2:
+            self.empty()
+        for _ in range(self.rng.choice((0, 0, 1, 3))):
+            self.put(record(core, ENTER_SOFT)), self.put(record(core, EXIT_SOFT))
+        mode = self.rng.randrange(MODES)
+        self.put(record(core, ACQUIRE, lock, mode))
+        if crosslock in self.machine.progress:
+            self.put(record(core, CROSS_RELEASE, crosslock))
+        self.put(record(core, CROSS_ACQUIRE, crosslock))
+        self.put(record(core, RELEASE, lock, mode))
+        self.put(record(core, ACQUIRE, lock, self.rng.randrange(TRY)))
+        self.put(record(self.rng.choice((core, core, core, *self.cores)), COMMIT, crosslock))
+
+    def end_with_cross_refusal(self, number):
+        """A record that is refused with 15 to 19, or where that cannot be brought about with 15."""
+        rng, core, machine = self.rng, self.rng.choice(self.cores), self.machine
+        locks = [c for c in self.by_rank if c not in self.crosslocks]
+        begun, idle = list(machine.progress), [c for c in self.crosslocks if c not in machine.progress]
+        if number == 16 and (begun or idle):
+            self.put(record(core, CROSS_ACQUIRE, rng.choice(begun or idle)))
+            self.put(record(rng.choice(self.cores), CROSS_ACQUIRE, rng.choice(list(machine.progress))))
+        elif number == 17 and idle:
+            self.put(record(core, rng.choice((COMMIT, CROSS_RELEASE)), rng.choice(idle)))
+        elif number == 18 and len(self.crosslocks) > IN_PROGRESS:
+            self.empty()
+            for c in rng.sample(self.crosslocks, IN_PROGRESS + 1):
+                self.put(record(rng.choice(self.cores), CROSS_ACQUIRE, c))
+        elif number == 19 and locks:
+            self.put(record(core, CROSS_ACQUIRE, rng.choice(self.crosslocks))) if not begun else None
+            lock, mode, core = rng.choice(locks), rng.randrange(TRY), self.free_core
+            while self.put(record(core, ACQUIRE, lock, mode)):
+                self.put(record(core, RELEASE, lock, mode))
+        elif locks and rng.random() < 0.5:
+            self.put(record(core, rng.choice((CROSS_ACQUIRE, COMMIT, CROSS_RELEASE)), rng.choice(locks)))
+        else:
+            self.put(record(core, rng.choice((ACQUIRE, RELEASE)), rng.choice(self.crosslocks), rng.randrange(MODES)))
+        self.records += [record(0, EXIT_HARD), record(9, ACQUIRE)][:rng.randrange(3)]
 
     def end_with_refusal(self, number):
         """A record that is refused with this number, where it can be brought about, and others behind it."""
@@ -280,11 +393,12 @@ class Walk:
             self.records += [record(0, EXIT_HARD), record(9, ACQUIRE)][:rng.randrange(3)]
 
     def log(self):
-        return header(self.machine.classes) + b"".join(self.records)
+        return header(self.machine.classes, self.machine.declared or None) + b"".join(self.records)
 
 
 def random_log(intent, i):
-    """The i-th log of an intent: clean, fault, ring, handler, tie, churn, refused. The classes go from 1 to 64 again and again."""
+    """The i-th log of an intent: clean, fault, ring, handler, tie, churn, refused, and with crosslocks cross, cross fault, cross visits, cross refused. The
+    classes go from 1 to 64 again and again."""
     rng = random.Random(f"{intent} {i}")
     classes = 1 + i % MAX_CLASSES
     count = rng.randrange(*rng.choices((SHORT, MIDDLE, LONG), (50, 38, 12))[0])
@@ -292,14 +406,58 @@ def random_log(intent, i):
         return (ring_log if intent == "ring" else tie_log)(classes, rng)
     if intent in ("handler", "churn"):
         return (handler_log if intent == "handler" else churn_log)(max(classes, 2), rng)
-    walk = Walk(classes, rng)
-    walk.go(count, rng.choice((0, 0, 0.02, 0.2)) if intent == "fault" else 0)
-    if intent == "fault":
+    if intent == "cross visits":
+        return visits_log(max(classes, 3), rng)
+    walk = Walk(classes, rng, random_word(classes, rng) if intent.startswith("cross") else 0)
+    walk.go(count, rng.choice((0, 0, 0.02, 0.2)) if intent.endswith("fault") else 0)
+    if intent == "cross fault":
+        walk.end_with_commit()
+        walk.records += [record(0, EXIT_HARD)] * rng.randrange(2)
+    elif intent == "cross refused":
+        walk.end_with_cross_refusal(15 + rng.randrange(5))
+    elif intent == "fault":
         walk.end_with_fault()
         walk.records += [record(0, EXIT_HARD)] * rng.randrange(2)
     elif intent == "refused":
         walk.end_with_refusal(3 + rng.randrange(6))
     return walk.log()
+
+
+def random_word(classes, rng):
+    """Some of the classes, seldom all of them."""
+    share = rng.choice((0.1, 0.2, 0.3, 0.5, 0.8))
+    return sum(1 << c for c in range(classes) if rng.random() < share) | 1 << rng.randrange(classes)
+
+
+# By state the events of the cores in visits_log.
+VISITS = [(ENTER_SOFT, ENTER_HARD, HARD_ON), (), (), (), (HARD_OFF, EXIT_SOFT, ENTER_HARD), (HARD_ON,), (EXIT_HARD,), (), (EXIT_HARD,)]
+
+
+def visits_log(classes, rng):
+    """A crosslock over a lock, and then handlers of two cores, again and again, that acquire it or others and commit. A lock that only handlers with hard off
+    hold, and that was held with both off, closes no cycle but through the crosslock: the first commit in a visit that has acquired it is a fault."""
+    lock, other, crosslock = rng.sample(range(classes), 3)
+    machine, made = Machine(classes, 1 << crosslock), []
+    first = [record(0, HARD_OFF), record(0, SOFT_OFF), record(0, ACQUIRE, lock), record(0, CROSS_ACQUIRE, crosslock)]
+
+    def put(rec):
+        made.append(rec)
+        machine.accept(rec)
+
+    for rec in first:
+        put(rec)
+    for _ in range(rng.randrange(1, 300)):
+        core = rng.choice((1, 1, 2))
+        held, state = machine.held_now(core), machine.states[core]
+        taken = record(core, ACQUIRE, rng.choice((lock, other, other)), rng.choice((EXCLUSIVE, READ, RECURSIVE_READ, TRY)))
+        to = [c for c, _ in machine.committed(core, crosslock)]
+        events = [record(core, kind) for kind in VISITS[state]]
+        some = [machine.release(core, held[-1][0])] if held else [*events, *[taken] * (state in (5, 6, 8))]
+        some += [record(core, COMMIT, crosslock)] * (lock not in to or rng.random() < 0.1)
+        rec = rng.choice(some)
+        if not machine.refusal(rec) and not (rec[3] == ACQUIRE and machine.states[core] == 8 and rec[4] == lock):
+            put(rec)
+    return header(classes, 1 << crosslock) + b"".join(made)
 
 
 def or_try(mode, rng):
@@ -465,10 +623,11 @@ def stray_log(seeds, i):
         how = rng.randrange(4)
         if how == 0 and data:
             data[cut % len(data)] = rng.randrange(256)
-        elif how == 1 and len(data) >= HEADER + RECORD:
-            data[HEADER - 1 + RECORD * rng.randrange(1, (len(data) - HEADER) // RECORD + 1)] = rng.randrange(MODES + 1)
+        elif how == 1 and len(data) >= (size := header_size(data)) + RECORD:
+            data[size - 1 + RECORD * rng.randrange(1, (len(data) - size) // RECORD + 1)] = rng.randrange(MODES + 1)
         elif how == 2:
             del data[cut:]
         else:
-            data[cut:cut] = rng.choice(seeds)[HEADER:]
+            other = rng.choice(seeds)
+            data[cut:cut] = other[header_size(other):]
     return bytes(data)

@@ -47,6 +47,22 @@ PARTS = {
     f"{LAST} SN 5 with both off": off(*over((LAST, READ), (5, EXCLUSIVE))),
 }
 
+# The same of logs with a crosslock, which all but the first and the last two leave in progress: with clean records behind it the history may run full.
+OVER_CROSSLOCK = [record(ONE, ACQUIRE, SPARE), record(ONE, CROSS_ACQUIRE, CROSSLOCK)]
+CROSS_PARTS = {
+    "nothing in progress": [],
+    f"{SPARE} EN {CROSSLOCK}": OVER_CROSSLOCK,
+    f"{SPARE} SN {CROSSLOCK}": [record(ONE, ACQUIRE, SPARE, TRY + RECURSIVE_READ), record(ONE, CROSS_ACQUIRE, CROSSLOCK)],
+    f"{CROSSLOCK} EN {SPARE}": [record(ONE, CROSS_ACQUIRE, CROSSLOCK), record(OTHER, ACQUIRE, SPARE, READ), record(OTHER, COMMIT, CROSSLOCK)],
+    f"{CROSSLOCK} ER {SPARE}": [record(ONE, CROSS_ACQUIRE, CROSSLOCK), record(OTHER, ACQUIRE, SPARE, RECURSIVE_READ), record(OTHER, COMMIT, CROSSLOCK)],
+    f"{SPARE} kept, and not committed": [*OVER_CROSSLOCK, record(OTHER, ACQUIRE, SPARE)],
+    f"{SPARE} not kept, and committed": [record(OTHER, ACQUIRE, SPARE), record(ONE, CROSS_ACQUIRE, CROSSLOCK), record(OTHER, COMMIT, CROSSLOCK)],
+    "a full history": FULL,
+    f"{SPARE} EN {CROSSLOCK}, and released": [*OVER_CROSSLOCK, record(OTHER, CROSS_RELEASE, CROSSLOCK)],
+    f"{CROSSLOCK} EN {SPARE}, and released": [record(ONE, CROSS_ACQUIRE, CROSSLOCK), record(OTHER, ACQUIRE, SPARE), record(OTHER, COMMIT, CROSSLOCK),
+                                              record(ONE, CROSS_RELEASE, CROSSLOCK)],
+}
+
 # Pairs of them for the edges of buffers, and what the join says; each part decides.
 EDGES = {
     ("1 EN 2", "2 EN 1"): b"fault\n1 EN 2 hold\n2 EN 1 hold\n",
@@ -54,23 +70,28 @@ EDGES = {
     (f"{LAST}E in a task", f"{LAST}E in a hard handler"): b"fault\n7 EN 7 hard\n",
     (f"{LAST}R in a soft handler", f"{LAST}E in a task"): b"fault\n7 ER 7 soft\n",
     (f"{LAST}E in a hard handler", f"{LAST} EN 5 with both off"): b"fault\n5 EN 7 hard\n7 EN 5 hold\n",
+    (f"{SPARE} EN {CROSSLOCK}, and released", f"{CROSSLOCK} EN {SPARE}, and released"): b"fault\n8 EN 9 hold\n9 EN 8 hold\n",
 }
 
 
 def part_log(name, number=0, after=0):
     """A log that has a part, which ends with the record of this number or sooner, as far as it goes. Behind it stand others."""
     rng = random.Random(f"{name} {number} {after}")
-    part = PARTS[name]
-    return header(FEW) + b"".join(clean_records(max(number - len(part), 0), rng) + part + clean_records(after, rng))
+    part, head = (CROSS_PARTS[name], CROSS_HEAD) if name in CROSS_PARTS else (PARTS[name], header(FEW))
+    return head + b"".join(clean_records(max(number - len(part), 0), rng) + part + clean_records(after, rng))
 
 
 # Logs that say something by themselves, and some that do not; by name.
 OWN_LOGS = {
     "a header": header(FEW), "clean": clean_log(9), "1 EN 2": part_log("1 EN 2", 9), "2 EN 1": part_log("2 EN 1", 9),
     "nothing": b"", "a short header": header(FEW)[:3], "no header": record(0, ACQUIRE) * 3, "no classes": header(0), "65 classes": header(65),
-    "another version": b"LH\2\10", "another K": header(FEW + 1), "64 classes": header(64) + record(0, ACQUIRE, 63), "one class": header(1) + record(0, ACQUIRE),
+    "another version": b"LH\3\10", "another K": header(FEW + 1), "64 classes": header(64) + record(0, ACQUIRE, 63), "one class": header(1) + record(0, ACQUIRE),
     "a loose byte": clean_log(9, 1), "five loose bytes": clean_log(9, 5),
-    **{name: deciding_log(name, 60) for name in DECIDING if name.startswith(("fault", "refused")) and not name.startswith("refused 3")},
+    "none declared": header(FEW, 0), "one declared": header(FEW, 1), "another declared": header(FEW, 2), "more declared": header(FEW, 3),
+    "all declared": header(FEW, 255),
+    "a class too many declared": header(FEW, 256), "a short word": header(FEW, 1)[:-1], "64 classes, the last declared": header(64, 1 << 63),
+    **{name: deciding_log(name, 60 if name != "refused 19" else 520)
+       for name in DECIDING if name.startswith(("fault", "refused")) and not name.startswith("refused 3")},
     **{f"refused 3, {name}": deciding_log(f"refused 3, {name}", 9) for name in ("first byte", "core", "mode of a release")},
 }
 
@@ -161,9 +182,46 @@ def by_marks(i):
     return tuple(header(classes) + b"".join(rec for part in log for rec in part) for log in logs)
 
 
+def crossed_ring(classes, rng):
+    """Locks, and crosslocks between some of them: the dependencies that lead once round, in any order, each in the one log or in the other. Some joints are
+    weak."""
+    ring = rng.sample(range(classes), rng.randrange(2, min(classes, 9) + 1))
+    crosslocks = {c for c in ring[1::2] if rng.random() < 0.8}
+    word, logs = sum(1 << c for c in crosslocks), ([], [])
+    for a, b in rng.sample(list(zip(ring, ring[1:] + ring[:1])), len(ring)):
+        one, two = rng.sample(range(CORES), 2)
+        held, taken = (rng.choice((EXCLUSIVE, EXCLUSIVE, TRY, READ)), rng.choice((EXCLUSIVE, EXCLUSIVE, READ, RECURSIVE_READ)))
+        if b in crosslocks:
+            made = [record(one, ACQUIRE, a, held), record(one, CROSS_ACQUIRE, b), record(one, RELEASE, a, held), record(two, CROSS_RELEASE, b)]
+        elif a in crosslocks:
+            made = [record(one, CROSS_ACQUIRE, a), record(two, ACQUIRE, b, taken), record(two, RELEASE, b, taken), record(two, COMMIT, a),
+                    record(one, CROSS_RELEASE, a)]
+        else:
+            made = [record(one, ACQUIRE, a, held), record(one, ACQUIRE, b, taken), record(one, RELEASE, b, taken), record(one, RELEASE, a, held)]
+        rng.choice(logs).extend(made)
+    return tuple(header(classes, word) + b"".join(log) for log in logs)
+
+
+def crossed(i, rng):
+    """Two clean logs of one K and one declaration, each with ranks of its own; or a ring of locks and crosslocks dealt out to two."""
+    classes = 2 + i % (MAX_CLASSES - 1)
+    word = random_word(classes, rng)
+    if i % 2:
+        return crossed_ring(classes, rng)
+    logs = []
+    for _ in range(2):
+        walk = Walk(classes, rng, word)
+        walk.go(rng.randrange(*rng.choice((SHORT, MIDDLE))))
+        logs.append(walk.log())
+    return tuple(logs)
+
+
 def random_pair(intent, i):
-    """met: two clean logs of one K; marks; any: two logs of any sort, mostly of one K; other K."""
+    """met: two clean logs of one K; marks; any: two logs of any sort, mostly of one K; other K; crossed: two clean logs with the same crosslocks;
+    declared: with others."""
     rng = random.Random(f"{intent} {i}")
+    if intent in ("crossed", "declared"):
+        return crossed(i, rng) if intent == "crossed" else (random_log("cross", i), random_log("cross", i + MAX_CLASSES))
     if intent == "met":
         return random_log("clean", i), random_log("clean", i + MAX_CLASSES * rng.randrange(1, 40))
     if intent == "marks":

@@ -2,12 +2,13 @@
 what they reach, and the cycle that is shown. Of the program's faults the second program decides whether they are due."""
 import re
 
-ACQUIRE, RELEASE, HARD_ON, HARD_OFF, SOFT_ON, SOFT_OFF, ENTER_SOFT, EXIT_SOFT, ENTER_HARD, EXIT_HARD = range(10)
+ACQUIRE, RELEASE, HARD_ON, HARD_OFF, SOFT_ON, SOFT_OFF, ENTER_SOFT, EXIT_SOFT, ENTER_HARD, EXIT_HARD, CROSS_ACQUIRE, COMMIT, CROSS_RELEASE = range(13)
 EXCLUSIVE, READ, RECURSIVE_READ = range(3)
 TRY = 3  # added to one of these: a successful try
 MODES = 2 * TRY  # of an acquire and of the release that ends it
-HEADER, RECORD = 4, 6  # sizes
+HEADER, CROSS_HEADER, RECORD = 4, 12, 6  # sizes: of the header of version 01, of that of version 02, of a record
 MAX_CLASSES, CORES, DEPTH = 64, 8, 48
+IN_PROGRESS, KEPT = 16, 256  # the most
 
 # A core's next state: a row a state, a column an event from HARD_ON on, x where it is refused.
 NEXT = ["02014x6x", "1301xx7x", "0223xxxx", "1323xxxx", "45xxx08x", "45xxxxxx", "xxxxxxx0", "xxxxxxx1", "xxxxxxx4"]
@@ -16,8 +17,14 @@ KINDS, SOURCES = ("ER", "EN", "SR", "SN"), ("hold", "hard", "soft")  # in the or
 FRAME = [TASK, TASK, TASK, TASK, SOFT, SOFT, HARD, HARD, HARD]
 
 
-def header(classes):
-    return bytes([0x4C, 0x48, 1, classes])
+def header(classes, declared=None):
+    """Of version 02 where a word is given, 0 too, in which bit c is 1 for a crosslock c."""
+    return bytes([0x4C, 0x48, 1, classes]) if declared is None else bytes([0x4C, 0x48, 2, classes]) + declared.to_bytes(8, "little")
+
+
+def header_size(data):
+    """Of the header that a log begins with, as far as it is there: the third byte decides."""
+    return CROSS_HEADER if data[2:3] == b"\2" else HEADER
 
 
 def record(core, kind, lock_class=0, mode=0):
@@ -25,7 +32,7 @@ def record(core, kind, lock_class=0, mode=0):
 
 
 def records_of(data):
-    return [data[at:at + RECORD] for at in range(HEADER, len(data), RECORD)]
+    return [data[at:at + RECORD] for at in range(header_size(data), len(data), RECORD)]
 
 
 def first_letter(mode):
@@ -39,8 +46,11 @@ def second_letter(mode):
 class Machine:
     """What a log tells of: the cores and the dependency graph, after some of its records."""
 
-    def __init__(self, classes):
-        self.classes = classes
+    def __init__(self, classes, declared=0):
+        self.classes, self.declared = classes, declared
+        self.progress = {}  # by crosslock in progress how many acquires were kept before it
+        self.history = []  # (the visit, class, mode) of each acquire that is kept
+        self.visits = {}  # by core and frame how often it was entered: a task's never is
         self.states = [0] * CORES
         self.held = [[[], [], []] for _ in range(CORES)]  # by core and frame: (class, mode below TRY, by a try), oldest first
         self.hold_dependencies = set()  # (class, kind, class) of the dependencies between held locks
@@ -49,6 +59,15 @@ class Machine:
 
     def held_now(self, core):
         return self.held[core][FRAME[self.states[core]]]
+
+    def visit(self, core):
+        """What tells the current visit of a handler, or the task, from all others."""
+        place = core, FRAME[self.states[core]]
+        return *place, self.visits.get(place, 0)
+
+    def committed(self, core, lock_class):
+        """The (class, mode) of the acquires that a commit of a crosslock in progress draws dependencies to."""
+        return [(c, mode) for visit, c, mode in self.history[self.progress[lock_class]:] if visit == self.visit(core)]
 
     def newest(self, core, lock_class):
         """The place of the newest held lock of the class in the current frame, or None."""
@@ -64,14 +83,17 @@ class Machine:
         if len(rec) != RECORD or rec[0] != 0x4C or rec[1] != 0x4B:
             return 3
         _, _, core, kind, lock_class, mode = rec
-        if core >= CORES or kind > EXIT_HARD or mode >= MODES:
+        if core >= CORES or kind > CROSS_RELEASE or mode >= MODES:
             return 3
-        if kind > RELEASE and (lock_class or mode):
+        is_event = HARD_ON <= kind <= EXIT_HARD
+        if kind > RELEASE and mode or is_event and lock_class:
             return 3
         if lock_class >= self.classes:
             return 4
+        if not is_event and (kind >= CROSS_ACQUIRE) != self.declared >> lock_class & 1:
+            return 15
         held = self.held_now(core)
-        if kind > RELEASE and NEXT[self.states[core]][kind - HARD_ON] == "x":
+        if is_event and NEXT[self.states[core]][kind - HARD_ON] == "x":
             return 6
         if kind in (EXIT_SOFT, EXIT_HARD) and held:
             return 7
@@ -80,6 +102,14 @@ class Machine:
             return 5
         if kind == ACQUIRE and len(held) == DEPTH:
             return 8
+        if kind == CROSS_ACQUIRE and lock_class in self.progress:
+            return 16
+        if kind in (COMMIT, CROSS_RELEASE) and lock_class not in self.progress:
+            return 17
+        if kind == CROSS_ACQUIRE and len(self.progress) == IN_PROGRESS:
+            return 18
+        if kind == ACQUIRE and mode < TRY and self.progress and len(self.history) == KEPT:
+            return 19
         return 0
 
     def accept(self, rec):
@@ -90,10 +120,24 @@ class Machine:
             for older, older_mode, _ in held if not is_try else []:
                 self.hold_dependencies.add((older, first_letter(older_mode) + second_letter(mode), lock_class))
             held.append((lock_class, mode, is_try))
+            if self.progress and not is_try:
+                self.history.append((self.visit(core), lock_class, mode))
         elif kind == RELEASE:
             del held[self.newest(core, lock_class)]
+        elif kind == CROSS_ACQUIRE:
+            self.hold_dependencies.update((older, first_letter(older_mode) + "N", lock_class) for older, older_mode, _ in held)
+            self.progress[lock_class] = len(self.history)
+        elif kind == COMMIT:
+            self.hold_dependencies.update((lock_class, "E" + second_letter(m), c) for c, m in self.committed(core, lock_class))
+        elif kind == CROSS_RELEASE:
+            del self.progress[lock_class]
+            if not self.progress:
+                self.history = []
         else:
             self.states[core] = int(NEXT[self.states[core]][kind - HARD_ON])
+            if kind in (ENTER_SOFT, ENTER_HARD):
+                place = core, FRAME[self.states[core]]
+                self.visits[place] = self.visits.get(place, 0) + 1
         state = self.states[core]
         for c, m, is_try in self.held_now(core):
             if state in (6, 7, 8) and not is_try:
@@ -238,8 +282,17 @@ FAULT = re.compile(rb"fault at record " + NUMBER)
 ENTRY = re.compile(NUMBER + rb" (ER|EN|SR|SN) " + NUMBER + rb" (hold|hard|soft)")
 
 
+def machine_of(data):
+    """The machine that the header of a log opens, or None where it is refused."""
+    size = header_size(data)
+    if len(data) < size or data[:2] != b"LH" or data[2] not in (1, 2) or not 1 <= data[3] <= MAX_CLASSES:
+        return None
+    word = int.from_bytes(data[HEADER:size], "little")
+    return None if word >> data[3] else Machine(data[3], word)
+
+
 def is_header(data):
-    return len(data) >= HEADER and data[:HEADER - 1] == header(0)[:HEADER - 1] and 1 <= data[HEADER - 1] <= MAX_CLASSES
+    return machine_of(data) is not None
 
 
 def read_output(data, out, see=lambda machine, rec: None, see_tie=lambda what: None, see_refused=lambda machine, rec: None):
@@ -250,11 +303,11 @@ def read_output(data, out, see=lambda machine, rec: None, see_tie=lambda what: N
     if lines.pop() != b"":
         raise ValueError("no line end at the end")
     first, rest = (lines or [b""])[0], lines[1:]
-    good = is_header(data)
-    machine, records = (Machine(data[3]), records_of(data)) if good else (None, [])
+    machine = machine_of(data)
+    records = records_of(data) if machine else []
 
     def accepted(number):
-        if not good or number > len(records):
+        if not machine or number > len(records):
             raise ValueError("more records than the log has")
         for i, rec in enumerate(records[:number], 1):
             if machine.refusal(rec):
@@ -285,7 +338,7 @@ def read_output(data, out, see=lambda machine, rec: None, see_tie=lambda what: N
     if match := REFUSED.fullmatch(first):
         number, at = int(match[1]), int(match[2])
         if at == 0:
-            if good or number != 2:
+            if machine or number != 2:
                 raise ValueError("the header is not refused so")
         else:
             accepted(at - 1)
@@ -299,8 +352,8 @@ def read_output(data, out, see=lambda machine, rec: None, see_tie=lambda what: N
 # ---- two logs
 
 def joined(one, two):
-    """Two benches of one number of classes in one: the dependencies and the marks of either, and fresh cores."""
-    both = Machine(one.classes)
+    """Two benches of one number of classes and one declaration in one: the dependencies and the marks of either, fresh cores, and no crosslock in progress."""
+    both = Machine(one.classes, one.declared)
     for part in ("hold_dependencies", "safe", "unsafe"):
         setattr(both, part, getattr(one, part) | getattr(two, part))
     return both
@@ -308,9 +361,9 @@ def joined(one, two):
 
 def bench_of(data):
     """The machine that a clean log leaves. ValueError where the log is not clean by itself."""
-    if not is_header(data):
+    machine = machine_of(data)
+    if not machine:
         raise ValueError("its header is to be refused")
-    machine = Machine(data[HEADER - 1])
     for i, rec in enumerate(records_of(data), 1):
         if number := machine.refusal(rec):
             raise ValueError(f"its record {i} is to be refused with {number}")
@@ -350,8 +403,9 @@ def read_join(pair, out, bench=bench_of):
                 raise ValueError(f"log {number} is clean, and that is not said")
         return "own", [], own
     one, two = map(bench, pair)
-    cycle = joined(one, two).least_cycle() if one.classes == two.classes else None
-    due = b"refused 12\n" if one.classes != two.classes else b"fault\n" + cycle_text(cycle) if cycle else b"clean\n"
+    alike = (one.classes, one.declared) == (two.classes, two.declared)
+    cycle = joined(one, two).least_cycle() if alike else None
+    due = b"refused 12\n" if not alike else b"fault\n" + cycle_text(cycle) if cycle else b"clean\n"
     if out != due:
         raise ValueError(f"the join says {due!r}")
     return due.split()[0].decode(), cycle or [], {}

@@ -1,44 +1,67 @@
--- What each event comes to, from what the functions of `update` leave. Assumes nothing.
+-- What each event of a core comes to, from what the functions of `held`, `update` and `history` leave. Assumes nothing.
 use mathlib.Core.Path.{_≡_, refl, sym, ap, _∙_, subst}
-use mathlib.Core.Bool.{true, false, cond, _&&_, _||_, or-false, and-false}
-use mathlib.Core.List.{List, [], _∷_, _++_}
+use mathlib.Core.Bool.{Bool, true, false, cond, not, _&&_, _||_, or-true, and-false, false≢true}
+use mathlib.Core.List.{List, [], _∷_, _++_, map}
 use mathlib.Core.Logic.{_⊎_, inl, inr}
 use mathlib.Core.Option.{none, some}
-use Prim.Native.Nat.{ℕ, suc, _+_, _-_, _<_, _≤_}
+use Prim.Native.Nat.{ℕ, suc, _+_, _*_, _-_, _<_, _≤_}
 use native.Mathlib.Omega.{arith}
-use lib.Dec.{leb, eqb}
-use lib.ListN.{length, set, length-set}
+use lib.Dec.{leb, ltb, eqb}
+use lib.ListN.{length, getD, set, length-set, length-map}
 use lib.Seq.{getD-set-other}
-use borrow.Author.Tests.{le-leb, lt-leb, eq-eqb, ne-eqb}
-use Rattle.rules.specs.Limits.{maxDepth, maxAccepted}
-use Rattle.rules.specs.Record.{Event, acquire, release, interrupt, eventBy, eventOf, coreOf, kindOf, classOf, modeOf}
+use borrow.Author.Tests.{le-leb, lt-leb, lt-ltb, leb-false, eq-eqb, ne-eqb}
+use Rattle.rules.specs.Limits.{maxDepth, maxAccepted, maxClasses, maxKept, heldModes, interruptKinds}
+use Rattle.rules.specs.Record.{Event, acquire, release, interrupt, crossEventBy, eventBy, eventOf, coreOf, kindOf, classOf, modeOf}
 use Rattle.rules.specs.WellFormed.{WellFormed}
-use Rattle.rules.specs.Context.{Frame, frameOf, noState, nextState, leavesHandler}
-use Rattle.rules.specs.HeldLocks.{HeldLock, Core, current, releaseNewest, afterEvent, withState}
-use Rattle.rules.specs.Graph.{drawnBy}
-use Rattle.rules.specs.Verdict.{Refusal, noClass, noTransition, stillHeld, notHeld, tooDeep, countFull, refusalNumber, someLock}
-use Rattle.rules.specs.Run.{withRecord, State}
+use Rattle.rules.specs.Context.{frameOf, noState, nextState, leavesHandler}
+use Rattle.rules.specs.HeldLocks.{HeldLock, isTry, current, releaseNewest, withState}
+use Rattle.rules.specs.Crosslocks.{isIdle, isKept, strike, withHistory}
+use Rattle.rules.specs.Verdict.{noClass, wrongSort, noTransition, stillHeld, notHeld, tooDeep, historyFull, someLock}
+use Rattle.rules.specs.Run.{State}
 use Rattle.validity.specs.Valid.{Valid}
-use Rattle.layout.specs.Layout.{frameCount, framesPerCore, acceptedAt, sheetSize, seenSize, statesAt, frameNumber, classesOf, stateOf, depthOf, acceptedOf, KeepsPast}
-use Rattle.layout.specs.Encoding.{DeskBytes, SheetBytes, SeenBytes, Encodes}
-use Rattle.layout.proofs.Buffers.{keeps-self}
-use Rattle.layout.proofs.Numbers.{number-is}
-use Rattle.context.proofs.Frames.{frame-less}
-use Rattle.held.specs.Frames.{FrameBytes, KeepsElse, SmallLocks, Pushed, Removed, fittingOf}
-use Rattle.update.specs.Update.{Drawn}
-use Rattle.numbering.specs.Numbering.{Numbered}
-use Rattle.update.proofs.Cores.{changed, frame-bytes, frame-changed, state-changed}
-use Rattle.update.proofs.Drawing.{same-dependencies}
-use Rattle.numbering.proofs.Numbering.{same-seen}
+use Rattle.layout.specs.Layout.{acceptedAt, declaredAt, deskSize, sheetSize, seenSize, keptSize, statesAt, progressAt, keptAt, numberSize, classesOf, stateOf, depthOf, acceptedOf, declaredOf, progressOf, keptOf, memberOf, KeepsPast}
+use Rattle.rules.specs.Log.{wordSize}
+use Rattle.layout.specs.Encoding.{DeskBytes, NumberBytes, CrossBytes, Encodes}
+use Rattle.layout.proofs.Buffers.{keeps-self, keeps-both, keeps-more}
+use Rattle.layout.proofs.Numbers.{same-value}
+use Rattle.layout.proofs.Cross.{declared-at, progress-size, kept-is, cross-kept}
+use Rattle.held.specs.Frames.{FrameBytes, KeepsElse, Pushed, Removed, fittingOf}
 use Rattle.held.proofs.Releases.{FittingCases, not-found, found-at, fitting-is}
-use Rattle.action.specs.Action.{ActedOn, refuses, accepts, Acted}
-use Rattle.action.proofs.Refusals.{refusalBy, orFull, refusal-by}
-use Rattle.cores.proofs.Bytes.{small-locks}
+use Rattle.update.specs.Update.{Drawn}
+use Rattle.update.proofs.Cores.{changed, frame-changed, state-changed, behind-changed}
+use Rattle.numbering.specs.Numbering.{Numbered}
+use Rattle.history.specs.Histories.{HistoryRoom, KeptIn, Struck}
+use Rattle.acting.specs.Action.{noRoomFor, Acted}
+use Rattle.acting.proofs.Refusals.{refusalBy}
+use Rattle.acting.proofs.Common.{frame-past, count-past, uncrossed-count, uncrossed-past, count-both, frame, now-less, frame-inside, frame-is, by-number, current-frame, small, refuses-by, accepted-is, full-by, accepts-by, undrawn, unnumbered}
 
-keeps-past : {n : ℕ} {before after : List ℕ} → n < frameCount → KeepsElse n before after → KeepsPast acceptedAt before after
-keeps-past {n} l k = record { long = k .long; past = λ j h. k .else j (λ e. omega arith) (inr (omega arith)) (inr h) }
+-- An acquire that is not refused with 19 has room in the history, also once it is held.
+pub kept-room : {desk desk′ history : List ℕ} (mode : ℕ) → noRoomFor desk mode ≡ false → KeepsPast acceptedAt desk desk′ → keptSize * maxKept ≤ length history
+    → HistoryRoom desk′ history mode
+kept-room {desk} {desk′} mode h k long =
+    let p : progressOf desk′ ≡ progressOf desk = same-value wordSize desk′ desk progressAt (λ j l. k .past (progressAt + j) (omega arith)) in
+    let q : keptOf desk′ ≡ keptOf desk = same-value numberSize desk′ desk keptAt (λ j l. k .past (keptAt + j) (omega arith)) in
+    record {
+      long = long;
+      room = λ t.
+          let u : not (isIdle (memberOf (progressOf desk)) || isTry mode) ≡ true = rw p at t in
+          let v : leb maxKept (keptOf desk) ≡ false = rw u at h in
+          let l = leb-false maxKept (keptOf desk) v in
+          omega arith;
+    }
 
-module _ (desk sheet seen bytes : List ℕ) (w : WellFormed bytes) (few : classesOf desk ≤ 64) where
+-- The tests for that, in their order.
+pub room-for-try : (desk : List ℕ) (mode : ℕ) → heldModes ≤ mode → false ≡ noRoomFor desk mode
+room-for-try desk mode h = rw (le-leb heldModes mode h, or-true (isIdle (memberOf (progressOf desk))))
+
+pub room-when-idle : (desk : List ℕ) (mode : ℕ) → isIdle (memberOf (progressOf desk)) ≡ true → false ≡ noRoomFor desk mode
+room-when-idle desk mode h = rw h
+
+pub room-by-count : (desk : List ℕ) (mode : ℕ) (r : Bool) → mode < heldModes → isIdle (memberOf (progressOf desk)) ≡ false → r ≡ leb maxKept (keptOf desk)
+    → r ≡ noRoomFor desk mode
+room-by-count desk mode r l h e = e ∙ sym (rw (lt-leb heldModes mode l, h) refl)
+
+module _ (desk sheet seen history bytes : List ℕ) (w : WellFormed bytes) (few : classesOf desk ≤ maxClasses) where
   abbrev K : ℕ
   K = classesOf desk
 
@@ -46,118 +69,104 @@ module _ (desk sheet seen bytes : List ℕ) (w : WellFormed bytes) (few : classe
   i = coreOf bytes
 
   abbrev n : ℕ
-  n = frameNumber (coreOf bytes) (frameOf (stateOf desk (coreOf bytes)))
+  n = frame desk sheet seen history bytes w few
 
-  module _ (s : State) (opened : s .is-closed ≡ false) (valid : Valid K s) (enc : Encodes K s desk sheet seen) where
-    abbrev core : Core
-    core = s .cores (coreOf bytes)
+  -- No byte of the crosslocks changed.
+  still-crossed : {desk′ : List ℕ} → KeepsPast acceptedAt desk desk′ → (s : State) → Encodes K s desk sheet seen history → CrossBytes (s .cross) desk′ history
+  still-crossed {desk′} k s enc = cross-kept (s .cross) desk desk′ history (λ j l h. k .past j (omega arith)) (enc .in-cross)
 
-    now-is : frameOf (stateOf desk i) ≡ frameOf (core .state)
-    now-is = ap frameOf (enc .in-desk .states i (w .core))
+  -- ---- Acquire and release: the class is one of the desk's, and no crosslock.
 
-    state-small : core .state < 9
-    state-small = let v = valid .cores i .states in omega arith
+  module _ (s : State) (o : s .is-closed ≡ false) (v : Valid K s) (enc : Encodes K s desk sheet seen history) where
+    undeclared : {b : Bool} → classOf bytes < K → memberOf (declaredOf desk) (classOf bytes) ≡ b → s .cross .declared (classOf bytes) ≡ b
+    undeclared l h = sym (declared-at (enc .in-cross) (classOf bytes) (omega arith)) ∙ h
 
-    now-less : frameOf (core .state) < framesPerCore
-    now-less = frame-less (core .state) state-small
-
-    frame-inside : frameNumber i (frameOf (core .state)) < frameCount
-    frame-inside = let l = now-less in let c = w .core in omega arith
-
-    -- The current frame, by the number that the code works out.
-    by-number : (P : ℕ → Type 0) → P n → P (frameNumber i (frameOf (core .state)))
-    by-number P h = subst (λ (f : Frame). P (frameNumber i f)) now-is h
-
-    current-frame : FrameBytes desk n (current core)
-    current-frame =
-        subst (λ (f : Frame). FrameBytes desk (frameNumber i f) (current core)) (sym now-is)
-        (frame-bytes (enc .in-desk) i (frameOf (core .state)) (w .core) now-less)
-
-    small : SmallLocks (current core)
-    small = small-locks few core (valid .cores i) (frameOf (core .state))
-
-    refuses-by : (ev : Event) → eventOf bytes ≡ ev → (x : Refusal) → refusalBy K core ev ≡ some x
-        → ActedOn K s bytes desk sheet seen (refusalNumber x) desk sheet seen
-    refuses-by ev e x h = refuses x (refusal-by K s bytes opened (w .formed) ev e ∙ ap (orFull (s .journal .accepted)) h)
-
-    accepted-is : acceptedOf desk ≡ s .journal .accepted
-    accepted-is = number-is desk (s .journal .accepted) acceptedAt (valid .journal .limit) (enc .in-count)
-
-    -- No other refusal applies, and the count is full.
-    full-by : (ev : Event) → eventOf bytes ≡ ev → refusalBy K core ev ≡ none → leb maxAccepted (acceptedOf desk) ≡ true
-        → ActedOn K s bytes desk sheet seen 9 desk sheet seen
-    full-by ev e h f =
-        refuses countFull
-        (refusal-by K s bytes opened (w .formed) ev e ∙ ap (orFull (s .journal .accepted)) h ∙ rw (rw accepted-is at f) refl)
-
-    accepts-by : (ev : Event) → eventOf bytes ≡ ev → refusalBy K core ev ≡ none → leb maxAccepted (acceptedOf desk) ≡ false
-        → {desk′ sheet′ seen′ : List ℕ} → DeskBytes K (s .is-closed) (changed (s .cores) i (afterEvent ev core)) (s .graph .marks) desk′
-        → SheetBytes K (λ f t k. s .graph .locks f t k || drawnBy ev core f t k) sheet′ → SeenBytes K (withRecord (drawnBy ev core) (s .journal) .seen) seen′
-        → KeepsPast acceptedAt desk desk′ → KeepsPast (sheetSize K) sheet sheet′ → KeepsPast (seenSize K) seen seen′
-        → ActedOn K s bytes desk sheet seen 0 desk′ sheet′ seen′
-    accepts-by ev e h f {desk′} {sheet′} {seen′} sb mb nb ks km kn =
-        accepts (refusal-by K s bytes opened (w .formed) ev e ∙ ap (orFull (s .journal .accepted)) h ∙ rw (rw accepted-is at f) refl)
-        (subst (λ (v : Event). DeskBytes K (s .is-closed) (changed (s .cores) i (afterEvent v core)) (s .graph .marks) desk′) (sym e) sb)
-        (subst (λ (v : Event). SheetBytes K (λ f t k. s .graph .locks f t k || drawnBy v core f t k) sheet′) (sym e) mb)
-        (subst (λ (v : Event). SeenBytes K (withRecord (drawnBy v core) (s .journal) .seen) seen′) (sym e) nb) ks km kn
-
-    -- Nothing is drawn, and no pair gets a number.
-    unnumbered : SeenBytes K (λ f t. cond (eqb (s .journal .seen f t) 0 && false) (suc (s .journal .accepted)) (s .journal .seen f t)) seen
-    unnumbered =
-        same-seen (s .journal .seen) (λ f t. cond (eqb (s .journal .seen f t) 0 && false) (suc (s .journal .accepted)) (s .journal .seen f t))
-        (λ f t. sym (rw (and-false (eqb (s .journal .seen f t) 0)) refl)) (enc .in-seen)
-
-    undrawn : SheetBytes K (λ f t k. s .graph .locks f t k || false) sheet
-    undrawn = same-dependencies (s .graph .locks) (λ f t k. s .graph .locks f t k || false) (λ f t k. sym (or-false (s .graph .locks f t k))) (enc .in-sheet)
-
-  -- ---- Acquire.
+    same-room : noRoomFor desk (modeOf bytes) ≡ (isKept (s .cross) (modeOf bytes) && leb maxKept (length (s .cross .history)))
+    same-room = rw (progress-size (enc .in-cross), kept-is (enc .in-cross) (v .cross .kept)) refl
 
   module _ (kind : kindOf bytes ≡ 0) where
     acquires : eventOf bytes ≡ acquire (classOf bytes) (modeOf bytes)
     acquires = ap (λ (k : ℕ). eventBy k (classOf bytes) (modeOf bytes)) kind
 
-    pub acquire-no-class : K ≤ classOf bytes → Acted desk sheet seen bytes 4 desk sheet seen
+    pub acquire-no-class : K ≤ classOf bytes → Acted desk sheet seen history bytes 4 desk sheet seen history
     acquire-no-class l =
-        record { acted = λ s o v enc. refuses-by s o v enc (acquire (classOf bytes) (modeOf bytes)) acquires noClass (rw (le-leb K (classOf bytes) l) refl) }
-
-    pub acquire-too-deep : classOf bytes < K → maxDepth ≤ depthOf desk n → Acted desk sheet seen bytes 8 desk sheet seen
-    acquire-too-deep l d =
         record {
           acted = λ s o v enc.
-              let e = current-frame s o v enc .depth in
-              refuses-by s o v enc (acquire (classOf bytes) (modeOf bytes)) acquires tooDeep
-              (rw (lt-leb K (classOf bytes) l, le-leb maxDepth (length (current (s .cores i))) (omega arith)) refl);
+              refuses-by desk sheet seen history bytes w few s o v enc (acquire (classOf bytes) (modeOf bytes)) acquires noClass (rw (le-leb K (classOf bytes) l) refl);
         }
 
-    acquire-passes : classOf bytes < K → depthOf desk n < maxDepth → (s : State) (opened : s .is-closed ≡ false) (valid : Valid K s)
-        (enc : Encodes K s desk sheet seen) → refusalBy K (s .cores i) (acquire (classOf bytes) (modeOf bytes)) ≡ none
-    acquire-passes l d s o v enc =
-        let e = current-frame s o v enc .depth in
-        rw (lt-leb K (classOf bytes) l, lt-leb maxDepth (length (current (s .cores i))) (omega arith)) refl
+    module _ (l : classOf bytes < K) where
+      pub acquire-wrong-sort : memberOf (declaredOf desk) (classOf bytes) ≡ true → Acted desk sheet seen history bytes 15 desk sheet seen history
+      acquire-wrong-sort h =
+          record {
+            acted = λ s o v enc.
+                refuses-by desk sheet seen history bytes w few s o v enc (acquire (classOf bytes) (modeOf bytes)) acquires wrongSort
+                (rw (lt-leb K (classOf bytes) l, undeclared s o v enc l h) refl);
+          }
 
-    pub acquire-count-full : classOf bytes < K → depthOf desk n < maxDepth → leb maxAccepted (acceptedOf desk) ≡ true
-        → Acted desk sheet seen bytes 9 desk sheet seen
-    acquire-count-full l d f =
-        record { acted = λ s o v enc. full-by s o v enc (acquire (classOf bytes) (modeOf bytes)) acquires (acquire-passes l d s o v enc) f }
+      module _ (u : memberOf (declaredOf desk) (classOf bytes) ≡ false) where
+        pub acquire-too-deep : maxDepth ≤ depthOf desk n → Acted desk sheet seen history bytes 8 desk sheet seen history
+        acquire-too-deep d =
+            record {
+              acted = λ s o v enc.
+                  let e = current-frame desk sheet seen history bytes w few s o v enc .depth in
+                  refuses-by desk sheet seen history bytes w few s o v enc (acquire (classOf bytes) (modeOf bytes)) acquires tooDeep
+                  (rw (lt-leb K (classOf bytes) l, undeclared s o v enc l u, le-leb maxDepth (length (current (s .cores i))) (omega arith)) refl);
+            }
 
-    pub acquire-accepts : {desk′ sheet′ seen′ : List ℕ} → classOf bytes < K → depthOf desk n < maxDepth → leb maxAccepted (acceptedOf desk) ≡ false
-        → Drawn desk K n (classOf bytes) (modeOf bytes) sheet sheet′ → Numbered desk K n (classOf bytes) (modeOf bytes) seen seen′
-        → Pushed desk n (classOf bytes) (modeOf bytes) desk′
-        → Acted desk sheet seen bytes 0 desk′ sheet′ seen′
-    acquire-accepts {desk′} {sheet′} {seen′} l d f D M P =
-        record {
-          acted = λ s o v enc.
-              let F = current-frame s o v enc in
-              let hs = current (s .cores i) ++ (record { class = classOf bytes; mode = modeOf bytes } ∷ []) in
-              let keeps = by-number s o v enc (λ m. KeepsElse m desk desk′) (P .keeps) in
-              accepts-by s o v enc (acquire (classOf bytes) (modeOf bytes)) acquires (acquire-passes l d s o v enc) f
-              (frame-changed (enc .in-desk) i (w .core) (now-less s o v enc) hs keeps
-              (by-number s o v enc (λ m. FrameBytes desk′ m hs) (P .frame (current (s .cores i)) F)))
-              (D .drawn (current (s .cores i)) F (small s o v enc) (s .graph .locks) (enc .in-sheet))
-              (M .numbered (current (s .cores i)) F (small s o v enc) (s .journal) (sym (accepted-is s o v enc))
-              (v .journal .at-most) (enc .in-seen))
-              (keeps-past (frame-inside s o v enc) keeps) (D .keeps) (M .keeps);
-        }
+        module _ (d : depthOf desk n < maxDepth) where
+          passes : (b : Bool) → noRoomFor desk (modeOf bytes) ≡ b → (s : State) (o : s .is-closed ≡ false) (v : Valid K s) (enc : Encodes K s desk sheet seen history)
+              → refusalBy K (s .cores i) (s .cross) (acquire (classOf bytes) (modeOf bytes)) ≡ cond b (some historyFull) none
+          passes b r s o v enc =
+              let e = current-frame desk sheet seen history bytes w few s o v enc .depth in
+              rw (
+                lt-leb K (classOf bytes) l,
+                undeclared s o v enc l u,
+                lt-leb maxDepth (length (current (s .cores i))) (omega arith),
+                sym (same-room s o v enc) ∙ r,
+              )
+              refl
+
+          pub acquire-history-full : noRoomFor desk (modeOf bytes) ≡ true → Acted desk sheet seen history bytes 19 desk sheet seen history
+          acquire-history-full r =
+              record {
+                acted = λ s o v enc.
+                    refuses-by desk sheet seen history bytes w few s o v enc (acquire (classOf bytes) (modeOf bytes)) acquires historyFull (passes true r s o v enc);
+              }
+
+          module _ (r : noRoomFor desk (modeOf bytes) ≡ false) where
+            pub acquire-count-full : leb maxAccepted (acceptedOf desk) ≡ true → Acted desk sheet seen history bytes 9 desk sheet seen history
+            acquire-count-full f =
+                record {
+                  acted = λ s o v enc.
+                      full-by desk sheet seen history bytes w few s o v enc (acquire (classOf bytes) (modeOf bytes)) acquires (passes false r s o v enc) f;
+                }
+
+            pub acquire-accepts : leb maxAccepted (acceptedOf desk) ≡ false → {held desk′ sheet′ seen′ history′ : List ℕ}
+                → Drawn desk K n (classOf bytes) (modeOf bytes) sheet sheet′ → Numbered desk K n (classOf bytes) (modeOf bytes) seen seen′
+                → Pushed desk n (classOf bytes) (modeOf bytes) held → KeptIn held history n (classOf bytes) (modeOf bytes) desk′ history′
+                → Acted desk sheet seen history bytes 0 desk′ sheet′ seen′ history′
+            acquire-accepts f {held} {desk′} {sheet′} {seen′} {history′} D M P Q =
+                record {
+                  acted = λ s o v enc.
+                      let F = current-frame desk sheet seen history bytes w few s o v enc in
+                      let m = small desk sheet seen history bytes w few s o v enc in
+                      let hs = current (s .cores i) ++ (record { class = classOf bytes; mode = modeOf bytes } ∷ []) in
+                      let keeps = by-number desk sheet seen history bytes w few s o v enc (λ m. KeepsElse m desk held) (P .keeps) in
+                      let past = frame-past (frame-inside desk sheet seen history bytes w few s o v enc) keeps in
+                      let bytes-held =
+                      frame-changed (enc .in-desk) i (w .core) (now-less desk sheet seen history bytes w few s o v enc) hs keeps
+                      (by-number desk sheet seen history bytes w few s o v enc (λ m. FrameBytes held m hs) (P .frame (current (s .cores i)) F)) in
+                      let x =
+                      Q .kept (s .cross) i (frameOf (s .cores i .state)) (frame-is desk sheet seen history bytes w few s o v enc) (v .cross .kept)
+                      (still-crossed past s enc) in
+                      accepts-by desk sheet seen history bytes w few s o v enc (acquire (classOf bytes) (modeOf bytes)) acquires (passes false r s o v enc) f
+                      (behind-changed bytes-held (Q .keeps .long) (λ j h. Q .keeps .else j (inl (omega arith))))
+                      (D .drawn (current (s .cores i)) F m (s .graph .locks) (enc .in-sheet))
+                      (M .numbered (current (s .cores i)) F m (s .journal) (sym (accepted-is desk sheet seen history bytes w few s o v enc)) (v .journal .at-most) (enc .in-seen))
+                      (x .bytes) (count-both (count-past past) (uncrossed-count (Q .keeps))) (keeps-both (keeps-more (omega arith) past) (uncrossed-past (Q .keeps)))
+                      (D .keeps) (M .keeps) (x .past);
+                }
 
   -- ---- Release.
 
@@ -165,49 +174,67 @@ module _ (desk sheet seen bytes : List ℕ) (w : WellFormed bytes) (few : classe
     releases : eventOf bytes ≡ release (classOf bytes) (modeOf bytes)
     releases = ap (λ (k : ℕ). eventBy k (classOf bytes) (modeOf bytes)) kind
 
-    pub release-no-class : K ≤ classOf bytes → Acted desk sheet seen bytes 4 desk sheet seen
+    pub release-no-class : K ≤ classOf bytes → Acted desk sheet seen history bytes 4 desk sheet seen history
     release-no-class l =
-        record { acted = λ s o v enc. refuses-by s o v enc (release (classOf bytes) (modeOf bytes)) releases noClass (rw (le-leb K (classOf bytes) l) refl) }
-
-    found : (s : State) (opened : s .is-closed ≡ false) (valid : Valid K s) (enc : Encodes K s desk sheet seen)
-        → FittingCases (classOf bytes) (modeOf bytes) (current (s .cores i)) (fittingOf desk n (classOf bytes) (modeOf bytes))
-    found s o v enc =
-        fitting-is desk n (current (s .cores i)) (current-frame s o v enc) (small s o v enc) (v .cores i .depths (frameOf (s .cores i .state)))
-        (classOf bytes) (modeOf bytes)
-
-    pub release-not-held : classOf bytes < K → fittingOf desk n (classOf bytes) (modeOf bytes) ≡ 0 → Acted desk sheet seen bytes 5 desk sheet seen
-    release-not-held l z =
         record {
           acted = λ s o v enc.
-              refuses-by s o v enc (release (classOf bytes) (modeOf bytes)) releases notHeld
-              (rw (lt-leb K (classOf bytes) l, not-found (found s o v enc) z) refl);
+              refuses-by desk sheet seen history bytes w few s o v enc (release (classOf bytes) (modeOf bytes)) releases noClass (rw (le-leb K (classOf bytes) l) refl);
         }
 
-    release-passes : classOf bytes < K → (fittingOf desk n (classOf bytes) (modeOf bytes) ≡ 0 → ⊥) → (s : State) (opened : s .is-closed ≡ false) (valid : Valid K s)
-        (enc : Encodes K s desk sheet seen) → refusalBy K (s .cores i) (release (classOf bytes) (modeOf bytes)) ≡ none
-    release-passes l ne s o v enc = rw (lt-leb K (classOf bytes) l, found-at (found s o v enc) ne .0) refl
+    module _ (l : classOf bytes < K) where
+      pub release-wrong-sort : memberOf (declaredOf desk) (classOf bytes) ≡ true → Acted desk sheet seen history bytes 15 desk sheet seen history
+      release-wrong-sort h =
+          record {
+            acted = λ s o v enc.
+                refuses-by desk sheet seen history bytes w few s o v enc (release (classOf bytes) (modeOf bytes)) releases wrongSort
+                (rw (lt-leb K (classOf bytes) l, undeclared s o v enc l h) refl);
+          }
 
-    pub release-count-full : classOf bytes < K → (fittingOf desk n (classOf bytes) (modeOf bytes) ≡ 0 → ⊥) → leb maxAccepted (acceptedOf desk) ≡ true
-        → Acted desk sheet seen bytes 9 desk sheet seen
-    release-count-full l ne f =
-        record { acted = λ s o v enc. full-by s o v enc (release (classOf bytes) (modeOf bytes)) releases (release-passes l ne s o v enc) f }
+      found : (s : State) (opened : s .is-closed ≡ false) (valid : Valid K s) (enc : Encodes K s desk sheet seen history)
+          → FittingCases (classOf bytes) (modeOf bytes) (current (s .cores i)) (fittingOf desk n (classOf bytes) (modeOf bytes))
+      found s o v enc =
+          fitting-is desk n (current (s .cores i)) (current-frame desk sheet seen history bytes w few s o v enc) (small desk sheet seen history bytes w few s o v enc)
+          (v .cores i .depths (frameOf (s .cores i .state))) (classOf bytes) (modeOf bytes)
 
-    pub release-accepts : {desk′ : List ℕ} → classOf bytes < K → (fittingOf desk n (classOf bytes) (modeOf bytes) ≡ 0 → ⊥) → leb maxAccepted (acceptedOf desk) ≡ false
-        → Removed desk n (fittingOf desk n (classOf bytes) (modeOf bytes) - 1) desk′ → Acted desk sheet seen bytes 0 desk′ sheet seen
-    release-accepts {desk′} l ne f R =
-        record {
-          acted = λ s o v enc.
-              let F = current-frame s o v enc in
-              let N = found-at (found s o v enc) ne .1 in
-              let hs = releaseNewest (classOf bytes) (current (s .cores i)) in
-              let keeps = by-number s o v enc (λ m. KeepsElse m desk desk′) (R .keeps) in
-              accepts-by s o v enc (release (classOf bytes) (modeOf bytes)) releases (release-passes l ne s o v enc) f
-              (frame-changed (enc .in-desk) i (w .core) (now-less s o v enc) hs keeps
-              (by-number s o v enc (λ m. FrameBytes desk′ m hs)
-              (subst (λ (h : List HeldLock). FrameBytes desk′ n h) (sym (N .released)) (R .frame (current (s .cores i)) F))))
-              (undrawn s o v enc) (unnumbered s o v enc) (keeps-past (frame-inside s o v enc) keeps) (keeps-self (sheetSize K) sheet)
-              (keeps-self (seenSize K) seen);
-        }
+      module _ (u : memberOf (declaredOf desk) (classOf bytes) ≡ false) where
+        pub release-not-held : fittingOf desk n (classOf bytes) (modeOf bytes) ≡ 0 → Acted desk sheet seen history bytes 5 desk sheet seen history
+        release-not-held z =
+            record {
+              acted = λ s o v enc.
+                  refuses-by desk sheet seen history bytes w few s o v enc (release (classOf bytes) (modeOf bytes)) releases notHeld
+                  (rw (lt-leb K (classOf bytes) l, undeclared s o v enc l u, not-found (found s o v enc) z) refl);
+            }
+
+        module _ (ne : fittingOf desk n (classOf bytes) (modeOf bytes) ≡ 0 → ⊥) where
+          release-passes : (s : State) (opened : s .is-closed ≡ false) (valid : Valid K s) (enc : Encodes K s desk sheet seen history)
+              → refusalBy K (s .cores i) (s .cross) (release (classOf bytes) (modeOf bytes)) ≡ none
+          release-passes s o v enc = rw (lt-leb K (classOf bytes) l, undeclared s o v enc l u, found-at (found s o v enc) ne .0) refl
+
+          pub release-count-full : leb maxAccepted (acceptedOf desk) ≡ true → Acted desk sheet seen history bytes 9 desk sheet seen history
+          release-count-full f =
+              record {
+                acted = λ s o v enc.
+                    full-by desk sheet seen history bytes w few s o v enc (release (classOf bytes) (modeOf bytes)) releases (release-passes s o v enc) f;
+              }
+
+          pub release-accepts : {desk′ : List ℕ} → leb maxAccepted (acceptedOf desk) ≡ false → Removed desk n (fittingOf desk n (classOf bytes) (modeOf bytes) - 1) desk′
+              → Acted desk sheet seen history bytes 0 desk′ sheet seen history
+          release-accepts {desk′} f R =
+              record {
+                acted = λ s o v enc.
+                    let F = current-frame desk sheet seen history bytes w few s o v enc in
+                    let N = found-at (found s o v enc) ne .1 in
+                    let hs = releaseNewest (classOf bytes) (current (s .cores i)) in
+                    let keeps = by-number desk sheet seen history bytes w few s o v enc (λ m. KeepsElse m desk desk′) (R .keeps) in
+                    let past = frame-past (frame-inside desk sheet seen history bytes w few s o v enc) keeps in
+                    accepts-by desk sheet seen history bytes w few s o v enc (release (classOf bytes) (modeOf bytes)) releases (release-passes s o v enc) f
+                    (frame-changed (enc .in-desk) i (w .core) (now-less desk sheet seen history bytes w few s o v enc) hs keeps
+                    (by-number desk sheet seen history bytes w few s o v enc (λ m. FrameBytes desk′ m hs)
+                    (subst (λ (h : List HeldLock). FrameBytes desk′ n h) (sym (N .released)) (R .frame (current (s .cores i)) F))))
+                    (undrawn desk sheet seen history bytes w few s o v enc) (unnumbered desk sheet seen history bytes w few s o v enc) (still-crossed past s enc)
+                    (count-past past) (keeps-more (omega arith) past) (keeps-self (sheetSize K) sheet) (keeps-self (seenSize K) seen)
+                    (keeps-self (keptSize * length (s .cross .history)) history);
+              }
 
   -- ---- Interrupt event.
 
@@ -219,7 +246,7 @@ module _ (desk sheet seen bytes : List ℕ) (w : WellFormed bytes) (few : classe
   no-lock [] e = refl
   no-lock (h ∷ hs) e = absurd (omega arith)
 
-  module _ (kind : 2 ≤ kindOf bytes) where
+  module _ (kind : 2 ≤ kindOf bytes) (last : kindOf bytes < 10) where
     abbrev event : ℕ
     event = kindOf bytes - 2
 
@@ -229,27 +256,29 @@ module _ (desk sheet seen bytes : List ℕ) (w : WellFormed bytes) (few : classe
     interrupts : eventOf bytes ≡ interrupt event
     interrupts =
         let e : kindOf bytes ≡ suc (suc event) = omega arith in
+        let l : event < interruptKinds = omega arith in
         ap (λ (k : ℕ). eventBy k (classOf bytes) (modeOf bytes)) e
+        ∙ ap (λ (b : Bool). cond b (interrupt event) (crossEventBy (event - interruptKinds) (classOf bytes))) (lt-ltb event interruptKinds l)
 
-    to-is : (s : State) (opened : s .is-closed ≡ false) (valid : Valid K s) (enc : Encodes K s desk sheet seen) → nextState (s .cores i .state) event ≡ to
-    to-is s o v enc = ap (λ (c : ℕ). nextState c event) (sym (enc .in-desk .states i (w .core)))
+    to-is : (s : State) (enc : Encodes K s desk sheet seen history) → nextState (s .cores i .state) event ≡ to
+    to-is s enc = ap (λ (c : ℕ). nextState c event) (sym (enc .in-desk .states i (w .core)))
 
-    pub interrupt-no-transition : to ≡ noState → Acted desk sheet seen bytes 6 desk sheet seen
+    pub interrupt-no-transition : to ≡ noState → Acted desk sheet seen history bytes 6 desk sheet seen history
     interrupt-no-transition e =
         record {
           acted = λ s o v enc.
-              refuses-by s o v enc (interrupt event) interrupts noTransition
-              (rw (eq-eqb (nextState (s .cores i .state) event) noState (to-is s o v enc ∙ e)) refl);
+              refuses-by desk sheet seen history bytes w few s o v enc (interrupt event) interrupts noTransition
+              (rw (eq-eqb (nextState (s .cores i .state) event) noState (to-is s enc ∙ e)) refl);
         }
 
-    pub interrupt-still-held : (to ≡ noState → ⊥) → leavesHandler event ≡ true → (depthOf desk n ≡ 0 → ⊥) → Acted desk sheet seen bytes 7 desk sheet seen
+    pub interrupt-still-held : (to ≡ noState → ⊥) → leavesHandler event ≡ true → (depthOf desk n ≡ 0 → ⊥) → Acted desk sheet seen history bytes 7 desk sheet seen history
     interrupt-still-held ne h d =
         record {
           acted = λ s o v enc.
-              let q = current-frame s o v enc .depth in
-              refuses-by s o v enc (interrupt event) interrupts stillHeld
+              let q = current-frame desk sheet seen history bytes w few s o v enc .depth in
+              refuses-by desk sheet seen history bytes w few s o v enc (interrupt event) interrupts stillHeld
               (rw (
-                ne-eqb (nextState (s .cores i .state) event) noState (λ z. ne (sym (to-is s o v enc) ∙ z)),
+                ne-eqb (nextState (s .cores i .state) event) noState (λ z. ne (sym (to-is s enc) ∙ z)),
                 h,
                 some-lock (current (s .cores i)) (λ z. d (q ∙ z)),
               )
@@ -262,24 +291,57 @@ module _ (desk sheet seen bytes : List ℕ) (w : WellFormed bytes) (few : classe
       empty-passes s q (inl e) = rw e refl
       empty-passes s q (inr e) = rw (no-lock (current (s .cores i)) (sym q ∙ e), and-false (leavesHandler event && true)) refl
 
-      interrupt-passes : (s : State) (opened : s .is-closed ≡ false) (valid : Valid K s) (enc : Encodes K s desk sheet seen)
-          → refusalBy K (s .cores i) (interrupt event) ≡ none
+      interrupt-passes : (s : State) (opened : s .is-closed ≡ false) (valid : Valid K s) (enc : Encodes K s desk sheet seen history)
+          → refusalBy K (s .cores i) (s .cross) (interrupt event) ≡ none
       interrupt-passes s o v enc =
-          rw (ne-eqb (nextState (s .cores i .state) event) noState (λ z. ne (sym (to-is s o v enc) ∙ z))) (empty-passes s (current-frame s o v enc .depth) h)
+          rw (ne-eqb (nextState (s .cores i .state) event) noState (λ z. ne (sym (to-is s enc) ∙ z)))
+          (empty-passes s (current-frame desk sheet seen history bytes w few s o v enc .depth) h)
 
-      pub interrupt-count-full : leb maxAccepted (acceptedOf desk) ≡ true → Acted desk sheet seen bytes 9 desk sheet seen
+      pub interrupt-count-full : leb maxAccepted (acceptedOf desk) ≡ true → Acted desk sheet seen history bytes 9 desk sheet seen history
       interrupt-count-full f =
-          record { acted = λ s o v enc. full-by s o v enc (interrupt event) interrupts (interrupt-passes s o v enc) f }
+          record {
+            acted = λ s o v enc. full-by desk sheet seen history bytes w few s o v enc (interrupt event) interrupts (interrupt-passes s o v enc) f;
+          }
 
-      pub interrupt-accepts : leb maxAccepted (acceptedOf desk) ≡ false → Acted desk sheet seen bytes 0 (set desk (statesAt + i) to) sheet seen
-      interrupt-accepts f =
+      -- The state's byte.
+      moved : KeepsPast acceptedAt desk (set desk (statesAt + i) to)
+      moved = let l = w .core in record { long = length-set desk (statesAt + i) to; past = λ j m. getD-set-other desk (statesAt + i) j to 0 (λ e. omega arith) }
+
+      -- The history that is left: with a handler what was acquired in it is struck out.
+      abbrev pub Leaves : List ℕ → Type 0
+      Leaves history′ = ((leavesHandler event ≡ true) × Struck (keptOf desk) history n history′) ⊎ ((leavesHandler event ≡ false) × (history′ ≡ history))
+
+      record LeftAs (s : State) (leaves : Bool) (history′ : List ℕ) : Type 0 where
+        bytes-are : CrossBytes (withHistory (s .cross) (cond leaves (map (strike i (frameOf (s .cores i .state))) (s .cross .history)) (s .cross .history)))
+            (set desk (statesAt + i) to) history′
+        past : KeepsPast (keptSize * length (cond leaves (map (strike i (frameOf (s .cores i .state))) (s .cross .history)) (s .cross .history))) history history′
+
+      left : (s : State) (o : s .is-closed ≡ false) (v : Valid K s) (enc : Encodes K s desk sheet seen history) {history′ : List ℕ} → Leaves history′ → LeftAs s (leavesHandler event) history′
+      left s o v enc {history′} (inr p) =
+          rw (p .0, p .1) (record { bytes-are = still-crossed moved s enc; past = keeps-self (keptSize * length (s .cross .history)) history })
+      left s o v enc {history′} (inl p) =
+          let x = still-crossed moved s enc in
+          let es = s .cross .history in
+          let f = frameOf (s .cores i .state) in
+          let k = kept-is (enc .in-cross) (v .cross .kept) in
+          let m = length-map es (strike i f) in
+          let q =
+          p .1 .struck es K i f (frame-is desk sheet seen history bytes w few s o v enc) (now-less desk sheet seen history bytes w few s o v enc) (sym k)
+          (v .cross .entries) (enc .in-cross .entries) in
+          rw (p .0) (record {
+            bytes-are = record { declared = x .declared; progress = x .progress; kept = subst (λ (n : ℕ). NumberBytes n (set desk (statesAt + i) to) keptAt) (sym m) (x .kept); since = x .since; entries = q };
+            past = subst (λ (n : ℕ). KeepsPast (keptSize * n) history history′) (k ∙ sym m) (p .1 .keeps);
+          })
+
+      pub interrupt-accepts : leb maxAccepted (acceptedOf desk) ≡ false → {history′ : List ℕ} → Leaves history′
+          → Acted desk sheet seen history bytes 0 (set desk (statesAt + i) to) sheet seen history′
+      interrupt-accepts f g =
           record {
             acted = λ s o v enc.
-                let l = w .core in
-                accepts-by s o v enc (interrupt event) interrupts (interrupt-passes s o v enc) f
+                let x = left s o v enc g in
+                accepts-by desk sheet seen history bytes w few s o v enc (interrupt event) interrupts (interrupt-passes s o v enc) f
                 (subst (λ (t : ℕ). DeskBytes K (s .is-closed) (changed (s .cores) i (withState (s .cores i) t)) (s .graph .marks) (set desk (statesAt + i) to))
-                (sym (to-is s o v enc)) (state-changed (enc .in-desk) i (w .core) to))
-                (undrawn s o v enc) (unnumbered s o v enc)
-                (record { long = length-set desk (statesAt + i) to; past = λ j m. getD-set-other desk (statesAt + i) j to 0 (λ e. omega arith) })
-                (keeps-self (sheetSize K) sheet) (keeps-self (seenSize K) seen);
+                (sym (to-is s enc)) (state-changed (enc .in-desk) i (w .core) to))
+                (undrawn desk sheet seen history bytes w few s o v enc) (unnumbered desk sheet seen history bytes w few s o v enc) (x .bytes-are) (count-past moved)
+                (keeps-more (omega arith) moved) (keeps-self (sheetSize K) sheet) (keeps-self (seenSize K) seen) (x .past);
           }

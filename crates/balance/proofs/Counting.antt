@@ -1,10 +1,11 @@
 -- What one record does to the balances. Assumes nothing.
 use mathlib.Core.Path.{_≡_, refl, sym, ap, ap₂, _∙_}
-use mathlib.Core.Bool.{Bool, true, false, not, _&&_}
+use mathlib.Core.Bool.{Bool, true, false, cond, not, _&&_}
 use mathlib.Core.List.{List, [], _∷_}
-use Prim.Native.Nat.{ℕ, zero, suc, _+_, _<_, _≤_}
+use Prim.Native.Nat.{ℕ, zero, suc, _+_, _-_, _<_, _≤_}
 use native.Mathlib.Decide.{ℕ-discrete}
 use native.Mathlib.Omega.{arith}
+use lib.Dec.{ltb}
 use lib.IntN.{ℤ, pos, _+ℤ_, _-ℤ_, +ℤ-idr}
 use lib.ListN.{length, getD, set, length-set}
 use lib.Seq.{ext-getD, getD-set-same, getD-set-other}
@@ -13,13 +14,24 @@ use borrow.Author.Tests.{eq-eqb, ne-eqb}
 use mir.Syntax.{w32}
 use mir.Val.{toZ, ofZ}
 use mir.ValLaws.{toZ-ofZ}
-use Rattle.rules.specs.Limits.{maxClasses}
-use Rattle.rules.specs.Record.{Bytes, eventBy, kindOf, classOf, modeOf, isMalformed}
+use Rattle.rules.specs.Limits.{maxClasses, interruptKinds}
+use Rattle.rules.specs.Record.{Bytes, interrupt, crossEventBy, eventBy, kindOf, classOf, modeOf, isMalformed}
 use Rattle.rules.specs.Balance.{acquires, releases, countIf}
 use Rattle.balance.specs.Piece.{mostRecords, balance}
 use Rattle.balance.specs.Code.{partOf, counted}
 use Rattle.balance.proofs.Integers.{sum-small}
 use Rattle.balance.proofs.Adding.{length-each, getD-each}
+
+-- Kinds from 2 on neither acquire nor release a lock, those of a crosslock too.
+neither : (c k d m : ℕ) → (acquires c (eventBy (suc (suc k)) d m) ≡ false) × (releases c (eventBy (suc (suc k)) d m) ≡ false)
+neither c k d m = by (ltb k interruptKinds) (k - interruptKinds)
+  where
+    by : (b : Bool) (j : ℕ)
+        → (acquires c (cond b (interrupt k) (crossEventBy j d)) ≡ false) × (releases c (cond b (interrupt k) (crossEventBy j d)) ≡ false)
+    by true j = (refl, refl)
+    by false zero = (refl, refl)
+    by false (suc zero) = (refl, refl)
+    by false (suc (suc j)) = (refl, refl)
 
 module _ (r : Bytes) where
   -- ---- What it is in the balance of a class.
@@ -38,7 +50,7 @@ module _ (r : Bytes) where
       by true k = refl
       by false zero = rw (ne-eqb c (classOf r) h) refl
       by false (suc zero) = rw (ne-eqb c (classOf r) h) refl
-      by false (suc (suc k)) = refl
+      by false (suc (suc k)) = let n = neither c k (classOf r) (modeOf r) in rw (n .0, n .1) refl
 
   pub kind-part : isMalformed r ≡ false → balance (classOf r) (r ∷ []) ≡ partOf (kindOf r)
   unfolding balance
@@ -49,7 +61,7 @@ module _ (r : Bytes) where
           ≡ partOf k
       by zero = rw (eq-eqb (classOf r) (classOf r) refl) refl
       by (suc zero) = rw (eq-eqb (classOf r) (classOf r) refl) refl
-      by (suc (suc k)) = refl
+      by (suc (suc k)) = let n = neither (classOf r) k (classOf r) (modeOf r) in rw (n .0, n .1) refl
 
   -- ---- What it leaves.
 

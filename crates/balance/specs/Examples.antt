@@ -63,8 +63,10 @@ pieceCases =
     ∷ records (takes 0 63 exclusive ∷ takes 0 0 exclusive ∷ takes 0 64 exclusive ∷ frees 0 255 exclusive ∷ takes 0 127 exclusive ∷ []) (of 0 (pos 1) ∷ of 63 (pos 1) ∷ [])
     -- interrupt events count for nothing
     ∷ records (does 0 hardOn ∷ frees 0 0 exclusive ∷ []) (of 0 (negsuc 0) ∷ [])
-    -- a malformed record is skipped, and those behind it count: mode 6, that of a release too, core 8, kind 10, signature, class of an event
-    ∷ records (takes 0 1 6 ∷ frees 0 1 6 ∷ takes 8 1 exclusive ∷ says 0 10 1 0 ∷ says 0 2 1 0 ∷ takes 0 1 exclusive ∷ []) (of 1 (pos 1) ∷ [])
+    -- so do the kinds of a crosslock
+    ∷ records (says 0 10 1 0 ∷ says 1 11 1 0 ∷ says 2 12 1 0 ∷ takes 0 1 exclusive ∷ []) (of 1 (pos 1) ∷ [])
+    -- a malformed record is skipped, and those behind it count: mode 6, that of a release too, core 8, kind 13, signature, class of an event
+    ∷ records (takes 0 1 6 ∷ frees 0 1 6 ∷ takes 8 1 exclusive ∷ says 0 13 1 0 ∷ says 0 2 1 0 ∷ takes 0 1 exclusive ∷ []) (of 1 (pos 1) ∷ [])
     ∷ records ((0x4C ∷ 0x48 ∷ 0 ∷ 0 ∷ 1 ∷ 0 ∷ []) ∷ (0x4D ∷ 0x4B ∷ 0 ∷ 0 ∷ 1 ∷ 0 ∷ []) ∷ takes 0 1 exclusive ∷ []) (of 1 (pos 1) ∷ [])
     -- the length alone refuses: five bytes, seven, a header, a header and a record
     ∷ refused (take 5 (takes 0 1 exclusive))

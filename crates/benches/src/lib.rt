@@ -6,14 +6,18 @@ use answers::UNFIT;
 use fit::fits;
 use layout::CLASSES_AT;
 use layout::CLOSED_AT;
+use layout::DECLARED_AT;
 use layout::DESK_SIZE;
 use layout::ENTRIES_AT;
 use layout::ENTRY_SIZE;
 use layout::NUMBER_SIZE;
+use numbers::word_at;
 ghost use mathlib.Core.Path.{_≡_};
 ghost use Prim.Native.Nat.{_≤_};
+ghost use lib.ListN.{length};
 ghost use Rattle.rules.specs.Limits.{maxClasses};
-ghost use Rattle.benches.specs.Benches.{bench, hasRoom, joinRefusal};
+ghost use Rattle.layout.specs.Layout.{deskSize};
+ghost use Rattle.benches.specs.Benches.{bench, sameClasses, hasRoom, joinRefusal};
 
 fn larger(k1: usize, k2: usize) -> usize
     ensures { λ r. ⌜ r ≡ Rattle.benches.specs.Benches.larger k1 k2 ⌝ }
@@ -42,6 +46,17 @@ fn has_room(k: usize, desk: usize, sheet: usize, seen: usize, slip: usize) -> bo
     ENTRIES_AT + ENTRY_SIZE * k <= slip
 }
 
+// Whether two desks have as many classes, and the same of them declared crosslocks.
+fn same_classes(desk1: &[u8], desk2: &[u8]) -> bool
+    requires { ⌜ (deskSize ≤ length (now desk1)) × (deskSize ≤ length (now desk2)) ⌝ }
+    ensures { λ r. ⌜ r ≡ sameClasses (now (desk1 .entry)) (now (desk2 .entry)) ⌝ }
+{
+    if desk1[CLASSES_AT] != desk2[CLASSES_AT] {
+        return false;
+    }
+    word_at(desk1, DECLARED_AT) == word_at(desk2, DECLARED_AT)
+}
+
 // The number of the refusal, or 0. The four lengths are those of the buffers to be written.
 pub fn refusal(
     desk1: &[u8],
@@ -68,7 +83,7 @@ pub fn refusal(
     if !has_room(larger(k1, k2), desk, sheet, seen, slip) {
         return UNFIT;
     }
-    if k1 != k2 {
+    if !same_classes(desk1, desk2) {
         return OTHER_CLASSES;
     }
     if desk1[CLOSED_AT] == 1 {

@@ -19,7 +19,7 @@ use Rattle.rules.proofs.Decided.{cyclic-complete}
 use Rattle.rules.proofs.CycleExists.{cycle-exactly}
 use Rattle.validity.specs.Valid.{ValidCore}
 use Rattle.layout.specs.Layout.{acceptedAt, numberSize, closedAt, frameNumber, classesOf, stateOf, numberOf, KeepsPast}
-use Rattle.layout.specs.Number.{bytesOf}
+use Rattle.rules.specs.Number.{bytesOf}
 use Rattle.layout.specs.Decoding.{numberBy, entrySeen, SlipBytes}
 use Rattle.layout.specs.Slip.{nextPlace}
 use Rattle.layout.proofs.Numbers.{number-is}

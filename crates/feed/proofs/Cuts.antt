@@ -1,6 +1,6 @@
 -- A feed that takes bytes in pieces takes them as it takes all at once. Assumes nothing.
 use mathlib.Core.Path.{_≡_, refl, sym, ap, subst, _∙_}
-use mathlib.Core.Bool.{Bool, true, false}
+use mathlib.Core.Bool.{Bool, true}
 use mathlib.Core.List.{List, [], _∷_, _++_, append-assoc, append-nil}
 use Prim.Native.Nat.{ℕ, zero, suc, _+_, _-_, _≤_, _<_}
 use native.Mathlib.Decide.{ℕ-discrete}
@@ -11,28 +11,28 @@ use lib.Seq.{take-add}
 use Rattle.rules.specs.Log.{unitSize}
 use Rattle.validator.specs.Calls.{Buffers}
 use Rattle.progress.specs.Feed.{Feed, unitBegun, withPart}
+use Rattle.progress.proofs.UnitSizes.{unit-least}
 use Rattle.unit.specs.Units.{UnitValidated, header, a-record}
 use Rattle.feed.specs.Fed.{Fed, stopped, kept, completed}
 use Rattle.unit.specs.Parts.{PartTaken, not-yet, complete}
 
-pub some-unit : (opened : Bool) → 0 < unitSize opened
-some-unit true = omega arith
-some-unit false = omega arith
+pub some-unit : (opened : Bool) (bytes : List ℕ) → 0 < unitSize opened bytes
+some-unit opened bytes = let l = unit-least opened bytes in omega arith
 
 -- ---- No bytes.
 
 more-of-none : (f : Feed) → withPart f [] ≡ f
 more-of-none f = ap (λ (l : List ℕ). record { answer = f .answer; opened = f .opened; loose = l; number = f .number }) (append-nil (f .loose))
 
-pub fed-none : (f : Feed) (b : Buffers) → length (f .loose) < unitSize (f .opened) → Fed f b [] f b
+pub fed-none : (f : Feed) (b : Buffers) → length (f .loose) < unitSize (f .opened) (f .loose) → Fed f b [] f b
 fed-none f b h = elim (ℕ-discrete (f .answer) 0) [
   | yes e ↦ subst (λ (g : Feed). Fed f b [] g b) (more-of-none f) (kept e (rw append-nil h))
   | no n ↦ stopped n
 ]
 
 unit-none : {o : Bool} {n : ℕ} {b b′ : Buffers} {u : List ℕ} {f : Feed} → UnitValidated o n b u f b′ → Fed f b′ [] f b′
-unit-none (header {answer} {b′} o p s) = fed-none (unitBegun answer (eqb answer 0) _) b′ (some-unit (eqb answer 0))
-unit-none (a-record {answer} {b′} o t) = fed-none (unitBegun answer true _) b′ (some-unit true)
+unit-none (header {answer} {b′} o p s) = fed-none (unitBegun answer (eqb answer 0) _) b′ (some-unit (eqb answer 0) [])
+unit-none (a-record {answer} {b′} o t) = fed-none (unitBegun answer true _) b′ (some-unit true [])
 
 -- ---- Bytes, and then more.
 
@@ -83,10 +83,10 @@ module _ (piece part : List ℕ) (at wanted : ℕ) (e : part ≡ take wanted (dr
 
 -- ---- What is kept is less than a unit.
 
-unit-loose : {o : Bool} {n : ℕ} {b b′ : Buffers} {u : List ℕ} {f : Feed} → UnitValidated o n b u f b′ → length (f .loose) < unitSize (f .opened)
-unit-loose (header {answer} o p s) = some-unit (eqb answer 0)
-unit-loose (a-record o t) = some-unit true
+unit-loose : {o : Bool} {n : ℕ} {b b′ : Buffers} {u : List ℕ} {f : Feed} → UnitValidated o n b u f b′ → length (f .loose) < unitSize (f .opened) (f .loose)
+unit-loose (header {answer} o p s) = some-unit (eqb answer 0) []
+unit-loose (a-record o t) = some-unit true []
 
-pub part-loose : {f f′ : Feed} {b b′ : Buffers} {part : List ℕ} → PartTaken f b part f′ b′ → length (f′ .loose) < unitSize (f′ .opened)
+pub part-loose : {f f′ : Feed} {b b′ : Buffers} {part : List ℕ} → PartTaken f b part f′ b′ → length (f′ .loose) < unitSize (f′ .opened) (f′ .loose)
 part-loose (not-yet h) = h
 part-loose (complete l j) = unit-loose j

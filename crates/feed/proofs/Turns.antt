@@ -52,12 +52,14 @@ module _ (feed : List ℕ) (b : Buffers) (Next : Feed → Buffers → Type 0) wh
         goes-on = λ _. record { after = f; next = n; answer-is = refl; number-is = refl; bytes = q };
       }
 
+-- The count, where the loose bytes are fewer than the unit has.
+pub counted-few : (p : Progress) → Counted p → length (feedOf p .loose) < unitSize (p .opened) (feedOf p .loose) → p .count < unitSize (p .opened) (feedOf p .loose)
+counted-few p k h = omega arith
+
 -- A fit feed has fewer loose bytes than a unit.
-pub few-loose : (feed : List ℕ) (p : Progress) → fits feed ≡ true → feedOf p ≡ view feed → Counted p → p .count < unitSize (p .opened)
+pub few-loose : (feed : List ℕ) (p : Progress) → fits feed ≡ true → feedOf p ≡ view feed → Counted p → p .count < unitSize (p .opened) (feedOf p .loose)
 few-loose feed p e q k =
-    let h = formed-loose (view feed) (fit-facts feed e .formed) in
-    let g : length (feedOf p .loose) < unitSize (feedOf p .opened) = subst (λ (f : Feed). length (f .loose) < unitSize (f .opened)) (sym q) h in
-    omega arith
+    counted-few p k (subst (λ (f : Feed). length (f .loose) < unitSize (f .opened) (f .loose)) (sym q) (formed-loose (view feed) (fit-facts feed e .formed)))
 
 -- What the test says.
 pub found-fit : (feed : List ℕ) (t : Bool) → t ≡ fits feed → not t ≡ false → fits feed ≡ true

@@ -1,4 +1,4 @@
--- Document 02, b: what becomes of a feed and of the lent buffers when it takes bytes, and at the end of the log.
+-- Document 02, b and j: what becomes of a feed and of the lent buffers when it takes bytes, and at the end of the log.
 use mathlib.Core.Path.{_≡_}
 use mathlib.Core.Bool.{true, false}
 use mathlib.Core.List.{List, [], _++_}
@@ -14,9 +14,10 @@ use Rattle.unit.specs.Units.{UnitValidated}
 -- "Once an answer but 0 has come, further pieces change nothing."
 pub data Fed : Feed → Buffers → List ℕ → Feed → Buffers → Type 0 where
   stopped : {f : Feed} {b : Buffers} {bytes : List ℕ} → (f .answer ≡ 0 → ⊥) → Fed f b bytes f b
-  kept : {f : Feed} {b : Buffers} {bytes : List ℕ} → f .answer ≡ 0 → length (f .loose ++ bytes) < unitSize (f .opened) → Fed f b bytes (withPart f bytes) b
+  kept : {f : Feed} {b : Buffers} {bytes : List ℕ} → f .answer ≡ 0 → length (f .loose ++ bytes) < unitSize (f .opened) (f .loose ++ bytes)
+      → Fed f b bytes (withPart f bytes) b
   completed : {f f₁ f₂ : Feed} {b b₁ b₂ : Buffers} {bytes : List ℕ} (unit rest : List ℕ) → f .answer ≡ 0 → f .loose ++ bytes ≡ unit ++ rest
-      → length unit ≡ unitSize (f .opened) → UnitValidated (f .opened) (f .number) b unit f₁ b₁ → Fed f₁ b₁ rest f₂ b₂ → Fed f b bytes f₂ b₂
+      → length unit ≡ unitSize (f .opened) unit → UnitValidated (f .opened) (f .number) b unit f₁ b₁ → Fed f₁ b₁ rest f₂ b₂ → Fed f b bytes f₂ b₂
 
 -- "An end call refuses a missing or short header with 2 at record 0, and after it loose bytes, as a short next record; after an earlier answer but 0
 -- it repeats that one; else it gives 0 and pieces may follow."

@@ -25,12 +25,13 @@ fn take_piece(
     desk: &mut [u8],
     sheet: &mut [u8],
     seen: &mut [u8],
+    history: &mut [u8],
     slip: &mut [u8],
     first: Progress,
     piece: &[u8],
 ) -> Progress
-    requires { ⌜ Counted first × (first .count < unitSize (first .opened)) ⌝ }
-    ensures { λ r. ⌜ Fed (feedOf first) (buffers (now (desk .entry)) (now (sheet .entry)) (now (seen .entry)) (now (slip .entry))) (now (piece .entry)) (feedOf r) (buffers (now (desk .exit)) (now (sheet .exit)) (now (seen .exit)) (now (slip .exit))) × (r .count ≤ mostLoose) ⌝ }
+    requires { ⌜ Counted first × (first .count < unitSize (first .opened) (feedOf first .loose)) ⌝ }
+    ensures { λ r. ⌜ Fed (feedOf first) (buffers (now (desk .entry)) (now (sheet .entry)) (now (seen .entry)) (now (history .entry)) (now (slip .entry))) (now (piece .entry)) (feedOf r) (buffers (now (desk .exit)) (now (sheet .exit)) (now (seen .exit)) (now (history .exit)) (now (slip .exit))) × (r .count ≤ mostLoose) ⌝ }
 {
     let mut now = first;
     let mut at = 0;
@@ -38,9 +39,9 @@ fn take_piece(
         if now.answer != OK {
             return now;
         }
-        let part = next_part(piece, at, unit_size(now.opened) - now.count);
+        let part = next_part(piece, at, unit_size(now) - now.count);
         at += part.len();
-        now = take_part(desk, sheet, seen, slip, now, part);
+        now = take_part(desk, sheet, seen, history, slip, now, part);
     }
     now
 }
@@ -50,11 +51,12 @@ fn take_end(
     desk: &mut [u8],
     sheet: &mut [u8],
     seen: &mut [u8],
+    history: &mut [u8],
     slip: &mut [u8],
     p: Progress,
 ) -> Progress
     requires { ⌜ Counted p × (p .count ≤ mostLoose) ⌝ }
-    ensures { λ r. ⌜ Ended (feedOf p) (buffers (now (desk .entry)) (now (sheet .entry)) (now (seen .entry)) (now (slip .entry))) (feedOf r) (buffers (now (desk .exit)) (now (sheet .exit)) (now (seen .exit)) (now (slip .exit))) × (r .count ≤ mostLoose) ⌝ }
+    ensures { λ r. ⌜ Ended (feedOf p) (buffers (now (desk .entry)) (now (sheet .entry)) (now (seen .entry)) (now (history .entry)) (now (slip .entry))) (feedOf r) (buffers (now (desk .exit)) (now (sheet .exit)) (now (seen .exit)) (now (history .exit)) (now (slip .exit))) × (r .count ≤ mostLoose) ⌝ }
 {
     if p.answer != OK {
         return p;
@@ -67,7 +69,16 @@ fn take_end(
         return p;
     }
     let unit = p.loose;
-    validate_unit(desk, sheet, seen, slip, true, p.number, &unit[..count])
+    validate_unit(
+        desk,
+        sheet,
+        seen,
+        history,
+        slip,
+        true,
+        p.number,
+        &unit[..count],
+    )
 }
 
 // What a call of the feed says: the standing answer and its number.
@@ -93,10 +104,11 @@ pub fn feed_piece(
     desk: &mut [u8],
     sheet: &mut [u8],
     seen: &mut [u8],
+    history: &mut [u8],
     slip: &mut [u8],
     piece: &[u8],
 ) -> Said
-    ensures { λ r. ⌜ FedPiece (now (feed .entry)) (buffers (now (desk .entry)) (now (sheet .entry)) (now (seen .entry)) (now (slip .entry))) (now (piece .entry)) (r .answer) (r .number) (now (feed .exit)) (buffers (now (desk .exit)) (now (sheet .exit)) (now (seen .exit)) (now (slip .exit))) ⌝ }
+    ensures { λ r. ⌜ FedPiece (now (feed .entry)) (buffers (now (desk .entry)) (now (sheet .entry)) (now (seen .entry)) (now (history .entry)) (now (slip .entry))) (now (piece .entry)) (r .answer) (r .number) (now (feed .exit)) (buffers (now (desk .exit)) (now (sheet .exit)) (now (seen .exit)) (now (history .exit)) (now (slip .exit))) ⌝ }
 {
     if !fits_feed(feed) {
         return Said {
@@ -104,7 +116,7 @@ pub fn feed_piece(
             number: 0,
         };
     }
-    let next = take_piece(desk, sheet, seen, slip, load(feed), piece);
+    let next = take_piece(desk, sheet, seen, history, slip, load(feed), piece);
     save(feed, next);
     Said {
         answer: next.answer,
@@ -118,9 +130,10 @@ pub fn feed_end(
     desk: &mut [u8],
     sheet: &mut [u8],
     seen: &mut [u8],
+    history: &mut [u8],
     slip: &mut [u8],
 ) -> Said
-    ensures { λ r. ⌜ FedEnd (now (feed .entry)) (buffers (now (desk .entry)) (now (sheet .entry)) (now (seen .entry)) (now (slip .entry))) (r .answer) (r .number) (now (feed .exit)) (buffers (now (desk .exit)) (now (sheet .exit)) (now (seen .exit)) (now (slip .exit))) ⌝ }
+    ensures { λ r. ⌜ FedEnd (now (feed .entry)) (buffers (now (desk .entry)) (now (sheet .entry)) (now (seen .entry)) (now (history .entry)) (now (slip .entry))) (r .answer) (r .number) (now (feed .exit)) (buffers (now (desk .exit)) (now (sheet .exit)) (now (seen .exit)) (now (history .exit)) (now (slip .exit))) ⌝ }
 {
     if !fits_feed(feed) {
         return Said {
@@ -128,7 +141,7 @@ pub fn feed_end(
             number: 0,
         };
     }
-    let next = take_end(desk, sheet, seen, slip, load(feed));
+    let next = take_end(desk, sheet, seen, history, slip, load(feed));
     save(feed, next);
     Said {
         answer: next.answer,

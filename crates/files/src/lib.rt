@@ -31,10 +31,11 @@ fn feed_input(
     desk: &mut [u8],
     sheet: &mut [u8],
     seen: &mut [u8],
+    history: &mut [u8],
     slip: &mut [u8],
     buf: &mut [u8],
 ) -> bool
-    ensures { λ _. ⌜ Taken (now (feed .entry)) (buffers (now (desk .entry)) (now (sheet .entry)) (now (seen .entry)) (now (slip .entry))) (now (feed .exit)) (buffers (now (desk .exit)) (now (sheet .exit)) (now (seen .exit)) (now (slip .exit))) ⌝ }
+    ensures { λ _. ⌜ Taken (now (feed .entry)) (buffers (now (desk .entry)) (now (sheet .entry)) (now (seen .entry)) (now (history .entry)) (now (slip .entry))) (now (feed .exit)) (buffers (now (desk .exit)) (now (sheet .exit)) (now (seen .exit)) (now (history .exit)) (now (slip .exit))) ⌝ }
 {
     let mut reads = u64::MAX;
     while reads > 0 {
@@ -47,7 +48,7 @@ fn feed_input(
         if n == 0 {
             return true;
         }
-        let said = feed::feed_piece(feed, desk, sheet, seen, slip, &buf[..n]);
+        let said = feed::feed_piece(feed, desk, sheet, seen, history, slip, &buf[..n]);
         if said.answer != OK {
             return true;
         }
@@ -62,17 +63,18 @@ pub fn replay(
     desk: &mut [u8],
     sheet: &mut [u8],
     seen: &mut [u8],
+    history: &mut [u8],
     slip: &mut [u8],
     buf: &mut [u8],
 ) -> Outcome
     requires { ⌜ feedSize ≤ length (now feed) ⌝ }
-    ensures { λ r. ⌜ Replayed (buffers (now (desk .entry)) (now (sheet .entry)) (now (seen .entry)) (now (slip .entry))) r (buffers (now (desk .exit)) (now (sheet .exit)) (now (seen .exit)) (now (slip .exit))) ⌝ }
+    ensures { λ r. ⌜ Replayed (buffers (now (desk .entry)) (now (sheet .entry)) (now (seen .entry)) (now (history .entry)) (now (slip .entry))) r (buffers (now (desk .exit)) (now (sheet .exit)) (now (seen .exit)) (now (history .exit)) (now (slip .exit))) ⌝ }
 {
     feed::start(feed);
-    if !feed_input(file, feed, desk, sheet, seen, slip, buf) {
+    if !feed_input(file, feed, desk, sheet, seen, history, slip, buf) {
         return Outcome::Unread;
     }
-    let said = feed::feed_end(feed, desk, sheet, seen, slip);
+    let said = feed::feed_end(feed, desk, sheet, seen, history, slip);
     outcome::outcome_of(said.answer, said.number)
 }
 

@@ -1,19 +1,20 @@
 -- What the fit test says, clause by clause, both ways. Assumes nothing.
 use mathlib.Core.Path.{_≡_, refl, sym}
-use mathlib.Core.Bool.{Bool, true, false, _&&_, _||_, Bool·beq}
+use mathlib.Core.Bool.{Bool, true, false, not, _&&_, _||_, Bool·beq, false≢true}
 use mathlib.Core.List.{List}
 use mathlib.Core.Logic.{⊎-elim}
-use Prim.Native.Nat.{ℕ, _/_, _%_, _≤_, _<_}
+use Prim.Native.Nat.{ℕ, _/_, _%_, _^_, _≤_, _<_}
 use native.Mathlib.Decide.{decLt}
 use native.Mathlib.Omega.{arith}
 use lib.Dec.{leb, ltb, eqb}
 use lib.ListN.{length, getD}
 use borrow.Author.Tests.{ltb-true, leb-true, eqb-true, lt-ltb, le-ltb, le-leb, eq-eqb}
-use Rattle.rules.specs.Limits.{coreCount, maxClasses, maxDepth, heldModes}
+use Rattle.rules.specs.Limits.{coreCount, maxClasses, maxDepth, heldModes, maxInProgress, maxKept}
 use Rattle.rules.specs.Context.{hardOverSoft, soft, hard, mayHoldSoft, mayHoldHard}
+use Rattle.rules.specs.Crosslocks.{sizeOf}
 use Rattle.rules.proofs.Booleans.{or-cases, or-left, or-right, and-cases, and-both}
-use Rattle.layout.specs.Layout.{frameCount, placeCount, deskSize, sheetSize, seenSize, frameNumber, classesOf, closedOf, stateOf, depthOf, markOf, heldOf, originBit, pairNumber}
-use Rattle.layout.specs.Fit.{allBelow, classesFit, coreFits, heldFits, frameFits, originFits, markFits, kindsFit, graphFits, numberFits, numbersFit, fits}
+use Rattle.layout.specs.Layout.{frameCount, placeCount, deskSize, sheetSize, seenSize, frameNumber, classesOf, closedOf, stateOf, depthOf, markOf, heldOf, originBit, pairNumber, memberOf, declaredOf, progressOf, keptOf}
+use Rattle.layout.specs.Fit.{allBelow, classesFit, coreFits, heldFits, frameFits, originFits, markFits, kindsFit, graphFits, numberFits, numbersFit, wordFits, crossFits, fits}
 use Rattle.layout.proofs.AllBelow.{all-at, all-of}
 
 pub record CoreFacts (desk : List ℕ) (i : ℕ) : Type 0 where
@@ -51,6 +52,14 @@ empty-or n b e h = ⊎-elim (λ z. absurd (let q = eqb-true n 0 z in omega arith
 or-empty : (n : ℕ) (b : Bool) → (0 < n → b ≡ true) → (eqb n 0 || b) ≡ true
 or-empty n b h =
     elim (decLt 0 n) [ yes l ↦ or-right (eqb n 0) (h l) | no l ↦ or-left b (eq-eqb n 0 (omega arith)) ]
+
+not-or : (a b : Bool) → (not a || b) ≡ true → a ≡ true → b ≡ true
+not-or true b h e = h
+not-or false b h e = absurd (false≢true e)
+
+or-not : (a b : Bool) → (a ≡ true → b ≡ true) → (not a || b) ≡ true
+or-not true b h = h refl
+or-not false b h = refl
 
 module _ (desk : List ℕ) (i : ℕ) where
   core-facts : coreFits desk i ≡ true → CoreFacts desk i
@@ -178,6 +187,37 @@ module _ (desk sheet : List ℕ) where
       (and-both (all-of maxClasses (markFits (classesOf desk) desk) (λ c l. mark-fits _ desk c (f .marks c l)))
       (all-of (sheetSize (classesOf desk)) (kindsFit sheet) (λ j l. le-leb _ _ (f .kinds j l))))))))))
 
+-- Of the crosslocks.
+pub record CrossFacts (desk : List ℕ) : Type 0 where
+  pub declared : declaredOf desk < 2 ^ classesOf desk
+  pub progress : (c : ℕ) → c < maxClasses → memberOf (progressOf desk) c ≡ true → memberOf (declaredOf desk) c ≡ true
+  pub few : sizeOf (memberOf (progressOf desk)) ≤ maxInProgress
+  pub kept : keptOf desk ≤ maxKept
+
+module _ (desk : List ℕ) where
+  abbrev isDeclared : ℕ → Bool
+  isDeclared c = not (memberOf (progressOf desk) c) || memberOf (declaredOf desk) c
+
+  pub cross-facts-of : crossFits desk ≡ true → CrossFacts desk
+  unfolding crossFits wordFits
+  cross-facts-of e =
+      let a = and-cases (ltb (declaredOf desk) (2 ^ classesOf desk)) _ e in
+      let b = and-cases (allBelow maxClasses isDeclared) _ (a .1) in
+      let c = and-cases (leb (sizeOf (memberOf (progressOf desk))) maxInProgress) _ (b .1) in
+      record {
+        declared = ltb-true _ _ (a .0);
+        progress = λ i l h. not-or (memberOf (progressOf desk) i) (memberOf (declaredOf desk) i) (all-at maxClasses isDeclared (b .0) i l) h;
+        few = leb-true _ _ (c .0);
+        kept = leb-true _ _ (c .1);
+      }
+
+  cross-fits : CrossFacts desk → crossFits desk ≡ true
+  unfolding crossFits wordFits
+  cross-fits f =
+      and-both (lt-ltb _ _ (f .declared))
+      (and-both (all-of maxClasses isDeclared (λ i l. or-not (memberOf (progressOf desk) i) (memberOf (declaredOf desk) i) (f .progress i l)))
+      (and-both (le-leb _ _ (f .few)) (le-leb _ _ (f .kept))))
+
 -- Of the second sheet.
 pub record NumberFacts (desk sheet seen : List ℕ) : Type 0 where
   pub long : seenSize (classesOf desk) ≤ length seen
@@ -198,15 +238,20 @@ module _ (desk sheet seen : List ℕ) where
   unfolding fits
   facts e = graph-facts desk sheet (and-cases (graphFits desk sheet) _ e .0)
 
+  pub cross-facts : fits desk sheet seen ≡ true → CrossFacts desk
+  unfolding fits
+  cross-facts e = cross-facts-of desk (and-cases (crossFits desk) _ (and-cases (graphFits desk sheet) _ e .1) .0)
+
   pub number-facts : fits desk sheet seen ≡ true → NumberFacts desk sheet seen
   unfolding fits numbersFit numberFits
   number-facts e =
-      let a = and-cases (leb (seenSize (classesOf desk)) (length seen)) _ (and-cases (graphFits desk sheet) _ e .1) in
+      let a = and-cases (leb (seenSize (classesOf desk)) (length seen)) _ (and-cases (crossFits desk) _ (and-cases (graphFits desk sheet) _ e .1) .1) in
       record { long = leb-true _ _ (a .0); numbered = λ j l. beq-same _ _ (all-at (sheetSize (classesOf desk)) (numberFits sheet seen) (a .1) j l) }
 
-  pub fits-of : Facts desk sheet → NumberFacts desk sheet seen → fits desk sheet seen ≡ true
+  pub fits-of : Facts desk sheet → CrossFacts desk → NumberFacts desk sheet seen → fits desk sheet seen ≡ true
   unfolding fits numbersFit numberFits
-  fits-of f n =
+  fits-of f x n =
       and-both (graph-fits desk sheet f)
+      (and-both (cross-fits desk x)
       (and-both (le-leb _ _ (n .long))
-      (all-of (sheetSize (classesOf desk)) (numberFits sheet seen) (λ j l. rw (n .numbered j l) (same-beq (eqb (getD sheet j 0) 0)))))
+      (all-of (sheetSize (classesOf desk)) (numberFits sheet seen) (λ j l. rw (n .numbered j l) (same-beq (eqb (getD sheet j 0) 0))))))

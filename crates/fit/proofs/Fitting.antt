@@ -20,21 +20,24 @@ use Rattle.rules.specs.HeldLocks.{First, E, S, HeldLock, heldAs, Core, freshCor
 use Rattle.rules.specs.Marks.{Marks, Level, hardIrq, softIrq, Usage, unsafe, markBit}
 use Rattle.rules.specs.Graph.{Kind, kindBit, Dependencies, Graph}
 use Rattle.rules.specs.Decision.{tabulate}
+use Rattle.rules.specs.Crosslocks.{Crosslocks}
+use Rattle.rules.specs.Log.{wordSize}
 use Rattle.rules.specs.Run.{Journal, State}
 use Rattle.rules.proofs.Booleans.{and-cases, and-both}
 use Rattle.rules.proofs.Closure.{length-tabulate, getD-tabulate}
 use Rattle.layout.proofs.Flags.{markFlags, kindFlags, mark-packed, kind-packed, mark-digit, kind-digit}
 use Rattle.layout.proofs.Buffers.{cell-inside}
 use Rattle.layout.proofs.Held.{unheld, mode-back, value-at}
-use Rattle.layout.specs.Layout.{framesPerCore, frameCount, marksAt, originsAt, placeCount, acceptedAt, numberSize, deskSize, sheetSize, seenSize, frameNumber, classesOf, closedOf, depthOf, markOf, heldOf, originBit, originOf, kindsOf, AreBytes}
+use Rattle.layout.specs.Layout.{framesPerCore, frameCount, marksAt, originsAt, placeCount, acceptedAt, numberSize, deskSize, sheetSize, seenSize, frameNumber, classesOf, closedOf, depthOf, markOf, heldOf, originBit, originOf, kindsOf, keptOf, AreBytes}
 use Rattle.layout.proofs.Numbers.{value-small, bytes-of, byte-small}
-use Rattle.layout.specs.Encoding.{markByte, kindByte, heldByte, heldByteAt, heldOrigin, originAt, DeskBytes, SheetBytes, Encodes}
-use Rattle.layout.specs.Fit.{fits}
+use Rattle.layout.specs.Encoding.{markByte, kindByte, heldByte, heldByteAt, heldOrigin, originAt, wordOf, DeskBytes, SheetBytes, Encodes}
+use Rattle.layout.specs.Fit.{fits, entriesFit}
 use Rattle.validity.specs.Valid.{ValidLock, ValidLocks, ValidCore, Valid}
-use Rattle.layout.specs.Decoding.{heldLockOf, heldLocks, viewCore, viewCores, viewMarks, viewLocks, viewGraph, view, StandFor}
+use Rattle.layout.specs.Decoding.{heldLockOf, heldLocks, viewCore, viewCores, viewMarks, viewLocks, viewGraph, viewCross, viewJournal, view, StandFor}
 use Rattle.fit.proofs.Places.{AtPlaces, by-frame, by-place, by-origin, by-pair, by-number}
-use Rattle.fit.proofs.Facts.{CoreFacts, FrameFacts, MarkFacts, Facts, NumberFacts, facts, number-facts, fits-of}
+use Rattle.fit.proofs.Facts.{CoreFacts, FrameFacts, MarkFacts, Facts, NumberFacts, facts, cross-facts, number-facts, fits-of}
 use Rattle.fit.proofs.Journals.{fit-seen, fit-journal, journal-is, encoded-numbers}
+use Rattle.fit.proofs.Crossed.{fit-cross, cross-valid, cross-is, cross-fact, entries-fact, nothing-kept, entries-unread, cross-unread}
 
 -- The lock at place p of frame n.
 abbrev lockAt : List ℕ → ℕ → ℕ → HeldLock
@@ -126,14 +129,15 @@ module _ (desk sheet : List ℕ) (f : Facts desk sheet) where
   fit-sheet = record { long = f .square; kinds = kinds-view }
 
 -- Fit buffers encode their view.
-pub fit-encodes : (desk sheet seen : List ℕ) → fits desk sheet seen ≡ true → AreBytes deskSize desk → AreBytes (seenSize (classesOf desk)) seen
-    → Encodes (classesOf desk) (view desk sheet seen) desk sheet seen
-fit-encodes desk sheet seen e bytes numbers =
+pub fit-encodes : (desk sheet seen history : List ℕ) → fits desk sheet seen ≡ true → entriesFit desk history ≡ true → AreBytes deskSize desk
+    → AreBytes (seenSize (classesOf desk)) seen → Encodes (classesOf desk) (view desk sheet seen history) desk sheet seen history
+fit-encodes desk sheet seen history e h bytes numbers =
     let f = facts desk sheet seen e in
     record {
       in-desk = fit-desk desk sheet f bytes;
       in-count = bytes-of desk numberSize acceptedAt (λ j l. bytes (acceptedAt + j) (omega arith));
       in-sheet = fit-sheet desk sheet f;
+      in-cross = fit-cross desk history bytes h;
       in-seen = fit-seen desk sheet seen (number-facts desk sheet seen e) numbers;
     }
 
@@ -219,9 +223,9 @@ module _ (desk sheet : List ℕ) (f : Facts desk sheet) where
       let a = and-cases (ltb from K) _ (and-cases (ltb from K && ltb to K) _ e .0) in
       (ltb-true _ _ (a .0), ltb-true _ _ (a .1))
 
-pub fit-valid : (desk sheet seen : List ℕ) → fits desk sheet seen ≡ true → AreBytes deskSize desk → AreBytes (seenSize (classesOf desk)) seen
-    → Valid (classesOf desk) (view desk sheet seen)
-fit-valid desk sheet seen e bytes numbers =
+pub fit-valid : (desk sheet seen history : List ℕ) → fits desk sheet seen ≡ true → entriesFit desk history ≡ true → AreBytes deskSize desk
+    → AreBytes (seenSize (classesOf desk)) seen → Valid (classesOf desk) (view desk sheet seen history)
+fit-valid desk sheet seen history e h bytes numbers =
     let f = facts desk sheet seen e in
     record {
       cores = cores-valid desk sheet f;
@@ -231,6 +235,7 @@ fit-valid desk sheet seen e bytes numbers =
         soft-unsafe = soft-unsafe-hard desk sheet f;
         locks-in-range = locks-in-range desk sheet f;
       };
+      cross = cross-valid desk history bytes h (cross-facts desk sheet seen e);
       journal = fit-journal desk sheet seen (number-facts desk sheet seen e) (value-small desk numberSize acceptedAt (λ j l. bytes (acceptedAt + j) (omega arith)))
           numbers (λ from to l h. kinds-view desk sheet f from to l h);
     }
@@ -245,8 +250,8 @@ not-true-false : (b : Bool) → (b ≡ true → ⊥) → b ≡ false
 not-true-false true h = absurd (h refl)
 not-true-false false h = refl
 
-module _ (desk sheet seen : List ℕ) (some : 1 ≤ classesOf desk) (few : classesOf desk ≤ maxClasses)
-    (s : State) (v : Valid (classesOf desk) s) (e : Encodes (classesOf desk) s desk sheet seen) where
+module _ (desk sheet seen history : List ℕ) (some : 1 ≤ classesOf desk) (few : classesOf desk ≤ maxClasses)
+    (s : State) (v : Valid (classesOf desk) s) (e : Encodes (classesOf desk) s desk sheet seen history) where
   core-fact : (i : ℕ) → i < coreCount → CoreFacts desk i
   core-fact i l =
       record {
@@ -367,15 +372,17 @@ module _ (desk sheet seen : List ℕ) (some : 1 ≤ classesOf desk) (few : class
           (λ t. let r = v .graph .locks-in-range from to k t in
           true≢false (sym (and-both (lt-ltb _ _ (r .0)) (lt-ltb _ _ (r .1))) ∙ h)))
 
-  view-of : view desk sheet seen ≡ s
+  view-of : view desk sheet seen history ≡ s
   view-of =
       let closed : eqb (closedOf desk) 1 ≡ s .is-closed = rw (e .in-desk .closed) (flag-back (s .is-closed)) in
       let graph : viewGraph desk sheet ≡ s .graph =
       ap₂ (λ (d : Dependencies) (m : Marks). record { locks = d; marks = m })
       (fun-ext (λ f. fun-ext (λ t. fun-ext (locks-are f t)))) (fun-ext (λ c. fun-ext (λ l. fun-ext (marks-are c l)))) in
-      ap₂ (λ (b : Bool) (j : Journal). record { is-closed = b; cores = viewCores desk; graph = viewGraph desk sheet; journal = j }) closed
-      (journal-is desk seen (s .graph .locks) (s .journal) (v .journal) (e .in-count) (e .in-seen) (v .graph .locks-in-range))
-      ∙ ap₂ (λ (c : ℕ → Core) (g : Graph). record { is-closed = s .is-closed; cores = c; graph = g; journal = s .journal }) (fun-ext core-is) graph
+      ap₂ (λ (b : Bool) (j : Journal). record { is-closed = b; cores = viewCores desk; graph = viewGraph desk sheet; cross = viewCross desk history; journal = j })
+      closed (journal-is desk seen (s .graph .locks) (s .journal) (v .journal) (e .in-count) (e .in-seen) (v .graph .locks-in-range))
+      ∙ ap₂ (λ (c : ℕ → Core) (x : Crosslocks). record { is-closed = s .is-closed; cores = c; graph = viewGraph desk sheet; cross = x; journal = s .journal })
+      (fun-ext core-is) (cross-is desk history few (s .cross) (v .cross) (e .in-cross))
+      ∙ ap (λ (g : Graph). record { is-closed = s .is-closed; cores = s .cores; graph = g; cross = s .cross; journal = s .journal }) graph
 
   all-facts : Facts desk sheet
   all-facts =
@@ -408,34 +415,64 @@ module _ (desk sheet seen : List ℕ) (some : 1 ≤ classesOf desk) (few : class
             ];
         origins = e .in-desk .eight;
         accepted = λ j l. rw (e .in-count j l) (byte-small numberSize (s .journal .accepted) j l);
+        declared = λ j l. rw (e .in-cross .declared j l) (byte-small wordSize (wordOf (s .cross .declared)) j l);
+        progress = λ j l. rw (e .in-cross .progress j l) (byte-small wordSize (wordOf (s .cross .progress)) j l);
+        kept = λ j l. rw (e .in-cross .kept j l) (byte-small numberSize (length (s .cross .history)) j l);
+        since = λ c j h l. rw (e .in-cross .since c h j l) (byte-small numberSize (s .cross .since c) j l);
       }
 
   number-fact : NumberFacts desk sheet seen
   number-fact = encoded-numbers desk seen (s .graph .locks) (s .journal) (v .journal) (e .in-count) (e .in-seen) sheet some (e .in-sheet)
 
 -- What encodes a valid state stands for it.
-stands-at : {s : State} {desk sheet seen : List ℕ} → 1 ≤ classesOf desk → classesOf desk ≤ maxClasses → Valid (classesOf desk) s
-    → Encodes (classesOf desk) s desk sheet seen → StandFor (classesOf desk) s desk sheet seen
-stands-at {s} {desk} {sheet} {seen} some few v e =
+stands-at : {s : State} {desk sheet seen history : List ℕ} → 1 ≤ classesOf desk → classesOf desk ≤ maxClasses → Valid (classesOf desk) s
+    → Encodes (classesOf desk) s desk sheet seen history → StandFor (classesOf desk) s desk sheet seen history
+stands-at {s} {desk} {sheet} {seen} {history} some few v e =
     record {
-      fit = fits-of desk sheet seen (all-facts desk sheet seen some few s v e) (number-fact desk sheet seen some few s v e);
+      fit = fits-of desk sheet seen (all-facts desk sheet seen history some few s v e) (cross-fact desk history few (s .cross) (v .cross) (e .in-cross))
+          (number-fact desk sheet seen history some few s v e);
+      entries = entries-fact desk history few (s .cross) (v .cross) (e .in-cross);
       classes = refl;
-      bytes = by-place (λ j. getD desk j 0 < 256) (byte-places desk sheet seen some few s v e);
+      bytes = by-place (λ j. getD desk j 0 < 256) (byte-places desk sheet seen history some few s v e);
       numbers = by-number (classesOf desk) some (λ j. getD seen j 0 < 256)
           (λ from to b l h k. rw (e .in-seen .numbers from to l h b k) (byte-small numberSize (s .journal .seen from to) b k));
-      is-view = view-of desk sheet seen some few s v e;
+      is-view = view-of desk sheet seen history some few s v e;
     }
 
 -- ---- Standing for a state and encoding it are the same.
 
-pub stand-encodes : {K : ℕ} {s : State} {desk sheet seen : List ℕ} → StandFor K s desk sheet seen → Encodes K s desk sheet seen
-stand-encodes {K} {s} {desk} {sheet} {seen} f =
-    subst₂ (λ (k : ℕ) (s : State). Encodes k s desk sheet seen) (f .classes) (f .is-view)
-    (fit-encodes desk sheet seen (f .fit) (f .bytes) (subst (λ (k : ℕ). AreBytes (seenSize k) seen) (sym (f .classes)) (f .numbers)))
+pub stand-encodes : {K : ℕ} {s : State} {desk sheet seen history : List ℕ} → StandFor K s desk sheet seen history → Encodes K s desk sheet seen history
+stand-encodes {K} {s} {desk} {sheet} {seen} {history} f =
+    subst₂ (λ (k : ℕ) (s : State). Encodes k s desk sheet seen history) (f .classes) (f .is-view)
+    (fit-encodes desk sheet seen history (f .fit) (f .entries) (f .bytes) (subst (λ (k : ℕ). AreBytes (seenSize k) seen) (sym (f .classes)) (f .numbers)))
 
-pub encodes-stand : {K : ℕ} {s : State} {desk sheet seen : List ℕ} → 1 ≤ K → K ≤ maxClasses → Valid K s → Encodes K s desk sheet seen
-    → StandFor K s desk sheet seen
-encodes-stand {K} {s} {desk} {sheet} {seen} some few v e =
+pub stand-valid : {K : ℕ} {s : State} {desk sheet seen history : List ℕ} → StandFor K s desk sheet seen history → Valid K s
+stand-valid {K} {s} {desk} {sheet} {seen} {history} f =
+    subst₂ (λ (k : ℕ) (s : State). Valid k s) (f .classes) (f .is-view)
+    (fit-valid desk sheet seen history (f .fit) (f .entries) (f .bytes) (subst (λ (k : ℕ). AreBytes (seenSize k) seen) (sym (f .classes)) (f .numbers)))
+
+pub encodes-stand : {K : ℕ} {s : State} {desk sheet seen history : List ℕ} → 1 ≤ K → K ≤ maxClasses → Valid K s → Encodes K s desk sheet seen history
+    → StandFor K s desk sheet seen history
+encodes-stand {K} {s} {desk} {sheet} {seen} {history} some few v e =
     let k : classesOf desk ≡ K = e .in-desk .classes in
-    subst (λ (n : ℕ). StandFor n s desk sheet seen) k
-    (stands-at (rw k some) (rw k few) (rw k v) (subst (λ (n : ℕ). Encodes n s desk sheet seen) (sym k) e))
+    subst (λ (n : ℕ). StandFor n s desk sheet seen history) k
+    (stands-at (rw k some) (rw k few) (rw k v) (subst (λ (n : ℕ). Encodes n s desk sheet seen history) (sym k) e))
+
+-- Where nothing is kept, every history does.
+pub any-history : {K : ℕ} {s : State} {desk sheet seen history : List ℕ} → StandFor K s desk sheet seen history → s .cross .history ≡ []
+    → (other : List ℕ) → StandFor K s desk sheet seen other
+any-history {K} {s} {desk} {sheet} {seen} {history} f none other =
+    let empty : keptOf desk ≡ 0 = nothing-kept desk history (ap (λ (s : State). s .cross .history) (f .is-view) ∙ none) in
+    record {
+      fit = f .fit;
+      entries = entries-unread desk other empty;
+      classes = f .classes;
+      bytes = f .bytes;
+      numbers = f .numbers;
+      is-view =
+          ap
+          (λ (x : Crosslocks).
+          record { is-closed = eqb (closedOf desk) 1; cores = viewCores desk; graph = viewGraph desk sheet; cross = x; journal = viewJournal desk seen })
+          (cross-unread desk other history empty)
+          ∙ f .is-view;
+    }

@@ -1,4 +1,4 @@
--- Every byte of the desk and of the sheets has a name: what holds at each named place holds of every byte. Assumes nothing.
+-- Every byte of the desk, of the sheets and of the entries of a history has a name: what holds at each named place holds of every byte. Assumes nothing.
 use mathlib.Core.Path.{_≡_, subst}
 use Prim.Native.Nat.{ℕ, _+_, _-_, _*_, _/_, _%_, _≤_, _<_}
 use native.Mathlib.Nat.{mod-lt, div-add-mod', div-lt-iff-lt-mul}
@@ -6,7 +6,8 @@ use native.Mathlib.Decide.{decLt}
 use native.Mathlib.Omega.{arith}
 use Rattle.rules.specs.Limits.{coreCount, maxClasses, maxDepth}
 use Rattle.rules.specs.Context.{Frame}
-use Rattle.layout.specs.Layout.{framesPerCore, frameCount, classesAt, closedAt, statesAt, depthsAt, marksAt, heldAt, originsAt, placeCount, originBytes, acceptedAt, numberSize, deskSize, sheetSize, seenSize, frameNumber}
+use Rattle.rules.specs.Log.{wordSize}
+use Rattle.layout.specs.Layout.{framesPerCore, frameCount, classesAt, closedAt, statesAt, depthsAt, marksAt, heldAt, originsAt, placeCount, originBytes, acceptedAt, numberSize, declaredAt, progressAt, keptAt, sinceAt, deskSize, sheetSize, seenSize, keptSize, frameNumber}
 
 -- Every frame is one of a core's.
 pub by-frame : (P : ℕ → Type 0) → ((i : ℕ) (f : Frame) → i < coreCount → f < framesPerCore → P (frameNumber i f))
@@ -26,10 +27,14 @@ pub record AtPlaces (P : ℕ → Type 0) : Type 0 where
       → P (heldAt + maxDepth * frameNumber i f + p)
   pub origins : (b : ℕ) → b < originBytes → P (originsAt + b)
   pub accepted : (b : ℕ) → b < numberSize → P (acceptedAt + b)
+  pub declared : (b : ℕ) → b < wordSize → P (declaredAt + b)
+  pub progress : (b : ℕ) → b < wordSize → P (progressAt + b)
+  pub kept : (b : ℕ) → b < numberSize → P (keptAt + b)
+  pub since : (c b : ℕ) → c < maxClasses → b < numberSize → P (sinceAt + numberSize * c + b)
 
 -- Every byte below deskSize has a named place.
-pub by-place : (P : ℕ → Type 0) → AtPlaces P → (j : ℕ) → j < deskSize → P j
-by-place P a j l =
+before-count : (P : ℕ → Type 0) → AtPlaces P → (j : ℕ) → j < acceptedAt → P j
+before-count P a j l =
     elim (decLt j closedAt) [
       | yes h ↦ let e : classesAt ≡ j = omega arith in subst P e (a .classes)
       | no h₀ ↦ elim (decLt j statesAt) [
@@ -49,11 +54,30 @@ by-place P a j l =
                     subst P e
                     (by-frame (λ n. P (heldAt + maxDepth * n + q % maxDepth)) (λ i f h g. a .held i f (q % maxDepth) h g (omega arith))
                     (q / maxDepth) (omega arith))
-                | no h₅ ↦ elim (decLt j acceptedAt) [
-                  | yes h ↦ let e : originsAt + (j - originsAt) ≡ j = omega arith in subst P e (a .origins (j - originsAt) (omega arith))
-                  | no h₆ ↦ let e : acceptedAt + (j - acceptedAt) ≡ j = omega arith in subst P e (a .accepted (j - acceptedAt) (omega arith))
-                ]
+                | no h₅ ↦ let e : originsAt + (j - originsAt) ≡ j = omega arith in subst P e (a .origins (j - originsAt) (omega arith))
               ]
+            ]
+          ]
+        ]
+      ]
+    ]
+
+pub by-place : (P : ℕ → Type 0) → AtPlaces P → (j : ℕ) → j < deskSize → P j
+by-place P a j l =
+    elim (decLt j acceptedAt) [
+      | yes h ↦ before-count P a j h
+      | no h₀ ↦ elim (decLt j declaredAt) [
+        | yes h ↦ let e : acceptedAt + (j - acceptedAt) ≡ j = omega arith in subst P e (a .accepted (j - acceptedAt) (omega arith))
+        | no h₁ ↦ elim (decLt j progressAt) [
+          | yes h ↦ let e : declaredAt + (j - declaredAt) ≡ j = omega arith in subst P e (a .declared (j - declaredAt) (omega arith))
+          | no h₂ ↦ elim (decLt j keptAt) [
+            | yes h ↦ let e : progressAt + (j - progressAt) ≡ j = omega arith in subst P e (a .progress (j - progressAt) (omega arith))
+            | no h₃ ↦ elim (decLt j sinceAt) [
+              | yes h ↦ let e : keptAt + (j - keptAt) ≡ j = omega arith in subst P e (a .kept (j - keptAt) (omega arith))
+              | no h₄ ↦
+                  let q = j - sinceAt in
+                  let e : sinceAt + numberSize * (q / numberSize) + q % numberSize ≡ j = omega arith in
+                  subst P e (a .since (q / numberSize) (q % numberSize) (omega arith) (omega arith))
             ]
           ]
         ]
@@ -79,3 +103,12 @@ by-number K some P a j l =
     let e : numberSize * (j / numberSize) + j % numberSize ≡ j = omega arith in
     subst P e
     (by-pair K some (λ i. P (numberSize * i + j % numberSize)) (λ from to lf lt. a from to (j % numberSize) lf lt (omega arith)) (j / numberSize) (omega arith))
+
+-- Every byte of the entries of the history is the first or the second of one.
+pub by-entry : (n : ℕ) (P : ℕ → Type 0) → ((i : ℕ) → i < n → P (keptSize * i)) → ((i : ℕ) → i < n → P (keptSize * i + 1))
+    → (j : ℕ) → j < keptSize * n → P j
+by-entry n P a b j l =
+    elim (decLt (j % keptSize) 1) [
+      | yes h ↦ let e : keptSize * (j / keptSize) ≡ j = omega arith in subst P e (a (j / keptSize) (omega arith))
+      | no h ↦ let e : keptSize * (j / keptSize) + 1 ≡ j = omega arith in subst P e (b (j / keptSize) (omega arith))
+    ]

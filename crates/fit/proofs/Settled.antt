@@ -11,9 +11,10 @@ use Rattle.words.proofs.Words.{bits-same, bit-shift, bit-high}
 use Rattle.rules.specs.HeldLocks.{Core}
 use Rattle.rules.specs.Marks.{Marks}
 use Rattle.rules.specs.Graph.{Dependencies}
-use Rattle.layout.specs.Layout.{originsAt, placeCount, acceptedAt, deskSize, sheetSize, seenSize, originBit, KeepsPast}
-use Rattle.layout.specs.Encoding.{DeskBytes, SheetBytes, NumberBytes, SeenBytes}
-use Rattle.fit.proofs.Places.{AtPlaces, by-place, by-origin, by-pair, by-number}
+use Rattle.rules.specs.Crosslocks.{History, Crosslocks}
+use Rattle.layout.specs.Layout.{originsAt, placeCount, acceptedAt, deskSize, sheetSize, seenSize, keptSize, originBit, KeepsPast}
+use Rattle.layout.specs.Encoding.{DeskBytes, SheetBytes, NumberBytes, SeenBytes, HistoryBytes, CrossBytes}
+use Rattle.fit.proofs.Places.{AtPlaces, by-place, by-origin, by-pair, by-number, by-entry}
 
 -- Two lists of one length are equal if they are below n and from n on.
 meets : (n : ℕ) (x y : List ℕ) → length x ≡ length y → ((j : ℕ) → j < n → getD x j 0 ≡ getD y j 0)
@@ -34,9 +35,9 @@ same-byte w v l h e =
       | no q ↦ bit-high 8 w t l (omega arith) ∙ sym (bit-high 8 v t h (omega arith))
     ])
 
-module _ (K : ℕ) (is-closed : Bool) (cores : ℕ → Core) (marks : Marks) (accepted : ℕ) (x y : List ℕ)
+module _ (K : ℕ) (is-closed : Bool) (cores : ℕ → Core) (marks : Marks) (accepted : ℕ) (cross : Crosslocks) (x y history₁ history₂ : List ℕ)
     (a : DeskBytes K is-closed cores marks x) (b : DeskBytes K is-closed cores marks y) (n : NumberBytes accepted x acceptedAt)
-    (m : NumberBytes accepted y acceptedAt) where
+    (m : NumberBytes accepted y acceptedAt) (c : CrossBytes cross x history₁) (d : CrossBytes cross y history₂) where
   same-origins : (k : ℕ) → k < placeCount → originBit x k ≡ originBit y k
   same-origins = by-origin (λ k. originBit x k ≡ originBit y k) (λ i f p l h q. a .origins i f p l h q ∙ sym (b .origins i f p l h q))
 
@@ -47,7 +48,7 @@ module _ (K : ℕ) (is-closed : Bool) (cores : ℕ → Core) (marks : Marks) (ac
         closed = a .closed ∙ sym (b .closed);
         states = λ i l. a .states i l ∙ sym (b .states i l);
         depths = λ i f l h. a .depths i f l h ∙ sym (b .depths i f l h);
-        usage = λ c l. a .usage c l ∙ sym (b .usage c l);
+        usage = λ i l. a .usage i l ∙ sym (b .usage i l);
         held = λ i f p l h q. a .held i f p l h q ∙ sym (b .held i f p l h q);
         origins = λ k l.
             same-byte (getD x (originsAt + k) 0) (getD y (originsAt + k) 0) (a .eight k l) (b .eight k l)
@@ -56,6 +57,10 @@ module _ (K : ℕ) (is-closed : Bool) (cores : ℕ → Core) (marks : Marks) (ac
             let r : (8 * k + t) % 8 ≡ t = omega arith in
             rw (e, r) at (same-origins (8 * k + t) (omega arith)));
         accepted = λ j l. n j l ∙ sym (m j l);
+        declared = λ j l. c .declared j l ∙ sym (d .declared j l);
+        progress = λ j l. c .progress j l ∙ sym (d .progress j l);
+        kept = λ j l. c .kept j l ∙ sym (d .kept j l);
+        since = λ i j h l. c .since i h j l ∙ sym (d .since i h j l);
       }
 
   pub settled-desk : length x ≡ length y → ((j : ℕ) → deskSize ≤ j → getD x j 0 ≡ getD y j 0) → x ≡ y
@@ -79,3 +84,10 @@ module _ (K : ℕ) (some : 1 ≤ K) (seen : ℕ → ℕ → ℕ) (x y : List ℕ
   settled-seen-after before =
       both-keep (seenSize K) before x y
       (by-number K some (λ j. getD x j 0 ≡ getD y j 0) (λ from to i l h k. a .numbers from to l h i k ∙ sym (b .numbers from to l h i k)))
+
+-- Of the history that is the bytes of its entries.
+module _ (entries : History) (x y : List ℕ) (a : HistoryBytes entries x) (b : HistoryBytes entries y) where
+  pub settled-history-after : (before : List ℕ) → KeepsPast (keptSize * length entries) before x → KeepsPast (keptSize * length entries) before y → x ≡ y
+  settled-history-after before =
+      both-keep (keptSize * length entries) before x y
+      (by-entry (length entries) (λ j. getD x j 0 ≡ getD y j 0) (λ i l. a .places i l ∙ sym (b .places i l)) (λ i l. a .locks i l ∙ sym (b .locks i l)))

@@ -1,4 +1,5 @@
 // The fit test of document 01: whether desk and both sheets are such as opening and steps leave.
+use cross_fit::cross_fits;
 use desk_fit::cores_fit;
 use desk_fit::frames_fit;
 use desk_fit::marks_fit;
@@ -89,6 +90,9 @@ pub fn fits(desk: &[u8], sheet: &[u8], seen: &[u8]) -> bool
     ensures { λ r. ⌜ r ≡ Rattle.layout.specs.Fit.fits (now (desk .entry)) (now (sheet .entry)) (now (seen .entry)) ⌝ }
 {
     if !graph_fits(desk, sheet) {
+        return false;
+    }
+    if !cross_fits(desk) {
         return false;
     }
     let k = desk[CLASSES_AT] as usize;

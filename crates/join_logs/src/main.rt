@@ -8,6 +8,7 @@ use files::SHEET_SIZE;
 use files::SLIP_SIZE;
 use join_text::is_clean;
 use layout::DESK_SIZE;
+use layout::HISTORY_SIZE;
 use log::TEXT_SIZE;
 use outcome::Outcome;
 use outcome::is_answer;
@@ -41,6 +42,7 @@ fn main() {
     let mut desk1 = [0u8; DESK_SIZE];
     let mut sheet1 = [0u8; SHEET_SIZE];
     let mut seen1 = [0u8; SEEN_SIZE];
+    let mut history = [0u8; HISTORY_SIZE];
     let mut slip1 = [0u8; SLIP_SIZE];
     let mut desk2 = [0u8; DESK_SIZE];
     let mut sheet2 = [0u8; SHEET_SIZE];
@@ -58,6 +60,7 @@ fn main() {
         &mut desk1,
         &mut sheet1,
         &mut seen1,
+        &mut history,
         &mut slip1,
         &mut buf,
     );
@@ -67,6 +70,7 @@ fn main() {
         &mut desk2,
         &mut sheet2,
         &mut seen2,
+        &mut history,
         &mut slip2,
         &mut buf,
     );

@@ -1,7 +1,7 @@
 -- What the joiner leaves: that the tests were passed, what is then drawn, and what is concluded from it. Assumes nothing.
 use mathlib.Core.Path.{_≡_, refl, sym, ap, ap₂, _∙_, subst, fun-ext}
 use mathlib.Core.Bool.{Bool, true, false, cond, not, _||_, or-false, and-false, true≢false}
-use mathlib.Core.List.{List}
+use mathlib.Core.List.{List, []}
 use mathlib.Core.Logic.{inr}
 use Prim.Native.Nat.{ℕ, _+_, _*_, _<_, _≤_}
 use native.Mathlib.Decide.{ℕ-discrete}
@@ -13,24 +13,29 @@ use borrow.Author.Tests.{leb-true, eqb-true, lt-ltb}
 use Rattle.rules.specs.Limits.{coreCount, maxClasses}
 use Rattle.rules.specs.HeldLocks.{freshCore}
 use Rattle.rules.specs.Marks.{Marks}
+use Rattle.rules.specs.Log.{wordSize}
 use Rattle.rules.specs.Run.{State}
 use Rattle.rules.specs.Join.{joinedState, firstOr}
 use Rattle.rules.proofs.Booleans.{and-cases}
 use Rattle.validity.specs.Valid.{Valid}
 use Rattle.validity.proofs.Kept.{valid-joined}
-use Rattle.layout.specs.Layout.{marksAt, acceptedAt, numberSize, deskSize, sheetSize, seenSize, slipSize, classesOf, pairNumber, countOf, AreBytes}
-use Rattle.layout.specs.Encoding.{DeskBytes, SheetBytes, NumberBytes, SeenBytes, Encodes}
-use Rattle.layout.proofs.Buffers.{cell-inside, keeps-both}
+use Rattle.layout.specs.Layout.{marksAt, acceptedAt, declaredAt, numberSize, deskSize, sheetSize, seenSize, slipSize, classesOf, declaredOf, pairNumber, countOf, AreBytes}
+use Rattle.layout.specs.Encoding.{DeskBytes, SheetBytes, NumberBytes, SeenBytes, CrossBytes, Encodes}
+use Rattle.layout.proofs.Buffers.{cell-inside, keeps-self, keeps-both}
+use Rattle.layout.proofs.Cross.{cross-kept}
+use Rattle.layout.proofs.Numbers.{value-small}
 use Rattle.layout.proofs.Flags.{mark-or, kind-or}
 use Rattle.update.proofs.Cores.{marks-changed}
 use Rattle.fit.proofs.Facts.{facts, number-facts}
 use Rattle.fit.proofs.Fitting.{fit-encodes, fit-valid}
-use Rattle.opening.proofs.Opens.{opened-desk, opened-count, desk-keeps}
+use Rattle.fit.proofs.Crossed.{no-entries}
+use Rattle.opening.specs.Open.{openedDesk}
+use Rattle.opening.proofs.Opens.{opened-desk, opened-count, opened-cross, desk-keeps}
 use Rattle.cores.specs.Cores.{Cored}
 use Rattle.conclusion.specs.Conclude.{withMarks, Sheeted, Concluded}
 use Rattle.validator.proofs.Carried.{carried-out}
-use Rattle.benches.specs.Benches.{Bench, benchFits, benchState, benchClasses, isClosed, larger, hasRoom, joinUnfit, joinRefusal}
-use Rattle.benches.proofs.Refusals.{refusal-high}
+use Rattle.benches.specs.Benches.{Bench, benchFits, benchState, benchClasses, isClosed, larger, sameClasses, hasRoom, joinUnfit, joinRefusal}
+use Rattle.benches.proofs.Refusals.{refusal-high, same-both}
 use Rattle.joiner.specs.Joining.{Joined}
 use Rattle.joiner.specs.Parts.{Ready, DrawnOfBoth}
 
@@ -70,6 +75,7 @@ module _ (one two : Bench) (desk sheet seen slip : List ℕ) where
     pub fit₁ : benchFits one ≡ true
     pub fit₂ : benchFits two ≡ true
     pub same : benchClasses two ≡ K
+    pub declared : declaredOf (one .desk) ≡ declaredOf (two .desk)
     pub desk-room : deskSize ≤ length desk
     pub sheet-room : sheetSize K ≤ length sheet
     pub seen-room : seenSize K ≤ length seen
@@ -78,9 +84,10 @@ module _ (one two : Bench) (desk sheet seen slip : List ℕ) where
   pub passed : refusal ≡ 0 → Passed
   unfolding joinRefusal joinUnfit hasRoom
   passed z =
-      let a = none-refused (joinUnfit one two (length desk) (length sheet) (length seen) (length slip)) (not (eqb K (benchClasses two))) (isClosed one || isClosed two) z in
+      let a = none-refused (joinUnfit one two (length desk) (length sheet) (length seen) (length slip)) (not (sameClasses (one .desk) (two .desk))) (isClosed one || isClosed two) z in
       let b = none-unfit (benchFits one) (benchFits two) (hasRoom (larger K (benchClasses two)) (length desk) (length sheet) (length seen) (length slip)) (a .0) in
-      let e : benchClasses two ≡ K = sym (eqb-true _ _ (not-not _ (a .1))) in
+      let both = same-both (one .desk) (two .desk) (not-not _ (a .1)) in
+      let e : benchClasses two ≡ K = sym (both .0) in
       let k : larger K (benchClasses two) ≡ K = rw e (larger-self K) in
       let r : hasRoom K (length desk) (length sheet) (length seen) (length slip) ≡ true = rw k at (b .2) in
       let p = and-cases (leb deskSize (length desk)) _ r in
@@ -90,6 +97,7 @@ module _ (one two : Bench) (desk sheet seen slip : List ℕ) where
         fit₁ = b .0;
         fit₂ = b .1;
         same = e;
+        declared = both .1;
         desk-room = leb-true _ _ (p .0);
         sheet-room = leb-true _ _ (q .0);
         seen-room = leb-true _ _ (s .0);
@@ -131,22 +139,22 @@ module _ (one two : Bench) (desk sheet seen slip : List ℕ) where
       abbrev t : State
       t = joinedState (benchState one) (benchState two)
 
-      encodes₁ : Encodes K (benchState one) (one .desk) (one .sheet) (one .seen)
-      encodes₁ = fit-encodes (one .desk) (one .sheet) (one .seen) (p .fit₁) small₁ numbers₁
+      encodes₁ : Encodes K (benchState one) (one .desk) (one .sheet) (one .seen) []
+      encodes₁ = fit-encodes (one .desk) (one .sheet) (one .seen) [] (p .fit₁) (no-entries (one .desk)) small₁ numbers₁
 
-      encodes₂ : Encodes K (benchState two) (two .desk) (two .sheet) (two .seen)
+      encodes₂ : Encodes K (benchState two) (two .desk) (two .sheet) (two .seen) []
       encodes₂ =
-          subst (λ (k : ℕ). Encodes k (benchState two) (two .desk) (two .sheet) (two .seen)) (p .same)
-          (fit-encodes (two .desk) (two .sheet) (two .seen) (p .fit₂) small₂ numbers₂)
+          subst (λ (k : ℕ). Encodes k (benchState two) (two .desk) (two .sheet) (two .seen) []) (p .same)
+          (fit-encodes (two .desk) (two .sheet) (two .seen) [] (p .fit₂) (no-entries (two .desk)) small₂ numbers₂)
 
       valid : Valid K t
       valid =
-          valid-joined (fit-valid (one .desk) (one .sheet) (one .seen) (p .fit₁) small₁ numbers₁)
-          (subst (λ (k : ℕ). Valid k (benchState two)) (p .same) (fit-valid (two .desk) (two .sheet) (two .seen) (p .fit₂) small₂ numbers₂))
+          valid-joined (fit-valid (one .desk) (one .sheet) (one .seen) [] (p .fit₁) (no-entries (one .desk)) small₁ numbers₁)
+          (subst (λ (k : ℕ). Valid k (benchState two)) (p .same) (fit-valid (two .desk) (two .sheet) (two .seen) [] (p .fit₂) (no-entries (two .desk)) small₂ numbers₂))
 
       in-desk : DeskBytes K false (t .cores) (t .graph .marks) desk′
       in-desk =
-          marks-changed (opened-desk K desk (p .desk-room)) (record { long = D .marks .long; else = D .marks .else })
+          marks-changed (opened-desk K (declaredOf (one .desk)) desk (p .desk-room)) (record { long = D .marks .long; else = D .marks .else })
           (record {
             usage = λ c l.
                 D .marks .both (marksAt + c) (omega arith) (omega arith)
@@ -155,7 +163,13 @@ module _ (one two : Bench) (desk sheet seen slip : List ℕ) where
           })
 
       in-count : NumberBytes (t .journal .accepted) desk′ acceptedAt
-      in-count j l = D .marks .else (acceptedAt + j) (inr (omega arith)) ∙ opened-count K desk (p .desk-room) j l
+      in-count j l = D .marks .else (acceptedAt + j) (inr (omega arith)) ∙ opened-count K (declaredOf (one .desk)) desk (p .desk-room) j l
+
+      in-cross : CrossBytes (t .cross) desk′ []
+      in-cross =
+          cross-kept (t .cross) (openedDesk K (declaredOf (one .desk)) desk) desk′ [] (λ j l h. D .marks .else j (inr (omega arith)))
+          (opened-cross K (declaredOf (one .desk)) desk (p .desk-room)
+          (value-small (one .desk) wordSize declaredAt (λ j l. small₁ (declaredAt + j) (omega arith))) [])
 
       in-sheet : SheetBytes K (t .graph .locks) sheet′
       in-sheet =
@@ -204,10 +218,10 @@ module _ (one two : Bench) (desk sheet seen slip : List ℕ) where
           record {
             is-refused = λ l. absurd (omega arith);
             is-joined = λ _.
-                carried-out K 0 t (t .graph .marks) desk sheet seen slip desk′ sheet′ seen′ (facts (one .desk) (one .sheet) (one .seen) (p .fit₁) .some) few valid refl
-                (ap (λ (m : Marks). record { locks = t .graph .locks; marks = m }) (fresh-marks (t .graph .marks))) in-desk in-count in-sheet in-seen
-                (keeps-both (desk-keeps K desk (p .desk-room)) (record { long = D .marks .long; past = λ j l. D .marks .else j (inr (omega arith)) }))
-                (record { long = D .kinds .long; past = λ j l. D .kinds .else j (inr l) }) (D .numbers .keeps) c;
+                carried-out K 0 t (t .graph .marks) desk sheet seen [] slip desk′ sheet′ seen′ [] (facts (one .desk) (one .sheet) (one .seen) (p .fit₁) .some) few valid refl
+                (ap (λ (m : Marks). record { locks = t .graph .locks; marks = m }) (fresh-marks (t .graph .marks))) in-desk in-count in-sheet in-seen in-cross
+                (keeps-both (desk-keeps K (declaredOf (one .desk)) desk (p .desk-room)) (record { long = D .marks .long; past = λ j l. D .marks .else j (inr (omega arith)) }))
+                (record { long = D .kinds .long; past = λ j l. D .kinds .else j (inr l) }) (D .numbers .keeps) (keeps-self 0 []) c;
           }
 
 -- The slip of a fault has a cycle of at most 64 dependencies.

@@ -3,7 +3,7 @@ use mathlib.Core.List.{List}
 use Prim.Native.Nat.{ℕ, _+_, _≤_}
 use lib.ListN.{length}
 use Rattle.rules.specs.Limits.{maxClasses}
-use Rattle.layout.specs.Layout.{marksAt, deskSize, sheetSize, seenSize, classesOf}
+use Rattle.layout.specs.Layout.{marksAt, deskSize, sheetSize, seenSize, classesOf, declaredOf}
 use Rattle.opening.specs.Open.{openedDesk}
 use Rattle.uniting.specs.United.{United, NumbersJoined}
 use Rattle.benches.specs.Benches.{Bench}
@@ -23,6 +23,6 @@ pub record Ready (one two : Bench) (desk sheet seen : List ℕ) : Type 0 where
 
 -- Desk and sheets as the join writes them, before the search: a fresh desk with the marks, the kinds, the numbers.
 pub record DrawnOfBoth (one two : Bench) (desk sheet seen desk′ sheet′ seen′ : List ℕ) : Type 0 where
-  pub marks : United (one .desk) (two .desk) marksAt (marksAt + maxClasses) (openedDesk (classesOf (one .desk)) desk) desk′
+  pub marks : United (one .desk) (two .desk) marksAt (marksAt + maxClasses) (openedDesk (classesOf (one .desk)) (declaredOf (one .desk)) desk) desk′
   pub kinds : United (one .sheet) (two .sheet) 0 (sheetSize (classesOf (one .desk))) sheet sheet′
   pub numbers : NumbersJoined (one .seen) (two .seen) (sheetSize (classesOf (one .desk))) seen seen′

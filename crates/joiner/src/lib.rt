@@ -3,8 +3,10 @@ use answers::OK;
 use benches::refusal;
 use conclusion::conclude;
 use layout::CLASSES_AT;
+use layout::DECLARED_AT;
 use layout::MARKS_AT;
 use layout::MAX_CLASSES;
+use numbers::word_at;
 use opening::fresh_desk;
 use uniting::join_numbers;
 use uniting::unite;
@@ -12,7 +14,7 @@ ghost use Rattle.benches.specs.Benches.{bench};
 ghost use Rattle.joiner.specs.Joining.{Joined};
 ghost use Rattle.joiner.specs.Parts.{Ready, DrawnOfBoth};
 
-// A fresh desk with the marks of both benches, and their kinds and numbers.
+// A fresh desk with the declarations and the marks of both benches, and their kinds and numbers.
 fn draw(
     desk1: &[u8],
     sheet1: &[u8],
@@ -30,7 +32,7 @@ fn draw(
     let classes = desk1[CLASSES_AT];
     let k = classes as usize;
     let size = k * k;
-    fresh_desk(classes, desk);
+    fresh_desk(classes, word_at(desk1, DECLARED_AT), desk);
     unite(desk1, desk2, desk, MARKS_AT, MARKS_AT + MAX_CLASSES);
     unite(sheet1, sheet2, sheet, 0, size);
     join_numbers(seen1, seen2, seen, size);

@@ -5,3 +5,4 @@ pub mod Numbers
 pub mod Slips
 pub mod AllBelow
 pub mod Sizes
+pub mod Cross

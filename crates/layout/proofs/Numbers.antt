@@ -6,7 +6,7 @@ use native.Mathlib.Nat.{not-suc-le-zero}
 use native.Mathlib.Omega.{arith}
 use lib.ListN.{getD}
 use Rattle.rules.specs.Limits.{maxAccepted}
-use Rattle.layout.specs.Number.{lowFirst, bytesOf}
+use Rattle.rules.specs.Number.{lowFirst, bytesOf}
 use Rattle.layout.specs.Layout.{numberSize}
 use Rattle.layout.specs.Encoding.{NumberBytes}
 

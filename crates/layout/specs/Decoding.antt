@@ -1,8 +1,9 @@
--- Document 01, "What lies on the bench": what the bytes stand for, a fit desk and its sheets for a state of the rules, a slip for a cycle. Past the cores,
+-- Document 01, "What lies on the bench": what the bytes stand for, a fit desk, its sheets and the history for a state of the rules, a slip for a cycle. Past the cores,
 -- frames and classes the state is as at opening.
 use mathlib.Core.Path.{_≡_}
 use mathlib.Core.Bool.{true, cond, _&&_}
 use mathlib.Core.List.{List, [], _++_}
+use mathlib.Core.Option.{Option, none, some}
 use Prim.Native.Nat.{ℕ, zero, suc, _+_, _*_, _/_, _%_, _<_}
 use lib.Dec.{ltb, eqb}
 use lib.ListN.{length, getD}
@@ -14,10 +15,11 @@ use Rattle.rules.specs.Decision.{tabulate}
 use Rattle.rules.specs.Cycle.{Entry, entryBytes, entryAt, following}
 use Rattle.rules.specs.LeastCycle.{LeastCycle}
 use Rattle.rules.specs.Verdict.{number}
+use Rattle.rules.specs.Crosslocks.{Kept, Crosslocks}
 use Rattle.rules.specs.Run.{Journal, State, Result}
-use Rattle.layout.specs.Fit.{fits}
-use Rattle.layout.specs.Layout.{framesPerCore, frameNumber, numberSize, deskSize, sheetSize, seenSize, slipSize, entriesAt, entrySize, classesOf, closedOf, stateOf, depthOf, markOf, heldOf, originOf, kindsOf, acceptedOf, numberOf, countOf, AreBytes, KeepsPast}
-use Rattle.layout.specs.Number.{bytesOf}
+use Rattle.layout.specs.Fit.{fits, entriesFit}
+use Rattle.layout.specs.Layout.{framesPerCore, frameNumber, numberSize, deskSize, sheetSize, seenSize, keptSize, slipSize, entriesAt, entrySize, classesOf, closedOf, stateOf, depthOf, markOf, heldOf, originOf, kindsOf, acceptedOf, memberOf, declaredOf, progressOf, keptOf, sinceOf, placeOf, lockOf, numberOf, countOf, AreBytes, KeepsPast}
+use Rattle.rules.specs.Number.{bytesOf}
 
 -- "each class + 64 x mode", and the origin, "1 for a try"
 abbrev pub heldLockOf : ℕ → ℕ → HeldLock
@@ -54,18 +56,41 @@ viewJournal desk seen =
       seen = λ f t. cond (ltb f (classesOf desk) && ltb t (classesOf desk)) (numberOf seen (classesOf desk) f t) 0;
     }
 
--- The state that desk and sheets stand for: "byte 1 is 0 open, 1 closed".
-abbrev pub view : (desk sheet seen : List ℕ) → State
-view desk sheet seen =
-    record { is-closed = eqb (closedOf desk) 1; cores = viewCores desk; graph = viewGraph desk sheet; journal = viewJournal desk seen }
+-- An entry of the history: struck out, or the acquire that it keeps, of a core's frame.
+abbrev pub keptBy : (place held : ℕ) → Option Kept
+keptBy zero held = none
+keptBy (suc n) held = some (record { core = n / framesPerCore; frame = n % framesPerCore; class = held % 64; mode = held / 64 })
 
--- Desk and sheets stand for the state s of K classes. That settles all their bytes (crates/fit/proofs/Settled.antt).
-pub record StandFor (K : ℕ) (s : State) (desk sheet seen : List ℕ) : Type 0 where
+-- The crosslocks: sets of classes as words, and as many entries of the history as are kept.
+abbrev pub viewCross : (desk history : List ℕ) → Crosslocks
+viewCross desk history =
+    record {
+      declared = memberOf (declaredOf desk);
+      progress = memberOf (progressOf desk);
+      since = λ c. cond (ltb c maxClasses) (sinceOf desk c) 0;
+      history = tabulate (keptOf desk) (λ i. keptBy (placeOf history i) (lockOf history i));
+    }
+
+-- The state that desk, sheets and history stand for: "byte 1 is 0 open, 1 closed".
+abbrev pub view : (desk sheet seen history : List ℕ) → State
+view desk sheet seen history =
+    record {
+      is-closed = eqb (closedOf desk) 1;
+      cores = viewCores desk;
+      graph = viewGraph desk sheet;
+      cross = viewCross desk history;
+      journal = viewJournal desk seen;
+    }
+
+-- Desk, sheets and history stand for the state s of K classes. That settles all bytes of desk and sheets, and those of the history that it keeps
+-- (crates/fit/proofs/Settled.antt). A desk with nothing kept stands for s with any history, a joined one too.
+pub record StandFor (K : ℕ) (s : State) (desk sheet seen history : List ℕ) : Type 0 where
   pub fit : fits desk sheet seen ≡ true
+  pub entries : entriesFit desk history ≡ true
   pub classes : classesOf desk ≡ K
   pub bytes : AreBytes deskSize desk
   pub numbers : AreBytes (seenSize K) seen
-  pub is-view : view desk sheet seen ≡ s
+  pub is-view : view desk sheet seen history ≡ s
 
 -- The number of an entry of a cycle: that of its pair, "or 0 for an interrupt arrow".
 abbrev pub numberBy : (source : ℕ) → ℕ → ℕ
@@ -89,14 +114,15 @@ pub record Reported (K : ℕ) (g : Graph) (numbers : ℕ → ℕ → ℕ) (slip 
   pub bytes : SlipBytes numbers entries slip′
   pub keeps : KeepsPast (slipSize (length entries)) slip slip′
 
--- A result of the rules, carried out in the lent buffers: the number is the rules', desk and sheets stand for the state that they give, and no byte past
--- the sizes is touched. A refusal changes nothing; the slip is written with a fault only.
-pub record CarriedOut (K : ℕ) (o : Result) (desk sheet seen slip : List ℕ) (answer : ℕ) (desk′ sheet′ seen′ slip′ : List ℕ) : Type 0 where
+-- A result of the rules, carried out in the lent buffers: the number is the rules', desk, sheets and history stand for the state that they give, and no byte
+-- past the sizes is touched; of the history none past what it then keeps. A refusal changes nothing; the slip is written with a fault only.
+pub record CarriedOut (K : ℕ) (o : Result) (desk sheet seen history slip : List ℕ) (answer : ℕ) (desk′ sheet′ seen′ history′ slip′ : List ℕ) : Type 0 where
   pub number-is : answer ≡ number (o .answer)
-  pub stands : StandFor K (o .state) desk′ sheet′ seen′
+  pub stands : StandFor K (o .state) desk′ sheet′ seen′ history′
   pub keeps-desk : KeepsPast deskSize desk desk′
   pub keeps-sheet : KeepsPast (sheetSize K) sheet sheet′
   pub keeps-seen : KeepsPast (seenSize K) seen seen′
-  pub refused : 1 < answer → (desk′ ≡ desk) × (sheet′ ≡ sheet) × (seen′ ≡ seen)
+  pub keeps-history : KeepsPast (keptSize * length (o .state .cross .history)) history history′
+  pub refused : 1 < answer → (desk′ ≡ desk) × (sheet′ ≡ sheet) × (seen′ ≡ seen) × (history′ ≡ history)
   pub unreported : (answer ≡ 1 → ⊥) → slip′ ≡ slip
   pub reported : answer ≡ 1 → Reported K (o .state .graph) (o .state .journal .seen) slip slip′

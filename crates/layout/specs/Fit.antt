@@ -1,14 +1,15 @@
 -- Document 01, "Unfit": the fit test, one Boolean with a clause for each of the document's.
-use mathlib.Core.Bool.{Bool, true, false, _&&_, _||_, Bool·beq}
+use mathlib.Core.Bool.{Bool, true, false, not, _&&_, _||_, Bool·beq}
 use mathlib.Core.List.{List}
-use Prim.Native.Nat.{ℕ, zero, suc, _/_, _%_}
+use Prim.Native.Nat.{ℕ, zero, suc, _/_, _%_, _^_}
 use lib.Dec.{leb, ltb, eqb}
 use lib.ListN.{length, getD}
-use Rattle.rules.specs.Limits.{coreCount, maxClasses, maxDepth, heldModes}
+use Rattle.rules.specs.Limits.{coreCount, maxClasses, maxDepth, heldModes, maxInProgress, maxKept}
 use Rattle.rules.specs.Context.{hardOverSoft, soft, hard, mayHoldSoft, mayHoldHard}
 use Rattle.rules.specs.HeldLocks.{First, E, S}
 use Rattle.rules.specs.Marks.{Level, hardIrq, softIrq, unsafe, markBit}
-use Rattle.layout.specs.Layout.{frameCount, placeCount, deskSize, sheetSize, seenSize, slipSize, frameNumber, classesOf, closedOf, stateOf, depthOf, markOf, heldOf, originBit, pairNumber}
+use Rattle.rules.specs.Crosslocks.{sizeOf}
+use Rattle.layout.specs.Layout.{frameCount, placeCount, deskSize, sheetSize, seenSize, historySize, slipSize, frameNumber, classesOf, closedOf, stateOf, depthOf, markOf, heldOf, originBit, pairNumber, memberOf, declaredOf, progressOf, keptOf, placeOf, lockOf}
 
 -- The test holds of every number below n.
 unfoldable pub allBelow : ℕ → (ℕ → Bool) → Bool
@@ -76,10 +77,35 @@ numbersFit desk sheet seen =
     leb (seenSize (classesOf desk)) (length seen)
     && allBelow (sheetSize (classesOf desk)) (numberFits sheet seen)
 
+-- A word that declares crosslocks: no class of K or more.
+unfoldable pub wordFits : ℕ → ℕ → Bool
+wordFits K word = ltb word (2 ^ K)
+
+-- The crosslocks of the desk: those declared are classes, those in progress are declared and not over 16, and not over 256 acquires are kept.
+unfoldable pub crossFits : List ℕ → Bool
+crossFits desk =
+    wordFits (classesOf desk) (declaredOf desk)
+    && (allBelow maxClasses (λ c. not (memberOf (progressOf desk) c) || memberOf (declaredOf desk) c)
+    && (leb (sizeOf (memberOf (progressOf desk))) maxInProgress
+    && leb (keptOf desk) maxKept))
+
+-- An entry of the history: struck out, or of a frame, with a held byte as a standing hold has it.
+unfoldable pub entryFits : (K place held : ℕ) → Bool
+entryFits K zero held = eqb held 0
+entryFits K (suc n) held = ltb n frameCount && heldFits K true held
+
+-- Those that are kept. What stands behind them is not looked at.
+unfoldable pub entriesFit : (desk history : List ℕ) → Bool
+entriesFit desk history = allBelow (keptOf desk) (λ i. entryFits (classesOf desk) (placeOf history i) (lockOf history i))
+
 -- Desk and both sheets, as the question takes them.
 unfoldable pub fits : (desk sheet seen : List ℕ) → Bool
-fits desk sheet seen = graphFits desk sheet && numbersFit desk sheet seen
+fits desk sheet seen = graphFits desk sheet && (crossFits desk && numbersFit desk sheet seen)
 
--- The step has a slip too.
-unfoldable pub fitsAll : (desk sheet seen slip : List ℕ) → Bool
-fitsAll desk sheet seen slip = fits desk sheet seen && leb (slipSize (classesOf desk)) (length slip)
+-- The step has a history and a slip too.
+unfoldable pub fitsAll : (desk sheet seen history slip : List ℕ) → Bool
+fitsAll desk sheet seen history slip =
+    fits desk sheet seen
+    && (leb historySize (length history)
+    && (entriesFit desk history
+    && leb (slipSize (classesOf desk)) (length slip)))

@@ -1,12 +1,16 @@
--- Document 01, "What lies on the bench": where each byte of the desk, the two sheets and the slip stands. Every other definition goes by these names;
+-- Document 01, "What lies on the bench": where each byte of the desk, the two sheets, the history and the slip stands. Every other definition goes by these names;
 -- src/lib.rt has them once more for the code.
 use mathlib.Core.Path.{_≡_}
+use mathlib.Core.Bool.{Bool}
 use mathlib.Core.List.{List}
 use Prim.Native.Nat.{ℕ, _+_, _*_, _/_, _%_, _^_, _≤_, _<_}
+use lib.Dec.{eqb}
 use lib.ListN.{length, getD}
-use Rattle.rules.specs.Limits.{coreCount, maxClasses, maxDepth}
+use Rattle.words.specs.Bits.{bit}
+use Rattle.rules.specs.Limits.{coreCount, maxClasses, maxDepth, maxKept}
 use Rattle.rules.specs.Context.{Frame}
-use Rattle.layout.specs.Number.{lowFirst}
+use Rattle.rules.specs.Number.{lowFirst}
+use Rattle.rules.specs.Log.{wordSize}
 
 -- Frames of one core: task, soft, hard.
 abbrev pub framesPerCore : ℕ
@@ -50,8 +54,29 @@ acceptedAt = originsAt + originBytes
 abbrev pub numberSize : ℕ
 numberSize = 4
 
+-- Behind the count the crosslocks (02, j, which gives no layout): two sets of classes as words, those that are declared and those in progress; how many
+-- acquires the history keeps; and of each class how many it kept when the crosslock was acquired last.
+abbrev pub declaredAt : ℕ
+declaredAt = acceptedAt + numberSize
+
+abbrev pub progressAt : ℕ
+progressAt = declaredAt + wordSize
+
+abbrev pub keptAt : ℕ
+keptAt = progressAt + wordSize
+
+abbrev pub sinceAt : ℕ
+sinceAt = keptAt + numberSize
+
 abbrev pub deskSize : ℕ
-deskSize = acceptedAt + numberSize
+deskSize = sinceAt + numberSize * maxClasses
+
+-- "a lent history of 256": an entry is the number of a frame and one, and a held byte; both are 0 when it is struck out.
+abbrev pub keptSize : ℕ
+keptSize = 2
+
+abbrev pub historySize : ℕ
+historySize = keptSize * maxKept
 
 abbrev pub sheetSize : ℕ → ℕ
 sheetSize K = K * K
@@ -114,6 +139,29 @@ kindsOf sheet K from to = getD sheet (from * K + to) 0
 
 abbrev pub acceptedOf : List ℕ → ℕ
 acceptedOf desk = lowFirst numberSize desk acceptedAt
+
+-- The classes of a set: bit c of the word is class c.
+abbrev pub memberOf : ℕ → ℕ → Bool
+memberOf word c = eqb (bit word c) 1
+
+abbrev pub declaredOf : List ℕ → ℕ
+declaredOf desk = lowFirst wordSize desk declaredAt
+
+abbrev pub progressOf : List ℕ → ℕ
+progressOf desk = lowFirst wordSize desk progressAt
+
+abbrev pub keptOf : List ℕ → ℕ
+keptOf desk = lowFirst numberSize desk keptAt
+
+abbrev pub sinceOf : List ℕ → ℕ → ℕ
+sinceOf desk class = lowFirst numberSize desk (sinceAt + numberSize * class)
+
+-- Entry i of the history.
+abbrev pub placeOf : List ℕ → ℕ → ℕ
+placeOf history i = getD history (keptSize * i) 0
+
+abbrev pub lockOf : List ℕ → ℕ → ℕ
+lockOf history i = getD history (keptSize * i + 1) 0
 
 -- The number of a pair in the second sheet, and that of pair j = from x K + to.
 abbrev pub pairNumber : List ℕ → ℕ → ℕ

@@ -1,4 +1,3 @@
-pub mod Number
 pub mod Layout
 pub mod Fit
 pub mod Decoding

@@ -43,7 +43,29 @@ pub const NUMBER_SIZE: usize = 4;
 // The most records that are accepted.
 pub const MAX_ACCEPTED: u32 = 4294967295;
 
-pub const DESK_SIZE: usize = ACCEPTED_AT + NUMBER_SIZE;
+// Behind the count the crosslocks: two sets of classes as words, those that are declared and those in progress, how many acquires the history
+// keeps, and for each class how many it kept when the crosslock was acquired last.
+pub const WORD_SIZE: usize = 2 * NUMBER_SIZE;
+
+pub const DECLARED_AT: usize = ACCEPTED_AT + NUMBER_SIZE;
+
+pub const PROGRESS_AT: usize = DECLARED_AT + WORD_SIZE;
+
+pub const KEPT_AT: usize = PROGRESS_AT + WORD_SIZE;
+
+pub const SINCE_AT: usize = KEPT_AT + NUMBER_SIZE;
+
+pub const DESK_SIZE: usize = SINCE_AT + NUMBER_SIZE * MAX_CLASSES;
+
+// The most crosslocks in progress, and the most acquires in the history. An entry of the history is the number of a frame and one, and a held byte; both
+// are 0 when it is struck out.
+pub const MAX_IN_PROGRESS: u32 = 16;
+
+pub const MAX_KEPT: usize = 256;
+
+pub const KEPT_SIZE: usize = 2;
+
+pub const HISTORY_SIZE: usize = KEPT_SIZE * MAX_KEPT;
 
 // The slip: a count, and an entry for each dependency of the cycle.
 pub const COUNT_AT: usize = 0;

@@ -17,7 +17,7 @@ use Rattle.rules.specs.KindNames.{someKind}
 use Rattle.rules.specs.Run.{Journal, withRecord}
 use Rattle.rules.proofs.Journals.{suc-not-zero}
 use Rattle.layout.specs.Layout.{numberSize, seenSize, heldOf, depthOf, acceptedOf, KeepsPast}
-use Rattle.layout.specs.Number.{lowFirst}
+use Rattle.rules.specs.Number.{lowFirst}
 use Rattle.layout.specs.Encoding.{NumberBytes, SeenBytes}
 use Rattle.layout.proofs.Buffers.{cell-inside, cell-apart, keeps-self}
 use Rattle.layout.proofs.Held.{unheld}
@@ -68,10 +68,10 @@ pub same-seen : {K : ℕ} {buffer : List ℕ} (s s′ : ℕ → ℕ → ℕ) →
 same-seen {K} {buffer} s s′ e b = subst (λ (x : ℕ → ℕ → ℕ). SeenBytes K x buffer) (fun-ext (λ f. fun-ext (λ t. e f t))) b
 
 module _ (K from to number : ℕ) (lf : from < K) (lt : to < K) where
-  abbrev put : (ℕ → ℕ → ℕ) → ℕ → ℕ → ℕ
+  abbrev pub put : (ℕ → ℕ → ℕ) → ℕ → ℕ → ℕ
   put s f t = cond (eqb f from && eqb t to) number (s f t)
 
-  put-pair : (s : ℕ → ℕ → ℕ) (now after : List ℕ) → SeenBytes K s now → NumberPut now (numberSize * (from * K + to)) number after
+  pub put-pair : (s : ℕ → ℕ → ℕ) (now after : List ℕ) → SeenBytes K s now → NumberPut now (numberSize * (from * K + to)) number after
       → SeenBytes K (put s) after
   put-pair s now after b P =
       record { long = rw (P .long) (b .long); numbers = λ f t l l′. at f t l l′ (ℕ-discrete f from) (ℕ-discrete t to) }
@@ -107,7 +107,7 @@ pub record Numbering (desk : List ℕ) (K n class : ℕ) (before : List ℕ) (p 
       → SeenBytes K (λ f t. cond (eqb (seen f t) 0 && (eqb t class && isHeld f (take p hs))) (suc (acceptedOf desk)) (seen f t)) now
 
 -- The count is that of the journal.
-by-journal : (desk buffer : List ℕ) (K : ℕ) (d : Dependencies) (j : Journal) → j .accepted ≡ acceptedOf desk
+pub by-journal : (desk buffer : List ℕ) (K : ℕ) (d : Dependencies) (j : Journal) → j .accepted ≡ acceptedOf desk
     → SeenBytes K (λ f t. cond (eqb (j .seen f t) 0 && someKind (d f t)) (suc (acceptedOf desk)) (j .seen f t)) buffer
     → SeenBytes K (withRecord d j .seen) buffer
 by-journal desk buffer K d j e b =

@@ -6,7 +6,7 @@ use mathlib.Core.Logic.{_⊎_, _↔_}
 use Prim.Native.Nat.{ℕ, suc, _+_, _*_, _<_, _≤_}
 use native.Mathlib.Decide.{ℕ-discrete, decLt}
 use native.Mathlib.Omega.{arith}
-use lib.Dec.{eqb}
+use lib.Dec.{leb, eqb}
 use lib.Count.{ones}
 use lib.ListN.{length, take}
 use borrow.Author.Tests.{leb-true, le-leb, lt-ltb, eqb-true, eq-eqb}
@@ -23,13 +23,13 @@ use Rattle.rules.proofs.Steps.{StepCases, was-refused, was-clean, was-fault, st
 use Rattle.rules.specs.FirstSeen.{numberAfter}
 use Rattle.rules.proofs.Balanced.{balanced}
 use Rattle.rules.proofs.Journals.{accepted-counted, first-seen}
-use Rattle.layout.specs.Layout.{slipSize, classesOf, closedOf, kindsOf, numberOf}
+use Rattle.layout.specs.Layout.{historySize, slipSize, classesOf, closedOf, kindsOf, numberOf}
 use Rattle.layout.specs.Decoding.{view, CarriedOut}
-use Rattle.layout.specs.Fit.{fits, fitsAll}
+use Rattle.layout.specs.Fit.{fits, entriesFit, fitsAll}
 use Rattle.fit.proofs.Facts.{facts, number-facts}
 use Rattle.layout.proofs.Buffers.{cell-inside}
 use Rattle.fit.proofs.Fitting.{stand-encodes}
-use Rattle.fit.proofs.Settled.{settled-desk-after, settled-sheet-after, settled-seen-after}
+use Rattle.fit.proofs.Settled.{settled-desk-after, settled-sheet-after, settled-seen-after, settled-history-after}
 use Rattle.validator.specs.Step.{Validated}
 use Rattle.question.specs.Question.{Asked}
 use Rattle.validator.specs.Calls.{Buffers, Called}
@@ -42,20 +42,22 @@ use Rattle.plungerowl.proofs.Runs.{held-fit, validated-by, carried-slip
 
 -- One result of the rules, carried out in the same buffers.
 pub carried-settles : {K : ℕ} {o : Result} {b b₁ b₂ : Buffers} {x y : ℕ} → 1 ≤ K
-    → CarriedOut K o (b .desk) (b .sheet) (b .seen) (b .slip) x (b₁ .desk) (b₁ .sheet) (b₁ .seen) (b₁ .slip)
-    → CarriedOut K o (b .desk) (b .sheet) (b .seen) (b .slip) y (b₂ .desk) (b₂ .sheet) (b₂ .seen) (b₂ .slip) → SameStep x y b₁ b₂
+    → CarriedOut K o (b .desk) (b .sheet) (b .seen) (b .history) (b .slip) x (b₁ .desk) (b₁ .sheet) (b₁ .seen) (b₁ .history) (b₁ .slip)
+    → CarriedOut K o (b .desk) (b .sheet) (b .seen) (b .history) (b .slip) y (b₂ .desk) (b₂ .sheet) (b₂ .seen) (b₂ .history) (b₂ .slip) → SameStep x y b₁ b₂
 carried-settles {K} {o} {b} {b₁} {b₂} {x} some u v =
     let s = o .state in
     let n = u .number-is ∙ sym (v .number-is) in
     record {
       number-is = n;
-      desk-is = settled-desk-after K (s .is-closed) (s .cores) (s .graph .marks) (s .journal .accepted) (b₁ .desk) (b₂ .desk)
+      desk-is = settled-desk-after K (s .is-closed) (s .cores) (s .graph .marks) (s .journal .accepted) (s .cross) (b₁ .desk) (b₂ .desk) (b₁ .history) (b₂ .history)
           (stand-encodes (u .stands) .in-desk) (stand-encodes (v .stands) .in-desk) (stand-encodes (u .stands) .in-count) (stand-encodes (v .stands) .in-count)
-          (b .desk) (u .keeps-desk) (v .keeps-desk);
+          (stand-encodes (u .stands) .in-cross) (stand-encodes (v .stands) .in-cross) (b .desk) (u .keeps-desk) (v .keeps-desk);
       sheet-is = settled-sheet-after K some (s .graph .locks) (b₁ .sheet) (b₂ .sheet) (stand-encodes (u .stands) .in-sheet) (stand-encodes (v .stands) .in-sheet)
           (b .sheet) (u .keeps-sheet) (v .keeps-sheet);
       seen-is = settled-seen-after K some (s .journal .seen) (b₁ .seen) (b₂ .seen) (stand-encodes (u .stands) .in-seen) (stand-encodes (v .stands) .in-seen) (b .seen)
           (u .keeps-seen) (v .keeps-seen);
+      history-is = settled-history-after (s .cross .history) (b₁ .history) (b₂ .history) (stand-encodes (u .stands) .in-cross .entries)
+          (stand-encodes (v .stands) .in-cross .entries) (b .history) (u .keeps-history) (v .keeps-history);
       slip-is = elim (ℕ-discrete x 1) [
         | yes z ↦ reported-one (u .reported z) (v .reported (sym n ∙ z))
         | no h ↦ u .unreported h ∙ sym (v .unreported (λ z. h (n ∙ z)))
@@ -65,9 +67,9 @@ carried-settles {K} {o} {b} {b₁} {b₂} {x} some u v =
 module _ {b b₁ b₂ : Buffers} {r : Bytes} {x y : ℕ} (p : Called b r x b₁) (q : Called b r y b₂) where
   pub step-settles : SameStep x y b₁ b₂
   unfolding fitsAll
-  step-settles = by (fitsAll (b .desk) (b .sheet) (b .seen) (b .slip)) refl
+  step-settles = by (fitsAll (b .desk) (b .sheet) (b .seen) (b .history) (b .slip)) refl
     where
-      by : (t : Bool) → fitsAll (b .desk) (b .sheet) (b .seen) (b .slip) ≡ t → SameStep x y b₁ b₂
+      by : (t : Bool) → fitsAll (b .desk) (b .sheet) (b .seen) (b .history) (b .slip) ≡ t → SameStep x y b₁ b₂
       by true e =
           carried-settles {b = b} {b₁ = b₁} {b₂ = b₂} (facts (b .desk) (b .sheet) (b .seen) (and-cases (fits (b .desk) (b .sheet) (b .seen)) _ e .0) .some) (p .validated e) (q .validated e)
       by false e =
@@ -78,7 +80,8 @@ module _ {b b₁ b₂ : Buffers} {r : Bytes} {x y : ℕ} (p : Called b r x b₁)
             desk-is = u .1 ∙ sym (v .1);
             sheet-is = u .2 ∙ sym (v .2);
             seen-is = u .3 ∙ sym (v .3);
-            slip-is = u .4 ∙ sym (v .4);
+            history-is = u .4 ∙ sym (v .4);
+            slip-is = u .5 ∙ sym (v .5);
           }
 
 -- A digit is 0 or 1, so digits that are 1 together are the same.
@@ -107,8 +110,8 @@ ask-settles {desk} {sheet} {seen} {class} {a} {word} {count} {a′} {word′} {c
     ]
 
 -- Demand 2, of a validated record.
-validated-verdict : (K : ℕ) (s : State) (r : Bytes) {desk sheet seen slip desk′ sheet′ seen′ slip′ : List ℕ} {answer : ℕ}
-    → Validated K s r desk sheet seen slip answer desk′ sheet′ seen′ slip′
+validated-verdict : (K : ℕ) (s : State) (r : Bytes) {desk sheet seen history slip desk′ sheet′ seen′ history′ slip′ : List ℕ} {answer : ℕ}
+    → Validated K s r desk sheet seen history slip answer desk′ sheet′ seen′ history′ slip′
     → FaultExactly K (step K s r .state .graph) (step K s r .state .journal .seen) answer slip slip′
 validated-verdict K s r j =
     record {
@@ -118,21 +121,26 @@ validated-verdict K s r j =
 
 -- ---- Fit buffers, from wherever they come, are taken as they stand.
 
-module _ {b b′ : Buffers} {r : Bytes} {answer : ℕ} (e : fitsAll (b .desk) (b .sheet) (b .seen) (b .slip) ≡ true) (t : Called b r answer b′) where
+module _ {b b′ : Buffers} {r : Bytes} {answer : ℕ} (e : fitsAll (b .desk) (b .sheet) (b .seen) (b .history) (b .slip) ≡ true) (t : Called b r answer b′) where
   -- A step keeps them fit.
-  pub fit-kept : fitsAll (b′ .desk) (b′ .sheet) (b′ .seen) (b′ .slip) ≡ true
+  pub fit-kept : fitsAll (b′ .desk) (b′ .sheet) (b′ .seen) (b′ .history) (b′ .slip) ≡ true
   unfolding fitsAll
   fit-kept =
       let p = and-cases (fits (b .desk) (b .sheet) (b .seen)) _ e in
       let j = t .validated e in
-      let room = leb-true (slipSize (classesOf (b .desk))) (length (b .slip)) (p .1) in
+      let q = and-cases (leb historySize (length (b .history))) _ (p .1) in
+      let long = leb-true historySize (length (b .history)) (q .0) in
+      let room = leb-true (slipSize (classesOf (b .desk))) (length (b .slip)) (and-cases (entriesFit (b .desk) (b .history)) _ (q .1) .1) in
       let l = carried-slip j in
-      and-both (j .stands .fit) (rw (j .stands .classes) (le-leb (slipSize (classesOf (b .desk))) (length (b′ .slip)) (omega arith)))
+      let k = j .keeps-history .long in
+      and-both (j .stands .fit)
+      (and-both (le-leb historySize (length (b′ .history)) (omega arith))
+      (and-both (j .stands .entries) (rw (j .stands .classes) (le-leb (slipSize (classesOf (b .desk))) (length (b′ .slip)) (omega arith)))))
 
   -- Demand 2: a fault exactly when the graph then has a closed strong path.
-  pub step-verdict : FaultExactly (classesOf (b .desk)) (step (classesOf (b .desk)) (view (b .desk) (b .sheet) (b .seen)) r .state .graph)
-      (step (classesOf (b .desk)) (view (b .desk) (b .sheet) (b .seen)) r .state .journal .seen) answer (b .slip) (b′ .slip)
-  step-verdict = validated-verdict (classesOf (b .desk)) (view (b .desk) (b .sheet) (b .seen)) r (t .validated e)
+  pub step-verdict : FaultExactly (classesOf (b .desk)) (step (classesOf (b .desk)) (view (b .desk) (b .sheet) (b .seen) (b .history)) r .state .graph)
+      (step (classesOf (b .desk)) (view (b .desk) (b .sheet) (b .seen) (b .history)) r .state .journal .seen) answer (b .slip) (b′ .slip)
+  step-verdict = validated-verdict (classesOf (b .desk)) (view (b .desk) (b .sheet) (b .seen) (b .history)) r (t .validated e)
 
 -- ---- Demand 1.
 
@@ -144,12 +152,12 @@ closed-by (was-clean e c) h = (λ z. absurd (let w : flag false ≡ 1 = ap flag 
 closed-by (was-fault e c) h = (λ z. refl, λ z. refl)
 
 pub closed-by-fault : {b b′ : Buffers} {r : Bytes} {answer : ℕ} → Called b r answer b′ → ClosedByFault (b .desk) answer (b′ .desk)
-closed-by-fault {b} {b′} {r} {answer} t = record { exactly = λ z. by z (fitsAll (b .desk) (b .sheet) (b .seen) (b .slip)) refl }
+closed-by-fault {b} {b′} {r} {answer} t = record { exactly = λ z. by z (fitsAll (b .desk) (b .sheet) (b .seen) (b .history) (b .slip)) refl }
   where
-    by : closedOf (b .desk) ≡ 0 → (u : Bool) → fitsAll (b .desk) (b .sheet) (b .seen) (b .slip) ≡ u → (closedOf (b′ .desk) ≡ 1) ↔ (answer ≡ 1)
+    by : closedOf (b .desk) ≡ 0 → (u : Bool) → fitsAll (b .desk) (b .sheet) (b .seen) (b .history) (b .slip) ≡ u → (closedOf (b′ .desk) ≡ 1) ↔ (answer ≡ 1)
     by z true e =
         let j = t .validated e in
-        let w = closed-by (stepped (classesOf (b .desk)) (view (b .desk) (b .sheet) (b .seen)) r) (rw z refl) in
+        let w = closed-by (stepped (classesOf (b .desk)) (view (b .desk) (b .sheet) (b .seen) (b .history)) r) (rw z refl) in
         let c = stand-encodes (j .stands) .in-desk .closed in
         (λ q. j .number-is ∙ w .0 (sym c ∙ q), λ q. c ∙ w .1 (sym (j .number-is) ∙ q))
     by z false e =
@@ -192,7 +200,7 @@ run-numbered {K} {s} {b′ = b′} {rs} o w =
     record {
       counted = ap (λ (s : State). s .journal .accepted) (h .is-view) ∙ accepted-counted K s (start-uncounted o) rs;
       numbered = λ f t l m.
-          let e : view (b′ .desk) (b′ .sheet) (b′ .seen) .journal .seen f t ≡ numberOf (b′ .seen) K f t = rw (k, lt-ltb f K l, lt-ltb t K m) refl in
+          let e : view (b′ .desk) (b′ .sheet) (b′ .seen) (b′ .history) .journal .seen f t ≡ numberOf (b′ .seen) K f t = rw (k, lt-ltb f K l, lt-ltb t K m) refl in
           sym e ∙ ap (λ (s : State). s .journal .seen f t) (h .is-view) ∙ first-seen K s (start-uncounted o) rs f t;
       none = λ f t l m. (
         λ z. eqb-true (kindsOf (b′ .sheet) K f t) 0 (sym (same f t l m) ∙ eq-eqb (numberOf (b′ .seen) K f t) 0 z),

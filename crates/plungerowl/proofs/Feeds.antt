@@ -1,9 +1,9 @@
 -- Runs of the feed's calls: a log in pieces is the whole log. Assumes nothing.
 use mathlib.Core.Path.{_≡_, refl, sym, ap, subst, subst₂, _∙_}
 use mathlib.Core.Bool.{Bool, true, false, cond, _||_, false≢true}
-use mathlib.Core.List.{List, [], _∷_, _++_, append-assoc, append-nil}
+use mathlib.Core.List.{List, [], _++_, append-nil}
 use mathlib.Core.Logic.{_⊎_, inl, inr, ⊎-elim}
-use Prim.Native.Nat.{ℕ, suc, _+_, _-_, _^_, _≤_, _<_}
+use Prim.Native.Nat.{ℕ, _-_, _^_, _≤_, _<_}
 use native.Mathlib.Decide.{ℕ-discrete, decLt}
 use native.Mathlib.Omega.{arith}
 use lib.Dec.{eqb, leb, ltb}
@@ -12,9 +12,9 @@ use borrow.Author.Tests.{le-leb, ne-eqb, eqb-true}
 use Rattle.rules.specs.Record.{Bytes, isMalformed, recordSize}
 use Rattle.rules.specs.Run.{State, Result, step}
 use Rattle.rules.proofs.Steps.{closed-step}
-use Rattle.rules.specs.Log.{unitSize, headerClasses}
+use Rattle.rules.specs.Log.{unitSize, headerClasses, headerWord}
 use Rattle.opening.specs.Open.{opens}
-use Rattle.rules.specs.Verdict.{Refusal, closed, malformed, noClass, noTransition, stillHeld, notHeld, tooDeep, countFull, Answer, clean, fault, refused, refusalNumber, number, badOpening, unfit, refusal}
+use Rattle.rules.specs.Verdict.{Refusal, closed, malformed, noClass, wrongSort, noTransition, stillHeld, notHeld, tooDeep, inProgress, notInProgress, listFull, historyFull, countFull, Answer, clean, fault, refused, refusalNumber, number, badOpening, unfit, refusal}
 use Rattle.rules.proofs.Booleans.{and-cases, and-both, or-right}
 use Rattle.rules.specs.Limits.{maxClasses}
 use Rattle.layout.specs.Layout.{classesOf, countOf}
@@ -22,17 +22,18 @@ use Rattle.layout.specs.Decoding.{view as view-desk}
 use Rattle.layout.specs.Fit.{fits as desk-fits, fitsAll}
 use Rattle.fit.proofs.Facts.{facts}
 use Rattle.validator.specs.Calls.{Buffers, Called}
-use Rattle.progress.specs.Feed.{Feed, fresh, feedSize, mostLoose, bytesOf, view, anyOf, isStepAnswer, standsWith, wellFormed, fits, unitBegun, withPart}
-use Rattle.progress.proofs.Fitness.{fit-facts, formed-loose, going-on, at-unit}
-use Rattle.progress.proofs.Kept.{view-back, fits-back, bytes-back}
+use Rattle.progress.specs.Feed.{Feed, fresh, feedSize, mostLoose, view, anyOf, isStepAnswer, standsWith, wellFormed, fits, unitBegun, withPart}
+use Rattle.progress.proofs.Fitness.{formed-loose, going-on, at-unit}
+use Rattle.progress.proofs.Kept.{view-back, fits-back}
+use Rattle.progress.proofs.UnitSizes.{unit-most}
 use Rattle.unit.specs.Units.{more, UnitValidated, header, a-record}
 use Rattle.feed.specs.Fed.{Fed, stopped, kept, completed, Ended, stands, no-header, between, short}
-use Rattle.feed.specs.Calls.{holding, Started, GoesOn, FeedCall, FedPiece, FedEnd}
+use Rattle.feed.specs.Calls.{holding, Started, FeedCall, FedPiece, FedEnd}
 use Rattle.feed.proofs.Cuts.{some-unit, fed-none, fed-append}
-use Rattle.unit.proofs.Units.{one-counted, stays-counted, unit-most}
-use Rattle.plungerowl.specs.Logs.{WholeLog, joined, FeedRan, no-piece, piece, end-between, LastCall, a-piece, the-end, ShortRefused, Repeated, SameFeed}
+use Rattle.unit.proofs.Units.{one-counted, stays-counted}
+use Rattle.plungerowl.specs.Logs.{WholeLog, joined, FeedRan, no-piece, piece, end-between, LastCall, a-piece, the-end, ShortRefused}
 use Rattle.plungerowl.proofs.Logs.{same-buffers, takes-nothing, record-validated}
-use Rattle.plungerowl.proofs.Wholes.{repeats, log-going, log-ended}
+use Rattle.plungerowl.proofs.Wholes.{log-going, log-ended}
 
 -- ---- What a feed's bytes hold.
 
@@ -50,7 +51,7 @@ pub record InBuffer (feed : List ℕ) (f : Feed) : Type 0 where
 pub held : {f : Feed} (feed : List ℕ) → Proper f → InBuffer (holding f feed) f
 held {f} feed p =
     let l = formed-loose f (p .formed) in
-    let m : length (f .loose) ≤ mostLoose = omega (arith, unit-most (f .opened)) in
+    let m : length (f .loose) ≤ mostLoose = omega (arith, unit-most (f .opened) (f .loose)) in
     record { fit = fits-back f (drop feedSize feed) m (p .small) (p .formed); is-view = view-back f (drop feedSize feed) m (p .small); proper = p }
 
 -- ---- A feed stays one that can be.
@@ -58,14 +59,14 @@ held {f} feed p =
 -- Between two units.
 begun : (o : Bool) (a n : ℕ) → standsWith o a n ≡ true → wellFormed (unitBegun a o n) ≡ true
 begun o a n s = elim (ℕ-discrete a 0) [
-  | yes e ↦ sym (going-on (unitBegun a o n) 0 refl (some-unit o) e) ∙ s
-  | no m ↦ sym (at-unit (unitBegun a o n) 0 refl (some-unit o) m refl) ∙ s
+  | yes e ↦ sym (going-on (unitBegun a o n) 0 refl (some-unit o []) e) ∙ s
+  | no m ↦ sym (at-unit (unitBegun a o n) 0 refl (some-unit o []) m refl) ∙ s
 ]
 
 formed-stands : (f : Feed) → wellFormed f ≡ true → standsWith (f .opened) (f .answer) (f .number) ≡ true
 unfolding wellFormed
 formed-stands f e =
-    and-cases (eqb (f .answer) 0 || eqb (length (f .loose)) 0) _ (and-cases (ltb (length (f .loose)) (unitSize (f .opened))) _ e .1) .1
+    and-cases (eqb (f .answer) 0 || eqb (length (f .loose)) 0) _ (and-cases (ltb (length (f .loose)) (unitSize (f .opened) (f .loose))) _ e .1) .1
 
 -- Before the desk is opened the number is 0.
 unnumbered : (o : Bool) (a n : ℕ) → standsWith o a n ≡ true → o ≡ false → n ≡ 0
@@ -77,10 +78,15 @@ unfolding isStepAnswer anyOf
 refusal-answer closed = refl
 refusal-answer malformed = refl
 refusal-answer noClass = refl
+refusal-answer wrongSort = refl
 refusal-answer noTransition = refl
 refusal-answer stillHeld = refl
 refusal-answer notHeld = refl
 refusal-answer tooDeep = refl
+refusal-answer inProgress = refl
+refusal-answer notInProgress = refl
+refusal-answer listFull = refl
+refusal-answer historyFull = refl
 refusal-answer countFull = refl
 
 answer-number : (a : Answer) → isStepAnswer (number a) ≡ true
@@ -94,10 +100,10 @@ unfolding isStepAnswer
 eleven = refl
 
 step-answer : {b b′ : Buffers} {r : Bytes} {a : ℕ} → Called b r a b′ → isStepAnswer a ≡ true
-step-answer {b} {r = r} {a} t = by (fitsAll (b .desk) (b .sheet) (b .seen) (b .slip)) refl
+step-answer {b} {r = r} {a} t = by (fitsAll (b .desk) (b .sheet) (b .seen) (b .history) (b .slip)) refl
   where
-    by : (u : Bool) → fitsAll (b .desk) (b .sheet) (b .seen) (b .slip) ≡ u → isStepAnswer a ≡ true
-    by true e = ap isStepAnswer (t .validated e .number-is) ∙ answer-number (step (classesOf (b .desk)) (view-desk (b .desk) (b .sheet) (b .seen)) r .answer)
+    by : (u : Bool) → fitsAll (b .desk) (b .sheet) (b .seen) (b .history) (b .slip) ≡ u → isStepAnswer a ≡ true
+    by true e = ap isStepAnswer (t .validated e .number-is) ∙ answer-number (step (classesOf (b .desk)) (view-desk (b .desk) (b .sheet) (b .seen) (b .history)) r .answer)
     by false e = ap isStepAnswer (t .is-unfit e .0) ∙ eleven
 
 counts : (n : ℕ) → n < 2 ^ 64 → (1 ≤ more n) × (more n < 2 ^ 64)
@@ -112,7 +118,7 @@ zero-or-two true a e n z = rw e refl
 zero-or-two false a e n z = rw (e, z) refl
 
 proper-unit : {o : Bool} {n : ℕ} {b b′ : Buffers} {u : List ℕ} {f : Feed} → n < 2 ^ 64 → (o ≡ false → n ≡ 0) → UnitValidated o n b u f b′ → Proper f
-proper-unit {n = n} {b = b} {u = u} h z (header {answer} o p s) = record { formed = begun (eqb answer 0) answer n (zero-or-two (opens (headerClasses u) (b .desk) (b .sheet) (b .seen)) answer (p .answer) n (z o)); small = h }
+proper-unit {n = n} {b = b} {u = u} h z (header {answer} o p s) = record { formed = begun (eqb answer 0) answer n (zero-or-two (opens (headerClasses u) (headerWord u) (b .desk) (b .sheet) (b .seen) (b .history)) answer (p .answer) n (z o)); small = h }
 proper-unit {n = n} h z (a-record {answer} {b′ = b₁} o t) =
     let c = counts n h in
     record { formed = begun true answer (more n) (and-both (step-answer {b′ = b₁} t) (or-right (eqb answer 0) (le-leb 1 (more n) (c .0)))); small = c .1 }
@@ -169,18 +175,18 @@ unfolding isMalformed
 not-six r n = rw (ne-eqb (length r) 6 n) refl
 
 pub short-refused : {b b′ : Buffers} {r : Bytes} {a : ℕ} → (length r ≡ recordSize → ⊥) → Called b r a b′ → ShortRefused a b b′
-short-refused {b} {b′} {r} {a} n t = by (fitsAll (b .desk) (b .sheet) (b .seen) (b .slip)) refl
+short-refused {b} {b′} {r} {a} n t = by (fitsAll (b .desk) (b .sheet) (b .seen) (b .history) (b .slip)) refl
   where
-    by : (u : Bool) → fitsAll (b .desk) (b .sheet) (b .seen) (b .slip) ≡ u → ShortRefused a b b′
-    by false e = let v = t .is-unfit e in record { number-is = inl (v .0); same = same-buffers b b′ (v .1) (v .2) (v .3) (v .4) }
+    by : (u : Bool) → fitsAll (b .desk) (b .sheet) (b .seen) (b .history) (b .slip) ≡ u → ShortRefused a b b′
+    by false e = let v = t .is-unfit e in record { number-is = inl (v .0); same = same-buffers b b′ (v .1) (v .2) (v .3) (v .4) (v .5) }
     by true e =
         let v = t .validated e in
-        let m = malformed-number (classesOf (b .desk)) (view-desk (b .desk) (b .sheet) (b .seen)) r (not-six r n) in
+        let m = malformed-number (classesOf (b .desk)) (view-desk (b .desk) (b .sheet) (b .seen) (b .history)) r (not-six r n) in
         let l : 1 < a = ⊎-elim (λ z. let y = v .number-is in omega arith) (λ z. let y = v .number-is in omega arith) m in
         let w = v .refused l in
         record {
           number-is = inr (⊎-elim (λ z. inl (v .number-is ∙ z)) (λ z. inr (v .number-is ∙ z)) m);
-          same = same-buffers b b′ (w .0) (w .1) (w .2) (v .unreported (λ z. absurd (omega arith)));
+          same = same-buffers b b′ (w .0) (w .1) (w .2) (w .3) (v .unreported (λ z. absurd (omega arith)));
         }
 
 short-not-clean : {a : ℕ} {b b′ : Buffers} → ShortRefused a b b′ → a ≡ 0 → ⊥
@@ -195,7 +201,7 @@ nothing-ended {f} {b′ = b′} p (short e o l j) z =
     let g = record-validated refl j in
     let k = formed-loose f (p .formed) in
     absurd
-    (short-not-clean (short-refused {b′ = b′} (λ y. absurd (let u : unitSize (f .opened) ≡ recordSize = ap unitSize o in omega arith)) (g .called))
+    (short-not-clean (short-refused {b′ = b′} (λ y. absurd (let u : unitSize (f .opened) (f .loose) ≡ recordSize = ap (λ (t : Bool). unitSize t (f .loose)) o in omega arith)) (g .called))
     (ap (λ (v : Feed). v .answer) (sym (g .is)) ∙ z))
 
 -- ---- Runs.
@@ -230,24 +236,16 @@ started-fresh {feed} {feed′} s = by (leb feedSize (length feed)) refl
     by true e = rw (s .bytes, e) (held feed proper-fresh)
     by false e = absurd (let z : 0 ≡ badOpening = s .number-is ∙ ap (λ (t : Bool). cond t 0 badOpening) e in omega arith)
 
-as-said : {b b′ : Buffers} {log : List ℕ} {ended : Bool} {a n a′ n′ : ℕ} → a ≡ a′ → n ≡ n′ → WholeLog b log ended a′ n′ b′ → WholeLog b log ended a n b′
-as-said e h w = rw (e, h) w
+-- ---- A run with its last call.
 
--- The promise of document 02, b: a log in pieces, cut anywhere, with or without its end, is answered as the whole log is, which is settled by its bytes.
-pub log-in-pieces : {feed₀ feed feed₁ feed₂ : List ℕ} {b b₁ b₂ : Buffers} {pieces : List (List ℕ)} {last : List ℕ} {ended : Bool} {answer number : ℕ}
-    → Started feed₀ 0 feed → FeedRan feed b pieces feed₁ b₁ → LastCall feed₁ b₁ last ended answer number feed₂ b₂
-    → length (joined pieces ++ last) < 2 ^ 64 → WholeLog b (joined pieces ++ last) ended answer number b₂
-log-in-pieces {b₁ = b₁} s w (a-piece {p = p} t) small =
-    let r = run-fed (started-fresh s) w in
-    let c = told (λ x y z. Fed x b₁ p y z) (r .kept-as) (λ g n. proper-fed (r .kept-as .proper) n) t in
-    as-said (c .answer-is) (c .number-is) (log-going small (fed-append (r .fed) (c .next)))
-log-in-pieces {b = b} {b₁ = b₁} {pieces = pieces} s w (the-end t) small =
-    let r = run-fed (started-fresh s) w in
-    let c = told (λ x y z. Ended x b₁ y z) (r .kept-as) (λ g n. proper-ended (r .kept-as .proper) n) t in
-    as-said (c .answer-is) (c .number-is) (rw append-nil (log-ended (rw append-nil at small) (r .fed) (c .next)))
+-- A piece.
+pub record FedRun (b : Buffers) (log : List ℕ) (answer number : ℕ) (b′ : Buffers) : Type 0 where
+  pub after : Feed
+  pub fed : Fed fresh b log after b′
+  pub answer-is : answer ≡ after .answer
+  pub number-is : number ≡ after .number
 
--- ---- A run with its end.
-
+-- The end.
 pub record EndedRun (b : Buffers) (log : List ℕ) (answer number : ℕ) (b′ : Buffers) : Type 0 where
   pub going : Feed
   pub after : Feed
@@ -257,19 +255,40 @@ pub record EndedRun (b : Buffers) (log : List ℕ) (answer number : ℕ) (b′ :
   pub answer-is : answer ≡ after .answer
   pub number-is : number ≡ after .number
 
-pub ended-run : {feed₀ feed feed₁ feed₂ : List ℕ} {b b₁ b₂ : Buffers} {pieces : List (List ℕ)} {answer number : ℕ} → Started feed₀ 0 feed
-    → FeedRan feed b pieces feed₁ b₁ → FedEnd feed₁ b₁ answer number feed₂ b₂ → EndedRun b (joined pieces) answer number b₂
-ended-run {b₁ = b₁} s w t =
-    let r = run-fed (started-fresh s) w in
-    let c = told (λ x y z. Ended x b₁ y z) (r .kept-as) (λ g n. proper-ended (r .kept-as .proper) n) t in
-    record { going = r .after; after = c .after; between = b₁; fed = r .fed; ended = c .next; answer-is = c .answer-is; number-is = c .number-is }
+module _ {feed₀ feed feed₁ feed₂ : List ℕ} {b b₁ b₂ : Buffers} {pieces : List (List ℕ)} {answer number : ℕ} (s : Started feed₀ 0 feed)
+    (w : FeedRan feed b pieces feed₁ b₁) where
+  pub fed-run : {p : List ℕ} → FedPiece feed₁ b₁ p answer number feed₂ b₂ → FedRun b (joined pieces ++ p) answer number b₂
+  fed-run {p} t =
+      let r = run-fed (started-fresh s) w in
+      let c = told (λ x y z. Fed x b₁ p y z) (r .kept-as) (λ g n. proper-fed (r .kept-as .proper) n) t in
+      record { after = c .after; fed = fed-append (r .fed) (c .next); answer-is = c .answer-is; number-is = c .number-is }
+
+  pub ended-run : FedEnd feed₁ b₁ answer number feed₂ b₂ → EndedRun b (joined pieces) answer number b₂
+  ended-run t =
+      let r = run-fed (started-fresh s) w in
+      let c = told (λ x y z. Ended x b₁ y z) (r .kept-as) (λ g n. proper-ended (r .kept-as .proper) n) t in
+      record { going = r .after; after = c .after; between = b₁; fed = r .fed; ended = c .next; answer-is = c .answer-is; number-is = c .number-is }
+
+as-said : {b b′ : Buffers} {log : List ℕ} {ended : Bool} {a n a′ n′ : ℕ} → a ≡ a′ → n ≡ n′ → WholeLog b log ended a′ n′ b′ → WholeLog b log ended a n b′
+as-said e h w = rw (e, h) w
+
+-- The promise of document 02, b: a log in pieces, cut anywhere, with or without its end, is answered as the whole log is, which is settled by its bytes.
+pub log-in-pieces : {feed₀ feed feed₁ feed₂ : List ℕ} {b b₁ b₂ : Buffers} {pieces : List (List ℕ)} {last : List ℕ} {ended : Bool} {answer number : ℕ}
+    → Started feed₀ 0 feed → FeedRan feed b pieces feed₁ b₁ → LastCall feed₁ b₁ last ended answer number feed₂ b₂
+    → length (joined pieces ++ last) < 2 ^ 64 → WholeLog b (joined pieces ++ last) ended answer number b₂
+log-in-pieces s w (a-piece t) small =
+    let r = fed-run s w t in
+    as-said (r .answer-is) (r .number-is) (log-going small (r .fed))
+log-in-pieces s w (the-end t) small =
+    let r = ended-run s w t in
+    as-said (r .answer-is) (r .number-is) (rw append-nil (log-ended (rw append-nil at small) (r .fed) (r .ended)))
 
 -- With a fault the slip has a cycle of at most 64 dependencies.
 fault-shown : {b b′ : Buffers} {r : Bytes} {a : ℕ} → Called b r a b′ → a ≡ 1 → countOf (b′ .slip) ≤ maxClasses
 unfolding fitsAll
-fault-shown {b} {b′} t z = by (fitsAll (b .desk) (b .sheet) (b .seen) (b .slip)) refl
+fault-shown {b} {b′} t z = by (fitsAll (b .desk) (b .sheet) (b .seen) (b .history) (b .slip)) refl
   where
-    by : (u : Bool) → fitsAll (b .desk) (b .sheet) (b .seen) (b .slip) ≡ u → countOf (b′ .slip) ≤ maxClasses
+    by : (u : Bool) → fitsAll (b .desk) (b .sheet) (b .seen) (b .history) (b .slip) ≡ u → countOf (b′ .slip) ≤ maxClasses
     by false e = absurd (let y = t .is-unfit e .0 in omega arith)
     by true e =
         let r = t .validated e .reported z in
@@ -280,7 +299,7 @@ header-clean true a e z = omega arith
 header-clean false a e z = omega arith
 
 unit-shown : {o : Bool} {n : ℕ} {b b′ : Buffers} {u : List ℕ} {f : Feed} → UnitValidated o n b u f b′ → f .answer ≡ 1 → countOf (b′ .slip) ≤ maxClasses
-unit-shown {b = b} {u = u} (header {answer} o p s) z = absurd (header-clean (opens (headerClasses u) (b .desk) (b .sheet) (b .seen)) answer (p .answer) z)
+unit-shown {b = b} {u = u} (header {answer} o p s) z = absurd (header-clean (opens (headerClasses u) (headerWord u) (b .desk) (b .sheet) (b .seen) (b .history)) answer (p .answer) z)
 unit-shown (a-record {b′ = b′} o t) z = fault-shown {b′ = b′} t z
 
 fed-shown : {f f′ : Feed} {b b′ : Buffers} {bytes : List ℕ} → (f .answer ≡ 1 → ⊥) → Fed f b bytes f′ b′ → f′ .answer ≡ 1 → countOf (b′ .slip) ≤ maxClasses

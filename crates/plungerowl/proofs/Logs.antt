@@ -1,46 +1,36 @@
 -- A feed that takes a log leaves what the rules say of its bytes. Assumes nothing.
-use mathlib.Core.Path.{_≡_, refl, sym, ap, ap₂, subst, subst₂, _∙_}
-use mathlib.Core.Bool.{Bool, true, false, cond, not, _&&_, _||_, false≢true}
-use mathlib.Core.List.{List, [], _∷_, _++_, append-assoc, append-nil}
-use Prim.Native.Nat.{ℕ, zero, suc, _+_, _*_, _-_, _^_, _≤_, _<_}
+use mathlib.Core.Path.{_≡_, refl, sym, ap, ap₂, subst, _∙_}
+use mathlib.Core.Bool.{Bool, true, false, false≢true}
+use mathlib.Core.List.{List, [], _∷_, _++_, append-nil}
+use Prim.Native.Nat.{ℕ, suc, _+_, _-_, _^_, _≤_, _<_}
 use native.Mathlib.Numerals.{add-one}
-use native.Mathlib.Decide.{ℕ-discrete, decLt}
+use native.Mathlib.Decide.{ℕ-discrete}
 use native.Mathlib.Omega.{arith}
-use lib.Dec.{leb, eqb}
-use lib.ListN.{length, getD, take, drop, length-append}
-use lib.Seq.{take-at, drop-at, take-all, take-nil}
-use borrow.Author.Tests.{lt-ltb, le-leb, lt-leb, leb-true, leb-false}
+use lib.ListN.{length, length-append}
 use Rattle.rules.specs.Record.{Bytes, recordSize}
-use Rattle.rules.specs.Verdict.{number, badOpening, unfit}
+use Rattle.rules.specs.Verdict.{number, unfit}
 use Rattle.rules.specs.Run.{State, Result, start, step}
-use Rattle.rules.specs.Log.{headerSize, unitSize, headerClasses, recordsOf, looseOf, shortRecord, Outcome, validate}
-use Rattle.rules.proofs.Booleans.{and-cases}
-use Rattle.layout.specs.Layout.{deskSize, sheetSize, seenSize, slipSize, KeepsPast, classesOf}
-use Rattle.layout.specs.Decoding.{StandFor, Reported, CarriedOut}
-use Rattle.layout.specs.Fit.{fits, fitsAll}
-use Rattle.opening.specs.Open.{Opened, opens, openedDesk, openedSheet}
-use Rattle.validator.specs.Calls.{Buffers, Called}
-use Rattle.progress.specs.Feed.{Feed, fresh, unitBegun, withPart}
+use Rattle.rules.specs.Log.{unitSize, recordsOf, looseOf, shortRecord, Outcome, validate}
+use Rattle.layout.specs.Layout.{deskSize, sheetSize, seenSize, historySize, memberOf}
+use Rattle.layout.specs.Decoding.{CarriedOut}
+use Rattle.layout.proofs.Buffers.{keeps-self, keeps-both, keeps-more}
+use Rattle.layout.specs.Fit.{fitsAll}
+use Rattle.fit.proofs.Fitting.{stand-valid}
+use Rattle.validator.specs.Calls.{Buffers, buffers, Called}
+use Rattle.progress.specs.Feed.{Feed, unitBegun, withPart}
 use Rattle.unit.specs.Units.{more, UnitValidated, header, a-record}
 use Rattle.feed.specs.Fed.{Fed, stopped, kept, completed, Ended, stands, no-header, between, short}
 use Rattle.unit.proofs.Units.{one-counted}
-use Rattle.validity.proofs.Kept.{valid-start}
-use Rattle.plungerowl.specs.Logs.{classesIn, recordsIn, refuseFirst, outcomeFor, LeftBy, WholeLog, short-header, bad-header, by-rules}
-use Rattle.plungerowl.proofs.Runs.{Holds, validated-by, step-holds, OpenedAs, opened-as}
+use Rattle.plungerowl.specs.Logs.{refuseFirst, LeftBy}
+use Rattle.plungerowl.proofs.Runs.{Holds, validated-by, step-holds}
 use Rattle.rules.proofs.Cutting.{no-records, all-loose, cut-length, first-record, same-loose}
 use Rattle.plungerowl.proofs.Records.{validate-on, validate-stops, validate-stopped, validate-more, validate-last}
 
 -- ---- The buffers over several records.
 
-keeps-trans : {n : ℕ} {x y z : List ℕ} → KeepsPast n x y → KeepsPast n y z → KeepsPast n x z
-keeps-trans p q = record { long = q .long ∙ p .long; past = λ j h. q .past j h ∙ p .past j h }
-
-keeps-all : (n : ℕ) (x : List ℕ) → KeepsPast n x x
-keeps-all n x = record { long = refl; past = λ j h. refl }
-
 -- A step.
 left-by-step : {K : ℕ} {o : Result} {b b′ : Buffers} {answer : ℕ} (n : ℕ)
-    → CarriedOut K o (b .desk) (b .sheet) (b .seen) (b .slip) answer (b′ .desk) (b′ .sheet) (b′ .seen) (b′ .slip)
+    → CarriedOut K o (b .desk) (b .sheet) (b .seen) (b .history) (b .slip) answer (b′ .desk) (b′ .sheet) (b′ .seen) (b′ .history) (b′ .slip)
     → LeftBy K (record { answer = number (o .answer); at = n; state = o .state }) b b′
 left-by-step n v =
     record {
@@ -48,6 +38,7 @@ left-by-step n v =
       keeps-desk = v .keeps-desk;
       keeps-sheet = v .keeps-sheet;
       keeps-seen = v .keeps-seen;
+      keeps-history = keeps-more (let k = stand-valid (v .stands) .cross .kept in omega arith) (v .keeps-history);
       unreported = λ h. v .unreported (λ z. h (sym (v .number-is) ∙ z));
       reported = λ h. v .reported (v .number-is ∙ h);
     }
@@ -58,9 +49,10 @@ left-then v n w =
     let e = v .unreported n in
     record {
       stands = w .stands;
-      keeps-desk = keeps-trans (v .keeps-desk) (w .keeps-desk);
-      keeps-sheet = keeps-trans (v .keeps-sheet) (w .keeps-sheet);
-      keeps-seen = keeps-trans (v .keeps-seen) (w .keeps-seen);
+      keeps-desk = keeps-both (v .keeps-desk) (w .keeps-desk);
+      keeps-sheet = keeps-both (v .keeps-sheet) (w .keeps-sheet);
+      keeps-seen = keeps-both (v .keeps-seen) (w .keeps-seen);
+      keeps-history = keeps-both (v .keeps-history) (w .keeps-history);
       unreported = λ h. w .unreported h ∙ e;
       reported = λ h. rw (← e) (w .reported h);
     }
@@ -90,7 +82,7 @@ counted-one n e h = rw e (sym (one-counted n h) ∙ add-one n)
 
 module _ {K : ℕ} {s : State} {f : Feed} {b : Buffers} (n : ℕ) (H : Holds K s b) (e : f .answer ≡ 0) (o : f .opened ≡ true) (i : f .loose ≡ [])
     (m : f .number ≡ n) where
-  after-none : (bytes : List ℕ) → length (f .loose ++ bytes) < unitSize (f .opened) → After K (validate K s n (recordsOf bytes)) bytes (withPart f bytes) b b
+  after-none : (bytes : List ℕ) → length (f .loose ++ bytes) < unitSize (f .opened) (f .loose ++ bytes) → After K (validate K s n (recordsOf bytes)) bytes (withPart f bytes) b b
   after-none bytes h =
       let l : length bytes < recordSize = rw (i, o) at h in
       rw (no-records bytes l)
@@ -99,9 +91,10 @@ module _ {K : ℕ} {s : State} {f : Feed} {b : Buffers} (n : ℕ) (H : Holds K s
         left =
             record {
               stands = H .stands;
-              keeps-desk = keeps-all deskSize (b .desk);
-              keeps-sheet = keeps-all (sheetSize K) (b .sheet);
-              keeps-seen = keeps-all (seenSize K) (b .seen);
+              keeps-desk = keeps-self deskSize (b .desk);
+              keeps-sheet = keeps-self (sheetSize K) (b .sheet);
+              keeps-seen = keeps-self (seenSize K) (b .seen);
+              keeps-history = keeps-self historySize (b .history);
               unreported = λ _. refl;
               reported = λ z. absurd (omega arith);
             };
@@ -178,7 +171,7 @@ records-fed n H e o i m h (stopped x) = absurd (x e)
 records-fed {bytes = bytes} n H e o i m h (kept y k) = after-none n H e o i m bytes k
 records-fed {f = f} {bytes = bytes} n H e o i m h (completed {f₁ = f₁} {b₁ = b₁} unit rest y q l j r) =
     let w : bytes ≡ unit ++ rest = ap (λ (x : List ℕ). x ++ bytes) (sym i) ∙ q in
-    let d : length unit ≡ recordSize = l ∙ ap unitSize o in
+    let d : length unit ≡ recordSize = l ∙ ap (λ (t : Bool). unitSize t unit) o in
     let z = room-for n unit rest bytes w d h in
     let c : more (f .number) ≡ suc n = counted-one n m (z .0) in
     let g = record-validated o j in
@@ -248,28 +241,29 @@ module _ (K : ℕ) (s : State) (n : ℕ) (bytes : List ℕ) {f : Feed} {b b₁ :
 
 -- ---- A slip that is too short.
 
-pub same-buffers : (b b′ : Buffers) → b′ .desk ≡ b .desk → b′ .sheet ≡ b .sheet → b′ .seen ≡ b .seen → b′ .slip ≡ b .slip → b′ ≡ b
-same-buffers b b′ d s n p =
-    ap₂ (λ (x y : List ℕ). record { desk = x; sheet = y; seen = b′ .seen; slip = b′ .slip }) d s
-    ∙ ap₂ (λ (x y : List ℕ). record { desk = b .desk; sheet = b .sheet; seen = x; slip = y }) n p
+pub same-buffers : (b b′ : Buffers) → b′ .desk ≡ b .desk → b′ .sheet ≡ b .sheet → b′ .seen ≡ b .seen → b′ .history ≡ b .history → b′ .slip ≡ b .slip → b′ ≡ b
+same-buffers b b′ d s n h p =
+    ap₂ (λ (x y : List ℕ). buffers x y (b′ .seen) (b′ .history) (b′ .slip)) d s
+    ∙ ap₂ (λ (x y : List ℕ). buffers (b .desk) (b .sheet) x y (b′ .slip)) n h
+    ∙ ap (λ (x : List ℕ). buffers (b .desk) (b .sheet) (b .seen) (b .history) x) p
 
-pub refuse-state : (rs : List Bytes) → refuseFirst rs .state ≡ start
-refuse-state [] = refl
-refuse-state (r ∷ rs) = refl
+pub refuse-state : (word : ℕ) (rs : List Bytes) → refuseFirst word rs .state ≡ start (memberOf word)
+refuse-state word [] = refl
+refuse-state word (r ∷ rs) = refl
 
-pub refuse-answer : (rs : List Bytes) → refuseFirst rs .answer ≡ 1 → ⊥
-refuse-answer [] e = omega arith
-refuse-answer (r ∷ rs) e = omega arith
+pub refuse-answer : (word : ℕ) (rs : List Bytes) → refuseFirst word rs .answer ≡ 1 → ⊥
+refuse-answer word [] e = omega arith
+refuse-answer word (r ∷ rs) e = omega arith
 
-module _ {b : Buffers} (u : fitsAll (b .desk) (b .sheet) (b .seen) (b .slip) ≡ false) where
+module _ {b : Buffers} (word : ℕ) (u : fitsAll (b .desk) (b .sheet) (b .seen) (b .history) (b .slip) ≡ false) where
   refused-record : {n : ℕ} {unit : List ℕ} {f : Feed} {b′ : Buffers} → n ≡ 0 → RecordValidated n b unit f b′ → (f ≡ unitBegun unfit true 1) × (b′ ≡ b)
   refused-record {b′ = b′} z j =
       let v = j .called .is-unfit u in
-      (j .is ∙ ap₂ (λ (a m : ℕ). unitBegun a true m) (v .0) (counted-one 0 z (omega arith)), same-buffers b b′ (v .1) (v .2) (v .3) (v .4))
+      (j .is ∙ ap₂ (λ (a m : ℕ). unitBegun a true m) (v .0) (counted-one 0 z (omega arith)), same-buffers b b′ (v .1) (v .2) (v .3) (v .4) (v .5))
 
   -- The first record is refused, and what stands behind it is not looked at.
   pub tight-fed : {f f′ : Feed} {b′ : Buffers} {bytes : List ℕ} → f .answer ≡ 0 → f .opened ≡ true → f .loose ≡ [] → f .number ≡ 0 → Fed f b bytes f′ b′
-      → Tells (refuseFirst (recordsOf bytes)) bytes f′ × (b′ ≡ b)
+      → Tells (refuseFirst word (recordsOf bytes)) bytes f′ × (b′ ≡ b)
   tight-fed e o i m (stopped x) = absurd (x e)
   tight-fed {bytes = bytes} e o i m (kept y k) =
       let l : length bytes < recordSize = rw (i, o) at k in (
@@ -279,7 +273,7 @@ module _ {b : Buffers} (u : fitsAll (b .desk) (b .sheet) (b .seen) (b .slip) ≡
       )
   tight-fed {bytes = bytes} e o i m (completed unit rest y q l j r) =
       let w : bytes ≡ unit ++ rest = ap (λ (x : List ℕ). x ++ bytes) (sym i) ∙ q in
-      let d : length unit ≡ recordSize = l ∙ ap unitSize o in
+      let d : length unit ≡ recordSize = l ∙ ap (λ (t : Bool). unitSize t unit) o in
       let g = refused-record m (record-validated o j) in
       let x = takes-nothing (λ z. absurd (let a = ap (λ (v : Feed). v .answer) (g .0) in omega arith)) r in (
         rw (x .0, g .0, w, first-record unit rest d)
@@ -287,12 +281,12 @@ module _ {b : Buffers} (u : fitsAll (b .desk) (b .sheet) (b .seen) (b .slip) ≡
         x .1 ∙ g .1,
       )
 
-  pub tight-ended : {f f′ : Feed} {b′ : Buffers} (bytes : List ℕ) → Tells (refuseFirst (recordsOf bytes)) bytes f → Ended f b f′ b′
-      → AtEnd (refuseFirst (recordsOf bytes ++ shortRecord true (looseOf bytes))) f′ × (b′ ≡ b)
+  pub tight-ended : {f f′ : Feed} {b′ : Buffers} (bytes : List ℕ) → Tells (refuseFirst word (recordsOf bytes)) bytes f → Ended f b f′ b′
+      → AtEnd (refuseFirst word (recordsOf bytes ++ shortRecord true (looseOf bytes))) f′ × (b′ ≡ b)
   tight-ended bytes t w = by (recordsOf bytes) t w
     where
-      by : {f f′ : Feed} {b′ : Buffers} (rs : List Bytes) → Tells (refuseFirst rs) bytes f → Ended f b f′ b′
-          → AtEnd (refuseFirst (rs ++ shortRecord true (looseOf bytes))) f′ × (b′ ≡ b)
+      by : {f f′ : Feed} {b′ : Buffers} (rs : List Bytes) → Tells (refuseFirst word rs) bytes f → Ended f b f′ b′
+          → AtEnd (refuseFirst word (rs ++ shortRecord true (looseOf bytes))) f′ × (b′ ≡ b)
       by (r ∷ rs) t (stands x) = (record { answer-is = t .answer-is; number-is = t .number-is }, refl)
       by (r ∷ rs) t (no-header e o) = absurd (let a = t .answer-is in omega arith)
       by (r ∷ rs) t (between e o l) = absurd (let a = t .answer-is in omega arith)

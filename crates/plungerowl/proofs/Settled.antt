@@ -1,35 +1,38 @@
 -- The calls of the feed settle the number, the record's number and every byte, and a log's bytes settle what comes of it. Assumes nothing.
 use mathlib.Core.Path.{_≡_, refl, sym, ap, subst, subst₂, _∙_}
 use mathlib.Core.Bool.{Bool, true, false, false≢true}
-use mathlib.Core.List.{List, [], _++_}
-use Prim.Native.Nat.{ℕ, _+_, _^_, _≤_, _<_}
+use mathlib.Core.List.{List, [], _++_, append-nil}
+use mathlib.Core.Logic.{⊎-elim}
+use Prim.Native.Nat.{ℕ, _≤_, _<_}
 use native.Mathlib.Decide.{ℕ-discrete}
 use native.Mathlib.Omega.{arith}
 use lib.Dec.{eqb}
-use lib.ListN.{length, take, drop, length-append}
+use lib.ListN.{length, getD, take, drop, length-append}
 use lib.Seq.{take-at, drop-at}
 use Rattle.rules.specs.Verdict.{badOpening}
 use Rattle.rules.specs.Log.{unitSize, Outcome}
 use Rattle.layout.specs.Layout.{AreBytes}
+use Rattle.layout.proofs.Cross.{kept-is}
 use Rattle.fit.proofs.Facts.{facts}
-use Rattle.fit.proofs.Fitting.{stand-encodes}
+use Rattle.fit.proofs.Fitting.{stand-encodes, stand-valid}
+use Rattle.fit.proofs.Places.{by-entry}
 use Rattle.fit.proofs.Settled.{settled-desk-after, settled-sheet-after, settled-seen-after}
 use Rattle.validator.specs.Calls.{Buffers}
-use Rattle.progress.specs.Feed.{Feed, feedSize, view, fits, unitBegun, withPart}
+use Rattle.progress.specs.Feed.{Feed, fresh, feedSize, view, fits, unitBegun, withPart}
 use Rattle.progress.proofs.Kept.{bytes-back}
 use Rattle.unit.specs.Units.{more, UnitValidated, header, a-record}
 use Rattle.feed.specs.Fed.{Fed, stopped, kept, completed, Ended, stands, no-header, between, short}
 use Rattle.feed.specs.Calls.{holding, Started, FeedCall, FedPiece, FedEnd}
 use Rattle.validator.proofs.Reports.{reported-one}
 use Rattle.plungerowl.specs.Demands.{SameStep}
-use Rattle.plungerowl.specs.Logs.{classesIn, LeftBy, WholeLog, short-header, bad-header, by-rules, joined, FeedRan, LastCall, Repeated, SameFeed}
+use Rattle.plungerowl.specs.Logs.{classesIn, LeftBy, WholeLog, short-header, bad-header, by-rules, joined, FeedRan, LastCall, a-piece, the-end, SameLeft, Repeated, SameFeed}
 use Rattle.plungerowl.proofs.Demands.{step-settles}
 use Rattle.plungerowl.proofs.Logs.{same-buffers, takes-nothing}
-use Rattle.plungerowl.proofs.Wholes.{repeats}
-use Rattle.plungerowl.proofs.Feeds.{log-in-pieces}
+use Rattle.plungerowl.proofs.Wholes.{repeats, whole-unit}
+use Rattle.plungerowl.proofs.Feeds.{FedRun, EndedRun, fed-run, ended-run}
 
 same-step : (a : ℕ) (b : Buffers) → SameStep a a b b
-same-step a b = record { number-is = refl; desk-is = refl; sheet-is = refl; seen-is = refl; slip-is = refl }
+same-step a b = record { number-is = refl; desk-is = refl; sheet-is = refl; seen-is = refl; history-is = refl; slip-is = refl }
 
 -- Two results of a feed.
 record Same (f f′ : Feed) (b b′ : Buffers) : Type 0 where
@@ -44,7 +47,14 @@ unit-settles {n = n} (header {answer = x} {b′ = b₁} e p s) (header {answer =
     let a : x ≡ y = p .answer ∙ sym (q .answer) in
     record {
       feed-is = ap (λ (k : ℕ). unitBegun k (eqb k 0) n) a;
-      step = record { number-is = a; desk-is = p .desk ∙ sym (q .desk); sheet-is = p .sheet ∙ sym (q .sheet); seen-is = p .seen ∙ sym (q .seen); slip-is = s ∙ sym r };
+      step = record {
+        number-is = a;
+        desk-is = p .desk ∙ sym (q .desk);
+        sheet-is = p .sheet ∙ sym (q .sheet);
+        seen-is = p .seen ∙ sym (q .seen);
+        history-is = p .history ∙ sym (q .history);
+        slip-is = s ∙ sym r;
+      };
     }
 unit-settles (header e p s) (a-record e′ t) = absurd (false≢true (sym e ∙ e′))
 unit-settles (a-record e t) (header e′ p s) = absurd (false≢true (sym e′ ∙ e))
@@ -58,27 +68,34 @@ same-front u u′ rest rest′ n e l m = (
   sym (drop-at u rest n l) ∙ ap (drop n) e ∙ drop-at u′ rest′ n m,
 )
 
+buffers-same : {f f′ : Feed} {b b′ : Buffers} → Same f f′ b b′ → b′ ≡ b
+buffers-same {b = b} {b′} s =
+    let t = s .step in
+    same-buffers b b′ (sym (t .desk-is)) (sym (t .sheet-is)) (sym (t .seen-is)) (sym (t .history-is)) (sym (t .slip-is))
+
 -- The two ways go on alike, from the same buffers.
 after-same : {f₁ f₂ g₁ g₂ : Feed} {b₁ b₂ c₁ c₂ : Buffers} {rest : List ℕ} → Same f₁ f₂ b₁ b₂ → Fed f₂ b₂ rest g₂ c₂
     → ((g : Feed) (c : Buffers) → Fed f₁ b₁ rest g c → Same g₁ g c₁ c) → Same g₁ g₂ c₁ c₂
-after-same {g₂ = g₂} {b₁ = b₁} {b₂} {c₂ = c₂} {rest} s q go =
-    let t = s .step in
-    let w : b₂ ≡ b₁ = same-buffers b₁ b₂ (sym (t .desk-is)) (sym (t .sheet-is)) (sym (t .seen-is)) (sym (t .slip-is)) in
-    go g₂ c₂ (subst₂ (λ (f : Feed) (b : Buffers). Fed f b rest g₂ c₂) (sym (s .feed-is)) w q)
+after-same {g₂ = g₂} {c₂ = c₂} {rest} s q go =
+    go g₂ c₂ (subst₂ (λ (f : Feed) (b : Buffers). Fed f b rest g₂ c₂) (sym (s .feed-is)) (buffers-same s) q)
 
-kept-settles : {f g : Feed} {b c : Buffers} {bytes : List ℕ} → f .answer ≡ 0 → length (f .loose ++ bytes) < unitSize (f .opened) → Fed f b bytes g c
+kept-settles : {f g : Feed} {b c : Buffers} {bytes : List ℕ} → f .answer ≡ 0 → length (f .loose ++ bytes) < unitSize (f .opened) (f .loose ++ bytes) → Fed f b bytes g c
     → Same (withPart f bytes) g b c
 kept-settles e h (stopped n) = absurd (n e)
 kept-settles {f} {b = b} {bytes = bytes} e h (kept e′ h′) = same-all (withPart f bytes) b
-kept-settles e h (completed unit rest e′ q l j r) = absurd (let n = ap length q ∙ length-append unit rest in omega arith)
+kept-settles {f} e h (completed unit rest e′ q l j r) =
+    absurd (let n = ap length q ∙ length-append unit rest in let k = ap (unitSize (f .opened)) q ∙ whole-unit (f .opened) unit rest l in omega arith)
 
 unit-then : {f f₁ g₁ g₂ : Feed} {b b₁ c₁ c₂ : Buffers} {bytes unit rest : List ℕ} → f .answer ≡ 0 → f .loose ++ bytes ≡ unit ++ rest
-    → length unit ≡ unitSize (f .opened) → UnitValidated (f .opened) (f .number) b unit f₁ b₁ → Fed f₁ b₁ rest g₁ c₁
+    → length unit ≡ unitSize (f .opened) unit → UnitValidated (f .opened) (f .number) b unit f₁ b₁ → Fed f₁ b₁ rest g₁ c₁
     → ((g : Feed) (c : Buffers) → Fed f₁ b₁ rest g c → Same g₁ g c₁ c) → Fed f b bytes g₂ c₂ → Same g₁ g₂ c₁ c₂
 unit-then e q l j r go (stopped n) = absurd (n e)
-unit-then {unit = unit} {rest} e q l j r go (kept e′ h) = absurd (let n = ap length q ∙ length-append unit rest in omega arith)
+unit-then {f} {unit = unit} {rest} e q l j r go (kept e′ h) =
+    absurd (let n = ap length q ∙ length-append unit rest in let k = ap (unitSize (f .opened)) q ∙ whole-unit (f .opened) unit rest l in omega arith)
 unit-then {f} {g₂ = g₂} {b = b} {c₂ = c₂} {unit = unit} {rest} e q l j r go (completed {f₁ = f₂} {b₁ = b₂} unit′ rest′ e′ q′ l′ j′ r′) =
-    let s = same-front unit unit′ rest rest′ (unitSize (f .opened)) (sym q ∙ q′) l l′ in
+    let o = f .opened in
+    let n : unitSize o unit′ ≡ unitSize o unit = sym (whole-unit o unit′ rest′ l′) ∙ ap (unitSize o) (sym q′ ∙ q) ∙ whole-unit o unit rest l in
+    let s = same-front unit unit′ rest rest′ (unitSize o unit) (sym q ∙ q′) l (l′ ∙ n) in
     after-same (unit-settles j (subst (λ (u : List ℕ). UnitValidated (f .opened) (f .number) b u f₂ b₂) (sym (s .0)) j′))
     (subst (λ (x : List ℕ). Fed f₂ b₂ x g₂ c₂) (sym (s .1)) r′) go
 
@@ -169,30 +186,40 @@ end-repeats {feed} {b = b} e bytes n t = repeated (Ended (view feed) b) e bytes 
 
 -- ---- The log.
 
+same-left : (a : ℕ) (b : Buffers) → SameLeft a a b b
+same-left a b =
+    record { number-is = refl; desk-is = refl; sheet-is = refl; seen-is = refl; history-long = refl; history-is = λ j h. refl; slip-is = refl }
+
 module _ {b b₁ b₂ : Buffers} (K : ℕ) (o : Outcome) (u : LeftBy K o b b₁) (v : LeftBy K o b b₂) where
-  left-settles : SameStep (o .answer) (o .answer) b₁ b₂
+  left-settles : SameLeft (o .answer) (o .answer) b₁ b₂
   left-settles =
       let s = o .state in
+      let p = stand-encodes (u .stands) in
+      let q = stand-encodes (v .stands) in
       let some : 1 ≤ K = rw (← u .stands .classes) (facts (b₁ .desk) (b₁ .sheet) (b₁ .seen) (u .stands .fit) .some) in
       record {
         number-is = refl;
-        desk-is = settled-desk-after K (s .is-closed) (s .cores) (s .graph .marks) (s .journal .accepted) (b₁ .desk) (b₂ .desk)
-            (stand-encodes (u .stands) .in-desk) (stand-encodes (v .stands) .in-desk) (stand-encodes (u .stands) .in-count) (stand-encodes (v .stands) .in-count)
-            (b .desk) (u .keeps-desk) (v .keeps-desk);
-        sheet-is = settled-sheet-after K some (s .graph .locks) (b₁ .sheet) (b₂ .sheet) (stand-encodes (u .stands) .in-sheet)
-            (stand-encodes (v .stands) .in-sheet) (b .sheet) (u .keeps-sheet) (v .keeps-sheet);
-        seen-is = settled-seen-after K some (s .journal .seen) (b₁ .seen) (b₂ .seen) (stand-encodes (u .stands) .in-seen)
-            (stand-encodes (v .stands) .in-seen) (b .seen) (u .keeps-seen) (v .keeps-seen);
+        desk-is = settled-desk-after K (s .is-closed) (s .cores) (s .graph .marks) (s .journal .accepted) (s .cross) (b₁ .desk) (b₂ .desk) (b₁ .history) (b₂ .history)
+            (p .in-desk) (q .in-desk) (p .in-count) (q .in-count) (p .in-cross) (q .in-cross) (b .desk) (u .keeps-desk) (v .keeps-desk);
+        sheet-is = settled-sheet-after K some (s .graph .locks) (b₁ .sheet) (b₂ .sheet) (p .in-sheet) (q .in-sheet) (b .sheet) (u .keeps-sheet) (v .keeps-sheet);
+        seen-is = settled-seen-after K some (s .journal .seen) (b₁ .seen) (b₂ .seen) (p .in-seen) (q .in-seen) (b .seen) (u .keeps-seen) (v .keeps-seen);
+        history-long = u .keeps-history .long ∙ sym (v .keeps-history .long);
+        history-is = λ j h. ⊎-elim
+            (λ l. by-entry (length (s .cross .history)) (λ i. getD (b₁ .history) i 0 ≡ getD (b₂ .history) i 0)
+            (λ i m. p .in-cross .entries .places i m ∙ sym (q .in-cross .entries .places i m))
+            (λ i m. p .in-cross .entries .locks i m ∙ sym (q .in-cross .entries .locks i m)) j
+            (let k = kept-is (p .in-cross) (stand-valid (u .stands) .cross .kept) in omega arith))
+            (λ l. u .keeps-history .past j l ∙ sym (v .keeps-history .past j l)) h;
         slip-is = elim (ℕ-discrete (o .answer) 1) [ yes z ↦ reported-one (u .reported z) (v .reported z) | no h ↦ u .unreported h ∙ sym (v .unreported h) ];
       }
 
 pub whole-settles : {b b₁ b₂ : Buffers} {log : List ℕ} {ended : Bool} {a n a′ n′ : ℕ} → WholeLog b log ended a n b₁ → WholeLog b log ended a′ n′ b₂
-    → SameStep a a′ b₁ b₂ × (n ≡ n′)
-whole-settles {b} (short-header h) (short-header k) = (same-step _ b, refl)
+    → SameLeft a a′ b₁ b₂ × (n ≡ n′)
+whole-settles {b} (short-header h) (short-header k) = (same-left _ b, refl)
 whole-settles (short-header h) (bad-header k e) = absurd (omega arith)
 whole-settles (short-header h) (by-rules o k e q w) = absurd (omega arith)
 whole-settles (bad-header h e) (short-header k) = absurd (omega arith)
-whole-settles {b} (bad-header h e) (bad-header k d) = (same-step _ b, refl)
+whole-settles {b} (bad-header h e) (bad-header k d) = (same-left _ b, refl)
 whole-settles (bad-header h e) (by-rules o k d q w) = absurd (false≢true (sym e ∙ d))
 whole-settles (by-rules o h e q w) (short-header k) = absurd (omega arith)
 whole-settles (by-rules o h e q w) (bad-header k d) = absurd (false≢true (sym d ∙ e))
@@ -200,11 +227,22 @@ whole-settles {b} {b₁} {b₂} {log} (by-rules o h e q w) (by-rules o′ k d r 
     let s : o′ ≡ o = r ∙ sym q in
     rw s (left-settles (classesIn log) o w (subst (λ (y : Outcome). LeftBy (classesIn log) y b b₂) s x), refl)
 
--- Two ways to cut one log, both without its end or both with it: the same answer, record number, desk, sheets and slip.
+-- The calls settle more.
+fed-runs : {b b₁ b₂ : Buffers} {log log′ : List ℕ} {a n a′ n′ : ℕ} → log ≡ log′ → FedRun b log a n b₁ → FedRun b log′ a′ n′ b₂ → SameStep a a′ b₁ b₂ × (n ≡ n′)
+fed-runs {b} {b₂ = b₂} e r q =
+    let s = fed-settles (r .fed) (subst (λ (log : List ℕ). Fed fresh b log (q .after) b₂) (sym e) (q .fed)) in
+    (rw (r .answer-is, q .answer-is) (s .step), r .number-is ∙ ap (λ (f : Feed). f .number) (s .feed-is) ∙ sym (q .number-is))
+
+ended-runs : {b b₁ b₂ : Buffers} {log log′ : List ℕ} {a n a′ n′ : ℕ} → log ≡ log′ → EndedRun b log a n b₁ → EndedRun b log′ a′ n′ b₂ → SameStep a a′ b₁ b₂ × (n ≡ n′)
+ended-runs {b} {b₂ = b₂} e r q =
+    let t = fed-settles (r .fed) (subst (λ (log : List ℕ). Fed fresh b log (q .going) (q .between)) (sym e) (q .fed)) in
+    let s = ended-settles (r .ended) (subst₂ (λ (f : Feed) (c : Buffers). Ended f c (q .after) b₂) (sym (t .feed-is)) (buffers-same t) (q .ended)) in
+    (rw (r .answer-is, q .answer-is) (s .step), r .number-is ∙ ap (λ (f : Feed). f .number) (s .feed-is) ∙ sym (q .number-is))
+
+-- Two ways to cut one log, both without its end or both with it: the same answer, the same record number, and every byte of the buffers.
 pub cut-anywhere : {feed₀ feed feed₁ feed₂ feed₀′ feed′ feed₁′ feed₂′ : List ℕ} {b b₁ b₂ b₁′ b₂′ : Buffers} {ps ps′ : List (List ℕ)} {last last′ : List ℕ}
     {ended : Bool} {a n a′ n′ : ℕ} → Started feed₀ 0 feed → FeedRan feed b ps feed₁ b₁ → LastCall feed₁ b₁ last ended a n feed₂ b₂ → Started feed₀′ 0 feed′
-    → FeedRan feed′ b ps′ feed₁′ b₁′ → LastCall feed₁′ b₁′ last′ ended a′ n′ feed₂′ b₂′ → joined ps ++ last ≡ joined ps′ ++ last′
-    → length (joined ps ++ last) < 2 ^ 64 → SameStep a a′ b₂ b₂′ × (n ≡ n′)
-cut-anywhere {b = b} {b₂′ = b₂′} {ended = ended} {a′ = a′} {n′ = n′} s w t s′ w′ t′ e small =
-    whole-settles (log-in-pieces s w t small)
-    (subst (λ (log : List ℕ). WholeLog b log ended a′ n′ b₂′) (sym e) (log-in-pieces s′ w′ t′ (rw (← e) small)))
+    → FeedRan feed′ b ps′ feed₁′ b₁′ → LastCall feed₁′ b₁′ last′ ended a′ n′ feed₂′ b₂′ → joined ps ++ last ≡ joined ps′ ++ last′ → SameStep a a′ b₂ b₂′ × (n ≡ n′)
+cut-anywhere s w (a-piece t) s′ w′ (a-piece t′) e = fed-runs e (fed-run s w t) (fed-run s′ w′ t′)
+cut-anywhere {ps = ps} {ps′} s w (the-end t) s′ w′ (the-end t′) e =
+    ended-runs (sym (append-nil (joined ps)) ∙ e ∙ append-nil (joined ps′)) (ended-run s w t) (ended-run s′ w′ t′)

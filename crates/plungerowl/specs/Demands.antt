@@ -23,6 +23,7 @@ pub record SameStep (answer answer′ : ℕ) (b b′ : Buffers) : Type 0 where
   pub desk-is : b .desk ≡ b′ .desk
   pub sheet-is : b .sheet ≡ b′ .sheet
   pub seen-is : b .seen ≡ b′ .seen
+  pub history-is : b .history ≡ b′ .history
   pub slip-is : b .slip ≡ b′ .slip
 
 -- Demand 1, of one step: an open desk is closed by a fault and by nothing else.
@@ -37,8 +38,8 @@ pub record FaultExactly (K : ℕ) (g : Graph) (numbers : ℕ → ℕ → ℕ) (a
 
 -- Demand 2, of a run from a state s of the rules (Start of Runs.antt): the bytes stand for what the rules draw from the records alone.
 pub record DrawnFromRecords (K : ℕ) (s : State) (rs : List Bytes) (b : Buffers) : Type 0 where
-  pub stands : StandFor K (run K s rs) (b .desk) (b .sheet) (b .seen)
-  pub stays-fit : fitsAll (b .desk) (b .sheet) (b .seen) (b .slip) ≡ true
+  pub stands : StandFor K (run K s rs) (b .desk) (b .sheet) (b .seen) (b .history)
+  pub stays-fit : fitsAll (b .desk) (b .sheet) (b .seen) (b .history) (b .slip) ≡ true
 
 -- Request e, of such a run: the count, and the number of each pair in the second sheet, worked out from the records alone and from the numbers at the start,
 -- of which opening gives none; 0 exactly where there is no lock dependency.
@@ -50,4 +51,4 @@ pub record NumberedFromRecords (K : ℕ) (s : State) (rs : List Bytes) (b : Buff
 -- The balance law, of such a run: the locks that stand in the desk's frames.
 pub record Balanced (K : ℕ) (s : State) (rs : List Bytes) (b : Buffers) : Type 0 where
   pub balance : (core : ℕ) (f : Frame) (class : ℕ)
-      → standing class (view (b .desk) (b .sheet) (b .seen) .cores core .held f) + tally K core f (releases class) s rs ≡ tally K core f (acquires class) s rs
+      → standing class (view (b .desk) (b .sheet) (b .seen) (b .history) .cores core .held f) + tally K core f (releases class) s rs ≡ tally K core f (acquires class) s rs

@@ -13,18 +13,19 @@ use Rattle.benches.specs.Benches.{Bench, bench}
 use Rattle.joiner.specs.Joining.{Joined}
 use Rattle.plungerowl.specs.Demands.{FaultExactly}
 
--- A call of the joiner: the benches, the buffers, the answer, the buffers left.
+-- A call of the joiner: the benches, the buffers, the answer, the buffers left. It takes no history.
 abbrev pub CalledJoin : (one two : Bench) → Buffers → ℕ → Buffers → Type 0
-CalledJoin one two b answer b′ = Joined one two (b .desk) (b .sheet) (b .seen) (b .slip) answer (b′ .desk) (b′ .sheet) (b′ .seen) (b′ .slip)
+CalledJoin one two b answer b′ =
+    Joined one two (b .desk) (b .sheet) (b .seen) (b .slip) answer (b′ .desk) (b′ .sheet) (b′ .seen) (b′ .slip) × (b′ .history ≡ b .history)
 
 -- The bench that a run left.
 abbrev pub benchOf : Buffers → Bench
 benchOf b = bench (b .desk) (b .sheet) (b .seen)
 
--- Of benches that stand for states s and t of K classes: desk and sheets stand for the joined state, the answer is a fault exactly when the joined graph, of both
+-- Of benches that stand for states s and t of K classes: desk and sheets stand for the joined state with any history, the answer is a fault exactly when the joined graph, of both
 -- graphs, has a closed strong path, and with it comes the least cycle of that graph, with the joined numbers.
 pub record JoinedFrom (K : ℕ) (s t : State) (answer : ℕ) (b b′ : Buffers) : Type 0 where
-  pub stands : StandFor K (join K s t .state) (b′ .desk) (b′ .sheet) (b′ .seen)
+  pub stands : StandFor K (join K s t .state) (b′ .desk) (b′ .sheet) (b′ .seen) (b′ .history)
   pub verdict : FaultExactly K (joinedGraph (s .graph) (t .graph)) (join K s t .state .journal .seen) answer (b .slip) (b′ .slip)
 
 -- A byte of a slip that is none of a number: the count, or a class, kind or source; or one behind the cycle.

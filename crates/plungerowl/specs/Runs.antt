@@ -6,7 +6,7 @@ use lib.ListN.{length}
 use Rattle.rules.specs.Record.{Bytes}
 use Rattle.rules.specs.Run.{State, start}
 use Rattle.rules.specs.Join.{join}
-use Rattle.layout.specs.Layout.{slipSize}
+use Rattle.layout.specs.Layout.{historySize, slipSize, memberOf}
 use Rattle.opening.specs.Open.{Opened}
 use Rattle.validator.specs.Calls.{Buffers, Called}
 use Rattle.benches.specs.Benches.{Bench, benchClasses, benchState}
@@ -19,15 +19,22 @@ pub data Ran : Buffers → List Bytes → List ℕ → Buffers → Type 0 where
       → Called b r answer b′ → Ran b′ rs answers b″ → Ran b (r ∷ rs) (answer ∷ answers) b″
 
 -- The buffers as an opening that was not refused leaves them, with a slip that is long enough and holds anything.
-pub record Opening (K : ℕ) (b : Buffers) : Type 0 where
+pub record Opening (K declared : ℕ) (b : Buffers) : Type 0 where
   pub desk-before : List ℕ
   pub sheet-before : List ℕ
   pub seen-before : List ℕ
-  pub opened : Opened K desk-before sheet-before seen-before 0 (b .desk) (b .sheet) (b .seen)
+  pub history-before : List ℕ
+  pub opened : Opened K declared desk-before sheet-before seen-before history-before 0 (b .desk) (b .sheet) (b .seen) (b .history)
   pub room : slipSize K ≤ length (b .slip)
 
--- The buffers as a join that was not refused leaves them, of two benches that stand for the states s and t; with a slip that is long enough and holds
--- anything.
+-- What a join reads of a state: the graph, the journal and the declarations.
+pub record SameBench (s t : State) : Type 0 where
+  pub graph : s .graph ≡ t .graph
+  pub journal : s .journal ≡ t .journal
+  pub declared : s .cross .declared ≡ t .cross .declared
+
+-- The buffers as a join that was not refused leaves them, of two benches that stand for the states s and t; with a history and a slip that are long enough and
+-- hold anything.
 pub record Joining (K : ℕ) (s t : State) (b : Buffers) : Type 0 where
   pub one : Bench
   pub two : Bench
@@ -37,11 +44,12 @@ pub record Joining (K : ℕ) (s t : State) (b : Buffers) : Type 0 where
   pub joined : Joined one two (before .desk) (before .sheet) (before .seen) (before .slip) answer (b .desk) (b .sheet) (b .seen) slip-left
   pub not-refused : answer ≤ 1
   pub classes : benchClasses one ≡ K
-  pub first : benchState one ≡ s
-  pub second : benchState two ≡ t
+  pub first : SameBench (benchState one) s
+  pub second : SameBench (benchState two) t
+  pub history-room : historySize ≤ length (b .history)
   pub room : slipSize K ≤ length (b .slip)
 
 -- Where a run may start, and in which state of the rules: as opening leaves the buffers, or as a join does.
 pub data Start (K : ℕ) : State → Buffers → Type 0 where
-  from-opening : {b : Buffers} → Opening K b → Start K start b
+  from-opening : {b : Buffers} {declared : ℕ} → Opening K declared b → Start K (start (memberOf declared)) b
   from-join : {b : Buffers} {s t : State} → Joining K s t b → Start K (join K s t .state) b

@@ -14,17 +14,19 @@ ghost use Rattle.question.specs.Question.{Asked};
 ghost use Rattle.validator.specs.Calls.{buffers};
 ghost use Rattle.validator.specs.Step.{Stepped};
 
-// Opens desk and both sheets for a number of lock classes.
+// Opens desk, both sheets and history for a number of lock classes, of which the word declares some crosslocks.
 #[no_mangle]
 pub extern "C" fn plungerowl_open(
     classes: u64,
+    declared: u64,
     desk: &mut [u8],
     sheet: &mut [u8],
     seen: &mut [u8],
+    history: &mut [u8],
 ) -> u8
-    ensures { λ r. ⌜ Opened classes (now (desk .entry)) (now (sheet .entry)) (now (seen .entry)) r (now (desk .exit)) (now (sheet .exit)) (now (seen .exit)) ⌝ }
+    ensures { λ r. ⌜ Opened classes declared (now (desk .entry)) (now (sheet .entry)) (now (seen .entry)) (now (history .entry)) r (now (desk .exit)) (now (sheet .exit)) (now (seen .exit)) (now (history .exit)) ⌝ }
 {
-    open(classes, desk, sheet, seen)
+    open(classes, declared, desk, sheet, seen, history)
 }
 
 // Validates one record. With a fault the cycle stands in the slip.
@@ -33,12 +35,13 @@ pub extern "C" fn plungerowl_step(
     desk: &mut [u8],
     sheet: &mut [u8],
     seen: &mut [u8],
+    history: &mut [u8],
     slip: &mut [u8],
     bytes: &[u8],
 ) -> u8
-    ensures { λ r. ⌜ Stepped (now (desk .entry)) (now (sheet .entry)) (now (seen .entry)) (now (slip .entry)) (now (bytes .entry)) r (now (desk .exit)) (now (sheet .exit)) (now (seen .exit)) (now (slip .exit)) ⌝ }
+    ensures { λ r. ⌜ Stepped (now (desk .entry)) (now (sheet .entry)) (now (seen .entry)) (now (history .entry)) (now (slip .entry)) (now (bytes .entry)) r (now (desk .exit)) (now (sheet .exit)) (now (seen .exit)) (now (history .exit)) (now (slip .exit)) ⌝ }
 {
-    step(desk, sheet, seen, slip, bytes)
+    step(desk, sheet, seen, history, slip, bytes)
 }
 
 // Which classes end a strong path from a class: one bit for each in `word`, and how many in `count`.
@@ -104,13 +107,14 @@ pub extern "C" fn plungerowl_feed(
     desk: &mut [u8],
     sheet: &mut [u8],
     seen: &mut [u8],
+    history: &mut [u8],
     slip: &mut [u8],
     piece: &[u8],
     record: &mut u64,
 ) -> u8
-    ensures { λ r. ⌜ FedPiece (now (feed .entry)) (buffers (now (desk .entry)) (now (sheet .entry)) (now (seen .entry)) (now (slip .entry))) (now (piece .entry)) r (now («record» .exit)) (now (feed .exit)) (buffers (now (desk .exit)) (now (sheet .exit)) (now (seen .exit)) (now (slip .exit))) ⌝ }
+    ensures { λ r. ⌜ FedPiece (now (feed .entry)) (buffers (now (desk .entry)) (now (sheet .entry)) (now (seen .entry)) (now (history .entry)) (now (slip .entry))) (now (piece .entry)) r (now («record» .exit)) (now (feed .exit)) (buffers (now (desk .exit)) (now (sheet .exit)) (now (seen .exit)) (now (history .exit)) (now (slip .exit))) ⌝ }
 {
-    let said = feed::feed_piece(feed, desk, sheet, seen, slip, piece);
+    let said = feed::feed_piece(feed, desk, sheet, seen, history, slip, piece);
     *record = said.number;
     said.answer
 }
@@ -122,12 +126,13 @@ pub extern "C" fn plungerowl_feed_end(
     desk: &mut [u8],
     sheet: &mut [u8],
     seen: &mut [u8],
+    history: &mut [u8],
     slip: &mut [u8],
     record: &mut u64,
 ) -> u8
-    ensures { λ r. ⌜ FedEnd (now (feed .entry)) (buffers (now (desk .entry)) (now (sheet .entry)) (now (seen .entry)) (now (slip .entry))) r (now («record» .exit)) (now (feed .exit)) (buffers (now (desk .exit)) (now (sheet .exit)) (now (seen .exit)) (now (slip .exit))) ⌝ }
+    ensures { λ r. ⌜ FedEnd (now (feed .entry)) (buffers (now (desk .entry)) (now (sheet .entry)) (now (seen .entry)) (now (history .entry)) (now (slip .entry))) r (now («record» .exit)) (now (feed .exit)) (buffers (now (desk .exit)) (now (sheet .exit)) (now (seen .exit)) (now (history .exit)) (now (slip .exit))) ⌝ }
 {
-    let said = feed::feed_end(feed, desk, sheet, seen, slip);
+    let said = feed::feed_end(feed, desk, sheet, seen, history, slip);
     *record = said.number;
     said.answer
 }

@@ -12,9 +12,8 @@ use lib.Seq.{take-take, take-at, take-length, take-append-le, length-take-le, ge
 use borrow.Author.Tests.{eq-eqb, ne-eqb, lt-ltb, le-ltb}
 use Rattle.words.specs.Bits.{flag}
 use Rattle.rules.specs.Decision.{tabulate}
-use Rattle.rules.specs.Record.{recordSize}
-use Rattle.layout.specs.Number.{lowFirst}
-use Rattle.progress.specs.Feed.{Feed, mostLoose, answerAt, openedAt, countAt, looseAt, numberAt, numberSize, feedSize, view, byteOf}
+use Rattle.rules.specs.Number.{lowFirst}
+use Rattle.progress.specs.Feed.{Feed, longest, mostLoose, answerAt, openedAt, countAt, looseAt, numberAt, numberSize, feedSize, view, byteOf}
 use Rattle.progress.specs.Code.{LooseIn}
 
 -- ---- Byte i of a feed, by its place.
@@ -55,10 +54,10 @@ tab-more n g d l = rw add-one (tab-suc n g d l)
 -- ---- The loose bytes.
 
 -- What is known of an array in a struct, as a plain length.
-pub six : (array : List ℕ) → length (map (λ (v : ℕ). v) array) ≡ recordSize → length array ≡ recordSize
-six array h = simp length-map at h
+pub twelve : (array : List ℕ) → length (map (λ (v : ℕ). v) array) ≡ longest → length array ≡ longest
+twelve array h = simp length-map at h
 
-pub length-loose : (array : List ℕ) (count : ℕ) → length array ≡ recordSize → count ≤ mostLoose → length (take count array) ≡ count
+pub length-loose : (array : List ℕ) (count : ℕ) → length array ≡ longest → count ≤ mostLoose → length (take count array) ≡ count
 length-loose array count l h = length-take-le count array (omega arith)
 
 -- Past the loose bytes a feed's byte is 0.
@@ -67,7 +66,7 @@ past-end [] i h = refl
 past-end (x ∷ l) zero h = absurd (not-suc-le-zero h)
 past-end (x ∷ l) (suc i) h = past-end l i (le-of-suc-le-suc h)
 
-pub unused-byte : (array : List ℕ) (count i : ℕ) → length array ≡ recordSize → count ≤ mostLoose → count ≤ i → 0 ≡ getD (take count array) i 0
+pub unused-byte : (array : List ℕ) (count i : ℕ) → length array ≡ longest → count ≤ mostLoose → count ≤ i → 0 ≡ getD (take count array) i 0
 unused-byte array count i l h k = past-end (take count array) i (omega (arith, length-loose array count l h))
 
 -- A part copied behind the loose bytes.

@@ -1,6 +1,6 @@
 -- The fit test of a feed, condition by condition. Assumes nothing.
 use mathlib.Core.Path.{_≡_, refl, sym, _∙_}
-use mathlib.Core.Bool.{Bool, true, false, _||_, and-true, and-false, or-true}
+use mathlib.Core.Bool.{Bool, true, false, cond, not, _&&_, _||_, and-true, and-false, or-true}
 use mathlib.Core.List.{List}
 use Prim.Native.Nat.{ℕ, _+_, _≤_, _<_}
 use native.Mathlib.Decide.{ℕ-discrete, decLt}
@@ -16,11 +16,24 @@ use Rattle.progress.specs.Feed.{Feed, mostLoose, openedAt, countAt, loos
 
 -- ---- The step's answers.
 
-none-else : allBelow 12 (λ a. eqb a 2 || isStepAnswer a) ≡ true
+low : allBelow 12 (λ a. eqb a 2 || isStepAnswer a) ≡ true
 unfolding allBelow isStepAnswer anyOf
-none-else = refl
+low = refl
 
-none-above : (a : ℕ) → 11 < a → isStepAnswer a ≡ false
+-- All numbers up to 11 but 2.
+pub low-answer : (a : ℕ) → (a ≡ 2 → ⊥) → a ≤ 11 → true ≡ isStepAnswer a
+low-answer a n l = sym (rw (ne-eqb a 2 n) at (all-at 12 (λ b. eqb b 2 || isStepAnswer b) low a (omega arith)))
+
+agree : (a b : Bool) → cond a b (not b) ≡ true → a ≡ b
+agree true b e = sym e
+agree false false e = refl
+agree false true e = e
+
+high : allBelow 20 (λ a. leb a 11 || cond (leb 15 a && leb a 19) (isStepAnswer a) (not (isStepAnswer a))) ≡ true
+unfolding allBelow isStepAnswer anyOf
+high = refl
+
+none-above : (a : ℕ) → 19 < a → isStepAnswer a ≡ false
 unfolding isStepAnswer anyOf
 none-above a h =
     simp (
@@ -29,21 +42,26 @@ none-above a h =
       ne-eqb a 10 (omega arith),
       ne-eqb a 3 (omega arith),
       ne-eqb a 4 (omega arith),
+      ne-eqb a 15 (omega arith),
       ne-eqb a 6 (omega arith),
       ne-eqb a 7 (omega arith),
       ne-eqb a 5 (omega arith),
       ne-eqb a 8 (omega arith),
+      ne-eqb a 16 (omega arith),
+      ne-eqb a 17 (omega arith),
+      ne-eqb a 18 (omega arith),
+      ne-eqb a 19 (omega arith),
       ne-eqb a 9 (omega arith),
     )
 
--- All numbers up to 11 but 2.
-pub step-answers : (a : ℕ) → (a ≡ 2 → ⊥) → leb a 11 ≡ isStepAnswer a
-step-answers a n =
-    elim (decLt 11 a) [
-      | yes h ↦ lt-leb a 11 h ∙ sym (none-above a h)
-      | no h ↦
-          let l : a ≤ 11 = omega arith in
-          le-leb a 11 l ∙ sym (rw (ne-eqb a 2 n) at (all-at 12 (λ b. eqb b 2 || isStepAnswer b) none-else a (omega arith)))
+-- Past 11 those of 15 to 19.
+pub high-answer : (a : ℕ) → 11 < a → (leb 15 a && leb a 19) ≡ isStepAnswer a
+high-answer a h =
+    elim (decLt 19 a) [
+      | yes l ↦ simp (lt-leb a 19 l, none-above a l, and-false)
+      | no l ↦ agree (leb 15 a && leb a 19) (isStepAnswer a) (
+          rw (lt-leb a 11 h) at (all-at 20 (λ b. leb b 11 || cond (leb 15 b && leb b 19) (isStepAnswer b) (not (isStepAnswer b))) high a (omega arith))
+          )
     ]
 
 pub two : (a : ℕ) → a ≡ 2 → false ≡ isStepAnswer a
@@ -75,22 +93,22 @@ module _ (opened : Bool) (a n : ℕ) where
 -- ---- A feed that can be, where it has `count` loose bytes.
 
 module _ (f : Feed) (count : ℕ) (l : length (f .loose) ≡ count) where
-  pub too-many : unitSize (f .opened) ≤ count → false ≡ wellFormed f
+  pub too-many : unitSize (f .opened) (f .loose) ≤ count → false ≡ wellFormed f
   unfolding wellFormed
-  too-many h = simp (l, le-ltb count (unitSize (f .opened)) h)
+  too-many h = simp (l, le-ltb count (unitSize (f .opened) (f .loose)) h)
 
-  module _ (few : count < unitSize (f .opened)) where
+  module _ (few : count < unitSize (f .opened) (f .loose)) where
     pub going-on : f .answer ≡ 0 → standsWith (f .opened) (f .answer) (f .number) ≡ wellFormed f
     unfolding wellFormed
-    going-on e = rw (l, lt-ltb count (unitSize (f .opened)) few, eq-eqb (f .answer) 0 e) refl
+    going-on e = rw (l, lt-ltb count (unitSize (f .opened) (f .loose)) few, eq-eqb (f .answer) 0 e) refl
 
     pub loose-with-answer : (f .answer ≡ 0 → ⊥) → (count ≡ 0 → ⊥) → false ≡ wellFormed f
     unfolding wellFormed
-    loose-with-answer n m = rw (l, lt-ltb count (unitSize (f .opened)) few, ne-eqb (f .answer) 0 n, ne-eqb count 0 m) refl
+    loose-with-answer n m = rw (l, lt-ltb count (unitSize (f .opened) (f .loose)) few, ne-eqb (f .answer) 0 n, ne-eqb count 0 m) refl
 
     pub at-unit : (f .answer ≡ 0 → ⊥) → count ≡ 0 → standsWith (f .opened) (f .answer) (f .number) ≡ wellFormed f
     unfolding wellFormed
-    at-unit n e = rw (l, lt-ltb count (unitSize (f .opened)) few, ne-eqb (f .answer) 0 n, eq-eqb count 0 e) refl
+    at-unit n e = rw (l, lt-ltb count (unitSize (f .opened) (f .loose)) few, ne-eqb (f .answer) 0 n, eq-eqb count 0 e) refl
 
 -- ---- The bytes.
 
@@ -156,6 +174,6 @@ fit-facts feed e =
       formed = s .1;
     }
 
-pub formed-loose : (f : Feed) → wellFormed f ≡ true → length (f .loose) < unitSize (f .opened)
+pub formed-loose : (f : Feed) → wellFormed f ≡ true → length (f .loose) < unitSize (f .opened) (f .loose)
 unfolding wellFormed
-formed-loose f e = ltb-true (length (f .loose)) (unitSize (f .opened)) (and-cases (ltb (length (f .loose)) (unitSize (f .opened))) _ e .0)
+formed-loose f e = ltb-true (length (f .loose)) (unitSize (f .opened) (f .loose)) (and-cases (ltb (length (f .loose)) (unitSize (f .opened) (f .loose))) _ e .0)

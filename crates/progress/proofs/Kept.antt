@@ -15,12 +15,11 @@ use Rattle.words.specs.Bits.{flag}
 use Rattle.rules.specs.Decision.{tabulate}
 use Rattle.rules.proofs.Booleans.{and-both}
 use Rattle.rules.proofs.Closure.{length-tabulate, getD-tabulate}
-use Rattle.rules.specs.Record.{recordSize}
 use Rattle.rules.specs.Log.{unitSize}
 use Rattle.layout.specs.Layout.{AreBytes}
 use Rattle.layout.specs.Fit.{allBelow}
 use Rattle.layout.proofs.AllBelow.{all-of}
-use Rattle.layout.specs.Number.{lowFirst}
+use Rattle.rules.specs.Number.{lowFirst}
 use Rattle.progress.specs.Feed.{Feed, mostLoose, answerAt, openedAt, countAt, looseAt, numberAt, numberSize, feedSize, view, byteOf, bytesOf, wellFormed, unusedZero, fits}
 use Rattle.progress.proofs.Bytes.{answer-byte, opened-byte, count-byte, loose-byte, number-byte, past-end}
 use Rattle.progress.proofs.Fitness.{fit-facts, formed-loose, used-zero, is-zero}

@@ -1,3 +1,4 @@
 pub mod Bytes
+pub mod UnitSizes
 pub mod Kept
 pub mod Fitness

@@ -1,4 +1,4 @@
--- Document 02, b: what a feed keeps between calls, and the bytes in which it is lent.
+-- Document 02, b and j: what a feed keeps between calls, and the bytes in which it is lent.
 use mathlib.Core.Bool.{Bool, true, false, cond, not, _&&_, _||_}
 use mathlib.Core.List.{List, [], _∷_, _++_}
 use Prim.Native.Nat.{ℕ, _+_, _*_, _-_, _/_, _%_, _^_}
@@ -7,9 +7,8 @@ use lib.ListN.{length, getD, take, drop}
 use Rattle.words.specs.Bits.{flag}
 use Rattle.rules.specs.Decision.{tabulate}
 use Rattle.rules.specs.Verdict.{Refusal, refusalNumber, order, badOpening, unfit}
-use Rattle.rules.specs.Record.{recordSize}
-use Rattle.rules.specs.Log.{unitSize}
-use Rattle.layout.specs.Number.{lowFirst}
+use Rattle.rules.specs.Log.{plainSize, wordSize, unitSize}
+use Rattle.rules.specs.Number.{lowFirst}
 use Rattle.layout.specs.Fit.{allBelow}
 
 -- How far a feed has come: the standing answer, which is 0 or the first answer but 0; whether the header was complete and opened the desk; the loose
@@ -33,9 +32,13 @@ withPart f part = record { answer = f .answer; opened = f .opened; loose = f .lo
 
 -- ---- The bytes.
 
--- "keeps at most five loose bytes"
+-- The most bytes that a unit has: a header with its word.
+abbrev pub longest : ℕ
+longest = plainSize + wordSize
+
+-- "keeps at most five loose bytes"; of a header with its word "the feed may then keep eleven bytes"
 abbrev pub mostLoose : ℕ
-mostLoose = recordSize - 1
+mostLoose = longest - 1
 
 abbrev pub answerAt : ℕ
 answerAt = 0
@@ -98,7 +101,7 @@ standsWith true answer number = isStepAnswer answer && (eqb answer 0 || leb 1 nu
 -- Loose bytes are fewer than the next unit has, and none with an answer but 0.
 unfoldable pub wellFormed : Feed → Bool
 wellFormed f =
-    ltb (length (f .loose)) (unitSize (f .opened))
+    ltb (length (f .loose)) (unitSize (f .opened) (f .loose))
     && ((eqb (f .answer) 0 || eqb (length (f .loose)) 0)
     && standsWith (f .opened) (f .answer) (f .number))
 

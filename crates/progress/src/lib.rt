@@ -1,24 +1,31 @@
 // How far a feed has come, and the lent buffer in which it is kept between calls. specs/Feed.antt says what its bytes stand for.
 use answers::BAD_OPENING;
+use answers::HISTORY_FULL;
 use answers::OK;
 use answers::UNFIT;
-use numbers::number_at;
+use answers::WRONG_SORT;
+use numbers::word_at;
 use record::SIZE;
 ghost use mathlib.Core.Path.{_≡_};
 ghost use mathlib.Core.List.{_++_};
-ghost use Prim.Native.Nat.{_+_, _≤_, _<_, _^_};
+ghost use Prim.Native.Nat.{_+_, _≤_, _<_};
 ghost use lib.ListN.{length, getD, drop, take};
-ghost use Rattle.rules.specs.Record.{recordSize};
 ghost use Rattle.rules.specs.Log.{unitSize};
 ghost use Rattle.layout.specs.Fit.{allBelow};
-ghost use Rattle.layout.specs.Number.{lowFirst};
-ghost use Rattle.progress.specs.Feed.{feedSize, mostLoose, countAt, looseAt, numberAt, numberSize, byteOf, bytesOf, view, isStepAnswer, standsWith, wellFormed, unusedZero, fits, unitBegun, withPart};
+ghost use Rattle.progress.specs.Feed.{feedSize, longest, mostLoose, countAt, byteOf, bytesOf, view, isStepAnswer, standsWith, wellFormed, unusedZero, fits, unitBegun, withPart};
 ghost use Rattle.progress.specs.Code.{feedOf, Counted, LooseIn};
 
-// A log is a header and then records, of SIZE bytes each. Of one that is not complete the bytes are kept, fewer than a record has.
-pub const HEADER_SIZE: usize = 4;
+// A log is a header and then records, of SIZE bytes each. A header has a word behind it where its version, the third byte, is DECLARING.
+pub const PLAIN_SIZE: usize = 4;
 
-const MOST_LOOSE: usize = SIZE - 1;
+pub const VERSION_AT: usize = 2;
+
+pub const DECLARING: u8 = 2;
+
+// The most bytes that a unit has. Of one that is not complete the bytes are kept.
+pub const UNIT_SIZE: usize = PLAIN_SIZE + 8;
+
+const MOST_LOOSE: usize = UNIT_SIZE - 1;
 
 const MOST_COUNT: u8 = MOST_LOOSE as u8;
 
@@ -41,16 +48,26 @@ pub const FEED_SIZE: usize = NUMBER_AT + NUMBER_SIZE;
 pub struct Progress {
     pub answer: u8,
     pub opened: bool,
-    pub loose: [u8; SIZE],
+    pub loose: [u8; UNIT_SIZE],
     pub count: usize,
     pub number: u64,
 }
 
-// The bytes that the next unit has: the header's until the desk is opened, then a record's.
-pub fn unit_size(opened: bool) -> usize
-    ensures { λ r. ⌜ r ≡ unitSize opened ⌝ }
+// The bytes that the next unit has: the header's until the desk is opened, then a record's. Loose bytes tell which header it is as soon as there are three.
+pub fn unit_size(p: Progress) -> usize
+    requires { ⌜ p .count ≤ longest ⌝ }
+    ensures { λ r. ⌜ r ≡ unitSize (p .opened) (feedOf p .loose) ⌝ }
 {
-    if opened { SIZE } else { HEADER_SIZE }
+    if p.opened {
+        return SIZE;
+    }
+    if p.count <= VERSION_AT {
+        return PLAIN_SIZE;
+    }
+    if p.loose[VERSION_AT] == DECLARING {
+        return UNIT_SIZE;
+    }
+    PLAIN_SIZE
 }
 
 // Between two units: no loose bytes.
@@ -60,7 +77,7 @@ pub fn between_units(answer: u8, opened: bool, number: u64) -> Progress
     Progress {
         answer,
         opened,
-        loose: [0; SIZE],
+        loose: [0; UNIT_SIZE],
         count: 0,
         number,
     }
@@ -68,7 +85,7 @@ pub fn between_units(answer: u8, opened: bool, number: u64) -> Progress
 
 // The loose bytes with a part of a piece behind them.
 pub fn with_part(p: Progress, part: &[u8]) -> Progress
-    requires { ⌜ p .count + length (now part) ≤ recordSize ⌝ }
+    requires { ⌜ p .count + length (now part) ≤ longest ⌝ }
     ensures { λ r. ⌜ (feedOf r ≡ withPart (feedOf p) (now (part .entry))) × (r .count ≡ p .count + length (now (part .entry))) ⌝ }
 {
     let count = p.count;
@@ -83,24 +100,11 @@ pub fn with_part(p: Progress, part: &[u8]) -> Progress
     }
 }
 
-fn wide(number: u32) -> u64
-    ensures { λ r. ⌜ (r ≡ number) × (r < 2 ^ 32) ⌝ }
-{
-    number as u64
-}
-
-fn number_of(feed: &[u8]) -> u64
-    requires { ⌜ feedSize ≤ length (now feed) ⌝ }
-    ensures { λ r. ⌜ r ≡ lowFirst numberSize (now (feed .entry)) numberAt ⌝ }
-{
-    wide(number_at(feed, NUMBER_AT)) + 0x1_0000_0000 * wide(number_at(feed, NUMBER_AT + 4))
-}
-
-fn loose_of(feed: &[u8]) -> [u8; SIZE]
+fn loose_of(feed: &[u8]) -> [u8; UNIT_SIZE]
     requires { ⌜ feedSize ≤ length (now feed) ⌝ }
     ensures { λ r. ⌜ LooseIn (now (feed .entry)) r ⌝ }
 {
-    let mut loose = [0; SIZE];
+    let mut loose = [0; UNIT_SIZE];
     bytes::copy(&feed[LOOSE_AT..NUMBER_AT], &mut loose);
     loose
 }
@@ -115,7 +119,7 @@ pub fn load(feed: &[u8]) -> Progress
         opened: feed[OPENED_AT] == 1,
         loose: loose_of(feed),
         count: feed[COUNT_AT] as usize,
-        number: number_of(feed),
+        number: word_at(feed, NUMBER_AT),
     }
 }
 
@@ -178,7 +182,10 @@ fn is_step_answer(answer: u8) -> bool
     if answer == BAD_OPENING {
         return false;
     }
-    answer <= UNFIT
+    if answer <= UNFIT {
+        return true;
+    }
+    (WRONG_SORT <= answer) & (answer <= HISTORY_FULL)
 }
 
 // Whether the standing answer and the number go together.
@@ -207,7 +214,7 @@ fn well_formed(p: Progress) -> bool
     requires { ⌜ p .count ≤ mostLoose ⌝ }
     ensures { λ r. ⌜ r ≡ wellFormed (feedOf p) ⌝ }
 {
-    if unit_size(p.opened) <= p.count {
+    if unit_size(p) <= p.count {
         return false;
     }
     if p.answer == OK {

@@ -1,7 +1,7 @@
 -- The question's three answers. Assumes nothing.
 use mathlib.Core.Path.{_≡_, refl, sym, _∙_}
 use mathlib.Core.Bool.{true, false, true≢false}
-use mathlib.Core.List.{List}
+use mathlib.Core.List.{List, []}
 use Prim.Native.Nat.{ℕ, _<_, _≤_}
 use native.Mathlib.Omega.{arith}
 use lib.Count.{ones}
@@ -9,6 +9,7 @@ use Rattle.layout.specs.Layout.{deskSize, seenSize, classesOf, AreBytes}
 use Rattle.layout.specs.Decoding.{view}
 use Rattle.layout.specs.Fit.{fits}
 use Rattle.fit.proofs.Fitting.{fit-encodes}
+use Rattle.fit.proofs.Crossed.{no-entries}
 use Rattle.search.specs.Rows.{Rows, Reached}
 use Rattle.successors.specs.Successors.{Successors}
 use Rattle.question.specs.Question.{Asked}
@@ -34,8 +35,8 @@ module _ (desk sheet seen : List ℕ) (class : ℕ) where
       → Successors desk sheet (classesOf desk) rows → Reached (classesOf desk) rows class word → count ≡ ones word
       → Asked desk sheet seen class 0 word count
   asked-answered word count rows small numbers f l s r e =
-      let v = view desk sheet seen in
-      let enc = fit-encodes desk sheet seen f small numbers in
+      let v = view desk sheet seen [] in
+      let enc = fit-encodes desk sheet seen [] f (no-entries desk) small numbers in
       let g : Rows (classesOf desk) (v .graph) rows =
       s .graph (classesOf desk) (v .is-closed) (v .cores) (v .graph .marks) (v .graph .locks) refl (enc .in-desk) (enc .in-sheet) in
       record {

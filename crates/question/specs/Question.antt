@@ -9,7 +9,7 @@ use Rattle.words.specs.Bits.{bit}
 use Rattle.rules.specs.StrongPath.{Reaches}
 use Rattle.rules.specs.Verdict.{unfit, noClass, refusalNumber}
 use Rattle.layout.specs.Layout.{classesOf}
-use Rattle.layout.specs.Decoding.{view}
+use Rattle.layout.specs.Decoding.{viewGraph}
 use Rattle.layout.specs.Fit.{fits}
 
 -- The question. "Refused with 11, then 4; word and count are then 0"; "Answered, its number is 0": the word has bit t when and only when
@@ -19,5 +19,5 @@ pub record Asked (desk sheet seen : List ℕ) (class answer word count : ℕ) : 
   pub no-class : fits desk sheet seen ≡ true → classesOf desk ≤ class → (answer ≡ refusalNumber noClass) × (word ≡ 0) × (count ≡ 0)
   pub answered : fits desk sheet seen ≡ true → class < classesOf desk
       → (answer ≡ 0)
-      × ((t : ℕ) → (bit word t ≡ 1) ↔ Reaches (classesOf desk) (view desk sheet seen .graph) class t)
+      × ((t : ℕ) → (bit word t ≡ 1) ↔ Reaches (classesOf desk) (viewGraph desk sheet) class t)
       × (count ≡ ones word)

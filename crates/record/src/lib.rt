@@ -14,22 +14,28 @@ pub const CLASS_AT: usize = 4;
 
 pub const MODE_AT: usize = 5;
 
-// Kinds: an acquire, a release, and from FIRST_EVENT on the interrupt events.
+// Kinds: an acquire, a release, from FIRST_EVENT on the interrupt events, and behind them the three of crosslocks.
 pub const ACQUIRE: u8 = 0;
 
 pub const RELEASE: u8 = 1;
 
 pub const FIRST_EVENT: u8 = 2;
 
-pub const RECORD_KINDS: u8 = 10;
+pub const CROSS_ACQUIRE: u8 = 10;
+
+pub const COMMIT: u8 = 11;
+
+pub const CROSS_RELEASE: u8 = 12;
+
+pub const RECORD_KINDS: u8 = 13;
 
 const MOST_CORES: u8 = CORES as u8;
 
-// A byte that should be 0 is not: class or mode of an interrupt event. No branch: kinds come in any order.
+// A byte that should be 0 is not: the class of an interrupt event, or the mode of that or of a crosslock's kind. No branch: kinds come in any order.
 fn stray_byte(kind: u8, class: u8, mode: u8) -> bool
     ensures { λ r. ⌜ r ≡ strayByte kind class mode ⌝ }
 {
-    (FIRST_EVENT <= kind) & ((class != 0) | (mode != 0))
+    (FIRST_EVENT <= kind) & (((kind < CROSS_ACQUIRE) & (class != 0)) | (mode != 0))
 }
 
 // The conditions of refusal 3.

@@ -6,6 +6,7 @@ use files::SEEN_SIZE;
 use files::SHEET_SIZE;
 use files::SLIP_SIZE;
 use layout::DESK_SIZE;
+use layout::HISTORY_SIZE;
 use libc::STDIN_FILENO;
 use log::TEXT_SIZE;
 use progress::FEED_SIZE;
@@ -30,14 +31,15 @@ fn text_of_input(
     desk: &mut [u8],
     sheet: &mut [u8],
     seen: &mut [u8],
+    history: &mut [u8],
     slip: &mut [u8],
     buf: &mut [u8],
     out: &mut [u8],
 ) -> Text
     requires { ⌜ (feedSize ≤ length (now feed)) × (slipSize maxClasses ≤ length (now slip)) × (lineSize + cycleSize ≤ length (now out)) ⌝ }
-    ensures { λ r. ⌜ TextOfInput (buffers (now (desk .entry)) (now (sheet .entry)) (now (seen .entry)) (now (slip .entry))) (now (out .entry)) (r .answer) (now (out .exit)) (r .size) (buffers (now (desk .exit)) (now (sheet .exit)) (now (seen .exit)) (now (slip .exit))) ⌝ }
+    ensures { λ r. ⌜ TextOfInput (buffers (now (desk .entry)) (now (sheet .entry)) (now (seen .entry)) (now (history .entry)) (now (slip .entry))) (now (out .entry)) (r .answer) (now (out .exit)) (r .size) (buffers (now (desk .exit)) (now (sheet .exit)) (now (seen .exit)) (now (history .exit)) (now (slip .exit))) ⌝ }
 {
-    let outcome = files::replay(STDIN_FILENO, feed, desk, sheet, seen, slip, buf);
+    let outcome = files::replay(STDIN_FILENO, feed, desk, sheet, seen, history, slip, buf);
     let size = log::put_text(out, 0, outcome, slip);
     Text {
         answer: outcome::is_answer(outcome),
@@ -50,6 +52,7 @@ fn main() {
     let mut desk = [0u8; DESK_SIZE];
     let mut sheet = [0u8; SHEET_SIZE];
     let mut seen = [0u8; SEEN_SIZE];
+    let mut history = [0u8; HISTORY_SIZE];
     let mut slip = [0u8; SLIP_SIZE];
     let mut buf = [0u8; BUF_SIZE];
     let mut out = [0u8; TEXT_SIZE];
@@ -58,6 +61,7 @@ fn main() {
         &mut desk,
         &mut sheet,
         &mut seen,
+        &mut history,
         &mut slip,
         &mut buf,
         &mut out,

@@ -13,7 +13,7 @@ use Rattle.rules.specs.Cycle.{Entry, entryBytes, entryAt, following}
 use Rattle.rules.specs.KindNames.{SN}
 use Rattle.rules.specs.Ranks.{kindOfByte, kindAt}
 use Rattle.rules.proofs.Closure.{length-tabulate, getD-tabulate}
-use Rattle.layout.specs.Number.{bytesOf}
+use Rattle.rules.specs.Number.{bytesOf}
 use Rattle.layout.specs.Layout.{numberSize, entriesAt, entryNumberAt, entrySize, numberOf, KeepsPast}
 use Rattle.layout.specs.Decoding.{numberBy, entrySeen}
 use Rattle.layout.specs.Slip.{nextPlace}

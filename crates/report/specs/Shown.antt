@@ -3,7 +3,7 @@ use mathlib.Core.Path.{_≡_}
 use mathlib.Core.List.{List, [], _∷_, _++_}
 use Prim.Native.Nat.{ℕ, _+_, _*_, _<_, _≤_}
 use lib.ListN.{length, getD}
-use Rattle.layout.specs.Number.{bytesOf}
+use Rattle.rules.specs.Number.{bytesOf}
 use Rattle.layout.specs.Layout.{numberSize, slipSize, entriesAt, entrySize, numberOf, KeepsPast}
 use Rattle.layout.specs.Decoding.{SlipBytes}
 use Rattle.shortest.specs.Shortest.{foundEntries}

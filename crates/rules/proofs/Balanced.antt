@@ -8,7 +8,7 @@ use Prim.Native.Nat.{ℕ, _+_}
 use native.Mathlib.Omega.{arith}
 use lib.Dec.{eqb}
 use borrow.Author.Tests.{eqb-true, not-false}
-use Rattle.rules.specs.Record.{Bytes, Event, acquire, release, interrupt, coreOf, eventOf}
+use Rattle.rules.specs.Record.{Bytes, Event, acquire, release, interrupt, crossAcquire, commit, crossRelease, coreOf, eventOf}
 use Rattle.rules.specs.Context.{Frame, frameOf}
 use Rattle.rules.specs.HeldLocks.{HeldLock, isHeld, newestIs, releaseNewest, Core, current, afterEvent}
 use Rattle.rules.specs.Verdict.{notHeld, refusal, releaseMissing}
@@ -62,6 +62,9 @@ core-balance : (c : ℕ) (f : Frame) (core : Core) (ev : Event) → releaseMissi
     → standing c (afterEvent ev core .held f) + countIf (eqb f (frameOf (core .state)) && releases c ev) 0
     ≡ standing c (core .held f) + countIf (eqb f (frameOf (core .state)) && acquires c ev) 0
 core-balance c f core (interrupt e) m = refl
+core-balance c f core (crossAcquire x) m = refl
+core-balance c f core (commit x) m = refl
+core-balance c f core (crossRelease x) m = refl
 core-balance c f core (acquire x mode) m = by (eqb f (frameOf (core .state))) refl
   where
     by : (b : Bool) → eqb f (frameOf (core .state)) ≡ b

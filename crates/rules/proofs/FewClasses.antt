@@ -1,22 +1,24 @@
--- A log that names few classes is answered alike at as many classes as it names: for the tables of examples. Assumes nothing.
+-- A log that names few classes, none of them a crosslock, is answered alike at as many classes as it names: for the tables of examples. Assumes nothing.
 use mathlib.Core.Path.{_≡_, refl, sym, ap, _∙_}
 use mathlib.Core.Bool.{Bool, true, false, cond, not, _&&_, _||_, false≢true}
 use mathlib.Core.List.{List, [], _∷_, _++_}
 use mathlib.Core.Logic.{_⊎_, inl, inr, ⊎-elim}
 use mathlib.Core.Option.{Option, none, some}
-use Prim.Native.Nat.{ℕ, zero, suc, _≤_, _<_, max}
+use Prim.Native.Nat.{ℕ, zero, suc, _-_, _≤_, _<_, max}
 use native.Mathlib.Decide.{decLt}
 use native.Mathlib.Omega.{arith}
 use lib.Dec.{leb, ltb, eqb}
 use borrow.Author.Tests.{ltb-true, leb-true, leb-false, eqb-true, lt-ltb, le-leb, lt-leb}
-use Rattle.rules.specs.Record.{Bytes, Event, acquire, release, interrupt, eventBy, coreOf, kindOf, classOf, modeOf, eventOf}
+use Rattle.rules.specs.Limits.{interruptKinds}
+use Rattle.rules.specs.Record.{Bytes, Event, acquire, release, interrupt, crossAcquire, commit, crossRelease, crossEventBy, eventBy, coreOf, kindOf, classOf, modeOf, eventOf}
 use Rattle.rules.specs.Context.{Frame, frameOf}
 use Rattle.rules.specs.HeldLocks.{sameFirst, sameSecond, HeldLock, isTry, firstOf, secondBy, someHeld, isHeld, releaseNewest, Core, current, afterEvent}
 use Rattle.rules.specs.Marks.{Level, hardIrq, softIrq, Usage, safe, unsafe, setIn, letterFits, marksOf}
-use Rattle.rules.specs.Graph.{Kind, Graph, drawnBy, lock, irq, Source, dependencyBy, dependency}
+use Rattle.rules.specs.Graph.{Kind, Graph, lock, irq, Source, dependencyBy, dependency}
+use Rattle.rules.specs.Crosslocks.{Crosslocks, drawnOn, afterCross}
 use Rattle.rules.specs.StrongPath.{Dependency, StrongPath, one, more, ClosedStrongPath}
 use Rattle.rules.specs.Decision.{cyclic}
-use Rattle.rules.specs.Verdict.{Refusal, closed, malformed, noClass, noTransition, stillHeld, notHeld, tooDeep, countFull, refused, number, classMissing, applies, refusal}
+use Rattle.rules.specs.Verdict.{Refusal, closed, malformed, noClass, wrongSort, noTransition, stillHeld, notHeld, tooDeep, inProgress, notInProgress, listFull, historyFull, countFull, refused, number, classMissing, sortWrong, applies, refusal}
 use Rattle.rules.specs.Run.{State, start, situation, accept, close, Result, decided, settled, step, answers}
 use Rattle.rules.proofs.Booleans.{or-cases, or-right, and-cases, and-both}
 use Rattle.rules.proofs.Decided.{cyclic-sound, cyclic-complete}
@@ -40,13 +42,15 @@ record Below (n : ℕ) (s : State) : Type 0 where
   held : (i : ℕ) (f : Frame) → HeldBelow n (s .cores i .held f)
   locks : (f t : ℕ) (k : Kind) → s .graph .locks f t k ≡ true → (f < n) × (t < n)
   marks : (c : ℕ) (l : Level) (u : Usage) → s .graph .marks c l u ≡ true → c < n
+  undeclared : (c : ℕ) → s .cross .declared c ≡ false
 
-start-below : (n : ℕ) → Below n start
+start-below : (n : ℕ) → Below n (start (λ c. false))
 start-below n =
     record {
       held = λ i f. record { below = λ c test h. absurd (false≢true h) };
       locks = λ f t k h. absurd (false≢true h);
       marks = λ c l u h. absurd (false≢true h);
+      undeclared = λ c. refl;
     }
 
 -- ---- One accepted record.
@@ -72,11 +76,14 @@ release-some d c test (y ∷ hs) e = by (isHeld d hs) (eqb d (y .class)) (releas
     by false true ih h = or-right (eqb c (y .class) && test y) h
     by false false ih h = h
 
--- The class that an acquire names is below n.
+-- The class that an acquire names is below n, and the event is none of a crosslock.
 abbrev Names : ℕ → Event → Type 0
 Names n (acquire c m) = c < n
 Names n (release c m) = Unit {0}
 Names n (interrupt e) = Unit {0}
+Names n (crossAcquire c) = ⊥
+Names n (commit c) = ⊥
+Names n (crossRelease c) = ⊥
 
 module _ (n : ℕ) (core : Core) (b : (f : Frame) → HeldBelow n (core .held f)) where
   after-below : (ev : Event) → Names n ev → (f : Frame) → HeldBelow n (afterEvent ev core .held f)
@@ -96,15 +103,30 @@ module _ (n : ℕ) (core : Core) (b : (f : Frame) → HeldBelow n (core .held f)
       by true = record { below = λ x test h. b (frameOf (core .state)) .below x test (release-some c x test (current core) h) }
       by false = b f
   after-below (interrupt e) l f = b f
+  after-below (crossAcquire c) l f = absurd l
+  after-below (commit c) l f = absurd l
+  after-below (crossRelease c) l f = absurd l
 
-  drawn-below : (ev : Event) → Names n ev → (f t : ℕ) (k : Kind) → drawnBy ev core f t k ≡ true → (f < n) × (t < n)
-  drawn-below (acquire c m) l f t k h =
+  drawn-below : (ev : Event) (i : ℕ) (x : Crosslocks) → Names n ev → (f t : ℕ) (k : Kind) → drawnOn ev i core x f t k ≡ true → (f < n) × (t < n)
+  drawn-below (acquire c m) i x l f t k h =
       let held : HeldLock → Bool = λ x. sameFirst (k .first) (firstOf x) in
       let p = and-cases (eqb t c && sameSecond (k .second) (secondBy m)) (someHeld f held (current core)) (and-cases (not (isTry m)) _ h .1) in
       let q = and-cases (eqb t c) (sameSecond (k .second) (secondBy m)) (p .0) in
       (b (frameOf (core .state)) .below f held (p .1), let e = eqb-true t c (q .0) in omega arith)
-  drawn-below (release c m) l f t k h = absurd (false≢true h)
-  drawn-below (interrupt e) l f t k h = absurd (false≢true h)
+  drawn-below (release c m) i x l f t k h = absurd (false≢true h)
+  drawn-below (interrupt e) i x l f t k h = absurd (false≢true h)
+  drawn-below (crossAcquire c) i x l f t k h = absurd l
+  drawn-below (commit c) i x l f t k h = absurd l
+  drawn-below (crossRelease c) i x l f t k h = absurd l
+
+-- No record changes the declarations.
+same-declared : (ev : Event) (i : ℕ) (core : Core) (x : Crosslocks) → afterCross ev i core x .declared ≡ x .declared
+same-declared (acquire c m) i core x = refl
+same-declared (release c m) i core x = refl
+same-declared (interrupt e) i core x = refl
+same-declared (crossAcquire c) i core x = refl
+same-declared (commit c) i core x = refl
+same-declared (crossRelease c) i core x = refl
 
 accept-below : (n : ℕ) (s : State) (r : Bytes) → Names n (eventOf r) → Below n s → Below n (accept s r)
 accept-below n s r l b =
@@ -112,11 +134,12 @@ accept-below n s r l b =
     let after = after-below n core (b .held (coreOf r)) (eventOf r) l in
     record {
       held = λ i f. by (eqb i (coreOf r)) i f;
-      locks = λ f t k h. ⊎-elim (b .locks f t k) (drawn-below n core (b .held (coreOf r)) (eventOf r) l f t k) (or-cases (s .graph .locks f t k) _ h);
+      locks = λ f t k h. ⊎-elim (b .locks f t k) (drawn-below n core (b .held (coreOf r)) (eventOf r) (coreOf r) (s .cross) l f t k) (or-cases (s .graph .locks f t k) _ h);
       marks = λ c x u h.
           ⊎-elim (b .marks c x u)
           (λ z. after (frameOf (afterEvent (eventOf r) core .state)) .below c (letterFits u) (and-cases (setIn x u (afterEvent (eventOf r) core .state)) _ z .1))
           (or-cases (s .graph .marks c x u) _ h);
+      undeclared = λ c. ap (λ (d : ℕ → Bool). d c) (same-declared (eventOf r) (coreOf r) core (s .cross)) ∙ b .undeclared c;
     }
   where
     by : (t : Bool) (i : ℕ) (f : Frame) → HeldBelow n (cond t (afterEvent (eventOf r) (s .cores (coreOf r))) (s .cores i) .held f)
@@ -193,7 +216,13 @@ same-missing n K r few h = by (kindOf r) (modeOf r)
     by : (k m : ℕ) → classMissing K (eventBy k (classOf r) m) ≡ classMissing n (eventBy k (classOf r) m)
     by zero m = same
     by (suc zero) m = same
-    by (suc (suc k)) m = refl
+    by (suc (suc k)) m = later (ltb k interruptKinds) (k - interruptKinds)
+      where
+        later : (b : Bool) (j : ℕ) → classMissing K (cond b (interrupt k) (crossEventBy j (classOf r))) ≡ classMissing n (cond b (interrupt k) (crossEventBy j (classOf r)))
+        later true j = refl
+        later false zero = same
+        later false (suc zero) = same
+        later false (suc (suc j)) = same
 
 same-refusal : (n K : ℕ) (s : State) (r : Bytes) → n ≤ K → (ltb (classOf r) n || leb K (classOf r)) ≡ true
     → refusal (situation K s r) ≡ refusal (situation n s r)
@@ -204,21 +233,33 @@ same-refusal n K s r few h =
         | closed ↦ λ z. refl
         | malformed ↦ λ z. refl
         | noClass ↦ λ z. sym (same-missing n K r few h)
+        | wrongSort ↦ λ z. refl
         | noTransition ↦ λ z. refl
         | stillHeld ↦ λ z. refl
         | notHeld ↦ λ z. refl
         | tooDeep ↦ λ z. refl
+        | inProgress ↦ λ z. refl
+        | notInProgress ↦ λ z. refl
+        | listFull ↦ λ z. refl
+        | historyFull ↦ λ z. refl
         | countFull ↦ λ z. refl
       ];
       fuller = λ x z. absurd (false≢true z);
     })
     (λ y z. absurd (false≢true z))
 
+undeclared-not : (b : Bool) → b ≡ false → not b ≡ false → ⊥
+undeclared-not true e z = false≢true (sym e)
+undeclared-not false e z = false≢true (sym z)
+
 -- An accepted record's class is below n.
-named-below : (n : ℕ) (k c m : ℕ) → classMissing n (eventBy k c m) ≡ false → Names n (eventBy k c m)
-named-below n zero c m h = leb-false n c h
-named-below n (suc zero) c m h = tt
-named-below n (suc (suc k)) c m h = tt
+named-below : (n : ℕ) (d : ℕ → Bool) (ev : Event) → ((c : ℕ) → d c ≡ false) → classMissing n ev ≡ false → sortWrong d ev ≡ false → Names n ev
+named-below n d (acquire c m) u h z = leb-false n c h
+named-below n d (release c m) u h z = tt
+named-below n d (interrupt e) u h z = tt
+named-below n d (crossAcquire c) u h z = undeclared-not (d c) (u c) z
+named-below n d (commit c) u h z = undeclared-not (d c) (u c) z
+named-below n d (crossRelease c) u h z = undeclared-not (d c) (u c) z
 
 -- ---- The answers.
 
@@ -236,7 +277,9 @@ same-step n K s r few h b = by (step n s r) (stepped n s r) (step K s r) (steppe
     e = same-refusal n K s r few h
 
     after : refusal (situation n s r) ≡ none → Below n (accept s r)
-    after z = accept-below n s r (named-below n (kindOf r) (classOf r) (modeOf r) (accepted-passes (situation n s r) noClass z)) b
+    after z =
+        accept-below n s r
+        (named-below n (s .cross .declared) (eventOf r) (b .undeclared) (accepted-passes (situation n s r) noClass z) (accepted-passes (situation n s r) wrongSort z)) b
 
     by : (o : Result) → StepCases n s r o → (p : Result) → StepCases K s r p → (p ≡ o) × Below n (o .state)
     by o (was-refused x q) p (was-refused y z) = (ap (λ (w : Refusal). record { answer = refused w; state = s }) (some-same (sym z ∙ e ∙ q)), b)
@@ -247,7 +290,7 @@ same-step n K s r few h b = by (step n s r) (stepped n s r) (step K s r) (steppe
     by o (was-clean q c) p (was-fault y z) = absurd (false≢true (sym c ∙ sym (same-cyclic n K few (accept s r) (after q)) ∙ z))
     by o (was-fault q c) p (was-refused y z) = absurd (none-some (sym q ∙ sym e ∙ z))
     by o (was-fault q c) p (was-clean y z) = absurd (false≢true (sym z ∙ same-cyclic n K few (accept s r) (after q) ∙ c))
-    by o (was-fault q c) p (was-fault y z) = (refl, let w = after q in record { held = w .held; locks = w .locks; marks = w .marks })
+    by o (was-fault q c) p (was-fault y z) = (refl, let w = after q in record { held = w .held; locks = w .locks; marks = w .marks; undeclared = w .undeclared })
 
 named-few : (n K : ℕ) (rs : List Bytes) → allNamed n K rs ≡ true → n ≤ K
 named-few n K [] h = leb-true n K h
@@ -261,5 +304,5 @@ same-answers n K s (r ∷ rs) h b =
     ap (λ (o : Result). number (o .answer) ∷ answers K (o .state) rs) (q .0)
     ∙ ap (λ (l : List ℕ). number (step n s r .answer) ∷ l) (same-answers n K (step n s r .state) rs (p .1) (q .1))
 
-pub few-answers : (n K : ℕ) (rs : List Bytes) → allNamed n K rs ≡ true → answers K start rs ≡ answers n start rs
-few-answers n K rs h = same-answers n K start rs h (start-below n)
+pub few-answers : (n K : ℕ) (rs : List Bytes) → allNamed n K rs ≡ true → answers K (start (λ c. false)) rs ≡ answers n (start (λ c. false)) rs
+few-answers n K rs h = same-answers n K (start (λ c. false)) rs h (start-below n)

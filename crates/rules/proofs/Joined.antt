@@ -7,6 +7,7 @@ use Prim.Native.Nat.{ℕ}
 use native.Mathlib.Omega.{arith}
 use Rattle.rules.specs.HeldLocks.{freshCore}
 use Rattle.rules.specs.Graph.{Graph}
+use Rattle.rules.specs.Crosslocks.{declaring}
 use Rattle.rules.specs.StrongPath.{ClosedStrongPath}
 use Rattle.rules.specs.Decision.{cyclic}
 use Rattle.rules.specs.Verdict.{number}
@@ -47,16 +48,19 @@ pub record SameButNumbers (o p : Result) : Type 0 where
   pub is-closed : o .state .is-closed ≡ p .state .is-closed
   pub cores : o .state .cores ≡ p .state .cores
   pub graph : o .state .graph ≡ p .state .graph
+  pub cross : o .state .cross ≡ p .state .cross
   pub accepted : o .state .journal .accepted ≡ p .state .journal .accepted
 
-pub join-either-way : (K : ℕ) (s t : State) → SameButNumbers (join K s t) (join K t s)
-join-either-way K s t =
+pub join-either-way : (K : ℕ) (s t : State) → s .cross .declared ≡ t .cross .declared → SameButNumbers (join K s t) (join K t s)
+join-either-way K s t same =
     by (cyclic K (joinedGraph (s .graph) (t .graph))) (cyclic K (joinedGraph (t .graph) (s .graph)))
     (ap (cyclic K) (joined-either-way (s .graph) (t .graph)))
   where
     by : (b c : Bool) → b ≡ c → SameButNumbers (decided b (joinedState s t)) (decided c (joinedState t s))
-    by true true e = record { answer = refl; is-closed = refl; cores = refl; graph = joined-either-way (s .graph) (t .graph); accepted = refl }
-    by false false e = record { answer = refl; is-closed = refl; cores = refl; graph = joined-either-way (s .graph) (t .graph); accepted = refl }
+    by true true e =
+        record { answer = refl; is-closed = refl; cores = refl; graph = joined-either-way (s .graph) (t .graph); cross = ap declaring same; accepted = refl }
+    by false false e =
+        record { answer = refl; is-closed = refl; cores = refl; graph = joined-either-way (s .graph) (t .graph); cross = ap declaring same; accepted = refl }
     by true false e = absurd (false≢true (sym e))
     by false true e = absurd (false≢true e)
 
@@ -74,6 +78,7 @@ join-exactly K s t = (
 -- The joined state, closed or not: its graph, and that no record is counted and every core is fresh.
 pub record JoinedAs (s t : State) (o : Result) : Type 0 where
   pub graph : o .state .graph ≡ joinedGraph (s .graph) (t .graph)
+  pub cross : o .state .cross ≡ declaring (s .cross .declared)
   pub uncounted : o .state .journal .accepted ≡ 0
   pub cores : (i : ℕ) → o .state .cores i ≡ freshCore
 
@@ -81,5 +86,5 @@ pub joined-as : (K : ℕ) (s t : State) → JoinedAs s t (join K s t)
 joined-as K s t = by (cyclic K (joinedGraph (s .graph) (t .graph)))
   where
     by : (b : Bool) → JoinedAs s t (decided b (joinedState s t))
-    by true = record { graph = refl; uncounted = refl; cores = λ i. refl }
-    by false = record { graph = refl; uncounted = refl; cores = λ i. refl }
+    by true = record { graph = refl; cross = refl; uncounted = refl; cores = λ i. refl }
+    by false = record { graph = refl; cross = refl; uncounted = refl; cores = λ i. refl }

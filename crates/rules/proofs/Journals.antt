@@ -27,7 +27,7 @@ run-journal K s (r ∷ rs) = by (step K s r) (stepped K s r) (run-journal K (ste
   where
     by : (o : Result) → StepCases K s r o → run K (o .state) rs .journal ≡ withRecords (o .state .journal) (drawings K (o .state) rs)
         → run K (o .state) rs .journal
-        ≡ withRecords (s .journal) (cond (isAccepted (o .answer)) (drawnWith (s .cores (coreOf r)) r ∷ drawings K (o .state) rs) (drawings K (o .state) rs))
+        ≡ withRecords (s .journal) (cond (isAccepted (o .answer)) (drawnWith (s .cores (coreOf r)) (s .cross) r ∷ drawings K (o .state) rs) (drawings K (o .state) rs))
     by o (was-refused x e) h = h
     by o (was-clean e c) h = h
     by o (was-fault e c) h = h

@@ -4,6 +4,7 @@ pub mod Closure
 pub mod Decided
 pub mod Monotone
 pub mod Steps
+pub mod Histories
 pub mod MoreEvidence
 pub mod Joined
 pub mod Balanced
@@ -18,3 +19,7 @@ pub mod LeastCycles
 pub mod Quick
 pub mod FewClasses
 pub mod Examples
+pub mod CrossExamples
+pub mod Visits
+pub mod FullHistory
+pub mod CrossLimits

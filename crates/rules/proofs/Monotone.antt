@@ -21,10 +21,11 @@ within-self g = record { locks = λ f t k h. h; marks = λ c l u h. h }
 pub within-more : {g g′ : Graph} (d : Dependencies) (m : Marks) → Within g g′ → Within g (addTo g′ d m)
 within-more d m w = record { locks = λ f t k h. or-left _ (w .locks f t k h); marks = λ c l u h. or-left _ (w .marks c l u h) }
 
-pub within-both : {g g′ : Graph} (d : Dependencies) (m : Marks) → Within g g′ → Within (addTo g d m) (addTo g′ d m)
-within-both {g} d m w =
+pub within-both : {g g′ : Graph} (d d′ : Dependencies) (m : Marks) → ((f t : ℕ) (k : Kind) → d f t k ≡ true → d′ f t k ≡ true) → Within g g′
+    → Within (addTo g d m) (addTo g′ d′ m)
+within-both {g} d d′ m covers w =
     record {
-      locks = λ f t k. or-mono (g .locks f t k) (d f t k) (w .locks f t k) (λ h. h);
+      locks = λ f t k. or-mono (g .locks f t k) (d f t k) (w .locks f t k) (covers f t k);
       marks = λ c l u. or-mono (g .marks c l u) (m c l u) (w .marks c l u) (λ h. h);
     }
 

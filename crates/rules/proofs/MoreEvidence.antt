@@ -1,54 +1,110 @@
 -- Demand 3: more evidence never clears a fault. While the second run is open, the named cores are equal in both runs and the first run's graph
--- lies within the second's, which has accepted no fewer records; once it is closed, "a fault at or before" is all that is claimed. Assumes nothing.
+-- lies within the second's, which has accepted and kept no fewer records; once it is closed, "a fault at or before" is all that is claimed. Assumes nothing.
 use mathlib.Core.Path.{_≡_, refl, sym, _∙_, ap, subst}
-use mathlib.Core.Bool.{Bool, true, false, cond, false≢true}
+use mathlib.Core.Bool.{Bool, true, false, cond, not, _||_, false≢true}
 use mathlib.Core.List.{List, [], _∷_, List·Memᴰ, List·Memᴰ·head, List·Memᴰ·tail}
 use mathlib.Core.Option.{Option, none, some}
-use mathlib.Core.Logic.{_⊎_, inl, inr}
+use mathlib.Core.Logic.{_⊎_, inl, inr, ⊎-elim}
 use Prim.Native.Nat.{ℕ, zero, suc, _<_, _≤_, zero-le, suc-le-suc}
 use native.Mathlib.Nat.{le-of-suc-le-suc, not-suc-le-zero, le-refl}
 use native.Mathlib.Omega.{arith}
 use lib.Dec.{leb, eqb}
 use lib.ListN.{length, getD, getD-replicate}
-use borrow.Author.Tests.{ne-eqb, leb-true, le-leb}
-use Rattle.rules.specs.Limits.{maxAccepted}
-use Rattle.rules.specs.Record.{Bytes, coreOf, eventOf, isMalformed, Names}
-use Rattle.rules.specs.HeldLocks.{Core, afterEvent}
+use borrow.Author.Tests.{ne-eqb, leb-true, leb-false, le-leb, not-false}
+use Rattle.rules.specs.Limits.{maxClasses, maxAccepted, maxInProgress, maxKept}
+use Rattle.rules.specs.Record.{Bytes, Event, acquire, release, interrupt, crossAcquire, commit, crossRelease, coreOf, eventOf, isCross, isMalformed, Names}
+use Rattle.rules.specs.Context.{frameOf}
+use Rattle.rules.specs.HeldLocks.{isTry, Core, afterEvent}
+use Rattle.rules.specs.Graph.{Kind}
+use Rattle.rules.specs.Crosslocks.{Crosslocks, sizeOf, isIdle, isKept, drawnOn}
 use Rattle.rules.specs.Decision.{cyclic}
-use Rattle.rules.specs.Verdict.{Refusal, closed, malformed, noClass, noTransition, stillHeld, notHeld, tooDeep, countFull, number, applies, refusal}
+use Rattle.rules.specs.Verdict.{Refusal, closed, malformed, noClass, wrongSort, noTransition, stillHeld, notHeld, tooDeep, inProgress, notInProgress, listFull, historyFull, countFull, number, classMissing, sortWrong, alreadyTaken, notTaken, noPlace, noRoom, applies, refusal}
 use Rattle.rules.specs.Run.{State, situation, acceptOn, accept, Result, decided, settled, step, answers, graphAt}
 use Rattle.rules.specs.TwoRuns.{NamedIn, Foreign, Interleaved, done, keep, insert, place, Never, FaultBy, MoreEvidence}
 use Rattle.rules.proofs.Decided.{cyclic-sound}
 use Rattle.rules.proofs.Monotone.{Within, within-self, within-more, within-both, cyclic-mono}
-use Rattle.rules.proofs.Steps.{closed-answers, closed-no-fault, shut-after, fault-cycle, Alike, refused-alike}
+use Rattle.rules.proofs.Histories.{Covered, CrossAlong, both-cross, aside-cross, commit-mono}
+use Rattle.rules.proofs.Booleans.{and-mono}
+use Rattle.rules.proofs.Steps.{closed-answers, closed-no-fault, shut-after, fault-cycle, accepted-passes, Alike, refused-alike}
 
 names-its-core : (r : Bytes) → isMalformed r ≡ false → Names r (coreOf r)
 names-its-core r h = record { formed = h; is-core = refl }
 
--- ---- The limit: how many records may be accepted.
+-- ---- The limits: how many acquires are kept, and how many records may be accepted.
 
 abbrev isLimit : Refusal → Bool
 isLimit closed = false
 isLimit malformed = false
 isLimit noClass = false
+isLimit wrongSort = false
 isLimit noTransition = false
 isLimit stillHeld = false
 isLimit notHeld = false
 isLimit tooDeep = false
+isLimit inProgress = false
+isLimit notInProgress = false
+isLimit listFull = false
+isLimit historyFull = true
 isLimit countFull = true
 
-limit-is : (x : Refusal) → isLimit x ≡ true → x ≡ countFull
+limit-is : (x : Refusal) → isLimit x ≡ true → (x ≡ historyFull) ⊎ (x ≡ countFull)
 limit-is closed h = absurd (false≢true h)
 limit-is malformed h = absurd (false≢true h)
 limit-is noClass h = absurd (false≢true h)
+limit-is wrongSort h = absurd (false≢true h)
 limit-is noTransition h = absurd (false≢true h)
 limit-is stillHeld h = absurd (false≢true h)
 limit-is notHeld h = absurd (false≢true h)
 limit-is tooDeep h = absurd (false≢true h)
-limit-is countFull h = refl
+limit-is inProgress h = absurd (false≢true h)
+limit-is notInProgress h = absurd (false≢true h)
+limit-is listFull h = absurd (false≢true h)
+limit-is historyFull h = inl refl
+limit-is countFull h = inr refl
 
-module _ (K : ℕ) (s₁ s₂ : State) (r : Bytes) (q : s₁ .cores (coreOf r) ≡ s₂ .cores (coreOf r))
-    (o : s₁ .is-closed ≡ s₂ .is-closed) (fewer : s₁ .journal .accepted ≤ s₂ .journal .accepted) where
+module _ (K : ℕ) {named : ℕ → Type 0} (s₁ s₂ : State) (r : Bytes) (q : s₁ .cores (coreOf r) ≡ s₂ .cores (coreOf r))
+    (o : s₁ .is-closed ≡ s₂ .is-closed) (x : CrossAlong named (s₁ .cross) (s₂ .cross)) (fewer : s₁ .journal .accepted ≤ s₂ .journal .accepted) where
+  same-sort : (ev : Event) → sortWrong (s₁ .cross .declared) ev ≡ sortWrong (s₂ .cross .declared) ev
+  same-sort ev = ap (λ (d : ℕ → Bool). sortWrong d ev) (x .declared)
+
+  -- A fact of the classes in progress.
+  same-set : {A : Type 0} (says : (ℕ → Bool) → A) → says (s₁ .cross .progress) ≡ says (s₂ .cross .progress)
+  same-set says = ap says (x .progress)
+
+  same-taken : (ev : Event) → alreadyTaken (s₁ .cross) ev ≡ alreadyTaken (s₂ .cross) ev
+  same-taken (acquire c m) = refl
+  same-taken (release c m) = refl
+  same-taken (interrupt e) = refl
+  same-taken (crossAcquire c) = same-set (λ p. p c)
+  same-taken (commit c) = refl
+  same-taken (crossRelease c) = refl
+
+  same-missing : (ev : Event) → notTaken (s₁ .cross) ev ≡ notTaken (s₂ .cross) ev
+  same-missing (acquire c m) = refl
+  same-missing (release c m) = refl
+  same-missing (interrupt e) = refl
+  same-missing (crossAcquire c) = refl
+  same-missing (commit c) = same-set (λ p. not (p c))
+  same-missing (crossRelease c) = same-set (λ p. not (p c))
+
+  same-place : (ev : Event) → noPlace (s₁ .cross) ev ≡ noPlace (s₂ .cross) ev
+  same-place (acquire c m) = refl
+  same-place (release c m) = refl
+  same-place (interrupt e) = refl
+  same-place (crossAcquire c) = same-set (λ p. leb maxInProgress (sizeOf p))
+  same-place (commit c) = refl
+  same-place (crossRelease c) = refl
+
+  less-room : (ev : Event) → noRoom (s₁ .cross) ev ≡ true → noRoom (s₂ .cross) ev ≡ true
+  less-room (acquire c m) =
+      and-mono (isKept (s₁ .cross) m) (leb maxKept (length (s₁ .cross .history))) (λ h. sym (same-set (λ p. not (isIdle p || isTry m))) ∙ h)
+      (λ h. let l = leb-true maxKept (length (s₁ .cross .history)) h in let k = x .shorter in le-leb maxKept (length (s₂ .cross .history)) (omega arith))
+  less-room (release c m) = λ h. h
+  less-room (interrupt e) = λ h. h
+  less-room (crossAcquire c) = λ h. h
+  less-room (commit c) = λ h. h
+  less-room (crossRelease c) = λ h. h
+
   more-accepted : leb maxAccepted (s₁ .journal .accepted) ≡ true → leb maxAccepted (s₂ .journal .accepted) ≡ true
   more-accepted h = let l = leb-true maxAccepted (s₁ .journal .accepted) h in le-leb maxAccepted (s₂ .journal .accepted) (omega arith)
 
@@ -59,26 +115,36 @@ module _ (K : ℕ) (s₁ s₂ : State) (r : Bytes) (q : s₁ .cores (coreOf r) �
           | closed ↦ λ n. o
           | malformed ↦ λ n. refl
           | noClass ↦ λ n. refl
+          | wrongSort ↦ λ n. same-sort (eventOf r)
           | noTransition ↦ λ n. rw q
           | stillHeld ↦ λ n. rw q
           | notHeld ↦ λ n. rw q
           | tooDeep ↦ λ n. rw q
+          | inProgress ↦ λ n. same-taken (eventOf r)
+          | notInProgress ↦ λ n. same-missing (eventOf r)
+          | listFull ↦ λ n. same-place (eventOf r)
+          | historyFull ↦ λ n. absurd (false≢true (sym n))
           | countFull ↦ λ n. absurd (false≢true (sym n))
         ];
         fuller = λ x n.
-            subst (λ (y : Refusal). applies y (situation K s₁ r) ≡ true → applies y (situation K s₂ r) ≡ true) (sym (limit-is x n)) more-accepted;
+            ⊎-elim (λ e. subst (λ (y : Refusal). applies y (situation K s₁ r) ≡ true → applies y (situation K s₂ r) ≡ true) (sym e) (less-room (eventOf r)))
+            (λ e. subst (λ (y : Refusal). applies y (situation K s₁ r) ≡ true → applies y (situation K s₂ r) ≡ true) (sym e) more-accepted) (limit-is x n);
       }
 
-  same-refusal : (number (step K s₂ r .answer) ≡ 9 → ⊥) → refusal (situation K s₂ r) ≡ refusal (situation K s₁ r)
-  same-refusal room =
-      refused-alike isLimit alike-here (λ y n h. let z : refusal (situation K s₂ r) ≡ some countFull = h ∙ ap some (limit-is y n) in room (rw z refl))
+  same-refusal : (number (step K s₂ r .answer) ≡ 19 → ⊥) → (number (step K s₂ r .answer) ≡ 9 → ⊥) → refusal (situation K s₂ r) ≡ refusal (situation K s₁ r)
+  same-refusal room over =
+      refused-alike isLimit alike-here
+      (λ y n h.
+      ⊎-elim (λ e. let z : refusal (situation K s₂ r) ≡ some historyFull = h ∙ ap some e in room (rw z refl))
+      (λ e. let z : refusal (situation K s₂ r) ≡ some countFull = h ∙ ap some e in over (rw z refl)) (limit-is y n))
 
-module _ (K : ℕ) (whole : List Bytes) where
+module _ (K : ℕ) (few : K ≤ maxClasses) (whole : List Bytes) where
   record Along (s₁ s₂ : State) : Type 0 where
     open₁ : s₁ .is-closed ≡ false
     open₂ : s₂ .is-closed ≡ false
     agree : (i : ℕ) → NamedIn whole i → s₁ .cores i ≡ s₂ .cores i
     within : Within (s₁ .graph) (s₂ .graph)
+    cross : CrossAlong (NamedIn whole) (s₁ .cross) (s₂ .cross)
     fewer : s₁ .journal .accepted ≤ s₂ .journal .accepted
 
   -- ---- A record of the first list, in both runs.
@@ -93,22 +159,37 @@ module _ (K : ℕ) (whole : List Bytes) where
   both-decided a true true m = faulted refl refl (inr refl)
   both-decided a true false m = absurd (false≢true (m refl))
 
-  both-accept : (core : Core) (r : Bytes) {s₁ s₂ : State} → Along s₁ s₂ → Along (acceptOn core s₁ r) (acceptOn core s₂ r)
-  both-accept core r a =
+  -- What an accepted event of a named core draws in the first run, it draws in the second.
+  drawn-both : (ev : Event) (i : ℕ) (core : Core) {x₁ x₂ : Crosslocks} → CrossAlong (NamedIn whole) x₁ x₂ → NamedIn whole i → classMissing K ev ≡ false → notTaken x₁ ev ≡ false
+      → (f t : ℕ) (k : Kind) → drawnOn ev i core x₁ f t k ≡ true → drawnOn ev i core x₂ f t k ≡ true
+  drawn-both (acquire c m) i core a n l p f t k h = h
+  drawn-both (release c m) i core a n l p f t k h = h
+  drawn-both (interrupt e) i core a n l p f t k h = h
+  drawn-both (crossAcquire c) i core a n l p f t k h = h
+  drawn-both (commit c) i core {x₁} a n l p f t k h =
+      let q = leb-false K c l in commit-mono (NamedIn whole) a c i (frameOf (core .state)) n (omega arith) (not-false (x₁ .progress c) p) f t k h
+  drawn-both (crossRelease c) i core a n l p f t k h = h
+
+  both-accept : (core : Core) (r : Bytes) {s₁ s₂ : State} → NamedIn whole (coreOf r) → classMissing K (eventOf r) ≡ false → notTaken (s₁ .cross) (eventOf r) ≡ false
+      → Along s₁ s₂ → Along (acceptOn core s₁ r) (acceptOn core s₂ r)
+  both-accept core r n l p a =
       record {
         open₁ = a .open₁;
         open₂ = a .open₂;
         agree = λ i n. ap (cond (eqb i (coreOf r)) (afterEvent (eventOf r) core)) (a .agree i n);
-        within = within-both _ _ (a .within);
+        within = within-both _ _ _ (drawn-both (eventOf r) (coreOf r) core (a .cross) n l p) (a .within);
+        cross = both-cross (NamedIn whole) (a .cross) (eventOf r) (coreOf r) core;
         fewer = suc-le-suc (a .fewer);
       }
 
-  both-settled : (r : Bytes) {s₁ s₂ : State} → Along s₁ s₂ → s₁ .cores (coreOf r) ≡ s₂ .cores (coreOf r) → (x : Option Refusal)
-      → Together (settled K s₁ r x) (settled K s₂ r x)
-  both-settled r a q (some x) = alike refl a
-  both-settled r {s₁} {s₂} a q none =
+  both-settled : (r : Bytes) {s₁ s₂ : State} → NamedIn whole (coreOf r) → Along s₁ s₂ → s₁ .cores (coreOf r) ≡ s₂ .cores (coreOf r) → (x : Option Refusal)
+      → refusal (situation K s₁ r) ≡ x → Together (settled K s₁ r x) (settled K s₂ r x)
+  both-settled r n a q (some x) e = alike refl a
+  both-settled r {s₁} {s₂} n a q none e =
+      let l = accepted-passes (situation K s₁ r) noClass e in
+      let p = accepted-passes (situation K s₁ r) notInProgress e in
       let t : Along (accept s₁ r) (accept s₂ r) =
-      subst (λ (c : Core). Along (accept s₁ r) (acceptOn c s₂ r)) q (both-accept (s₁ .cores (coreOf r)) r a) in
+      subst (λ (c : Core). Along (accept s₁ r) (acceptOn c s₂ r)) q (both-accept (s₁ .cores (coreOf r)) r n l p a) in
       both-decided t (cyclic K (accept s₁ r .graph)) (cyclic K (accept s₂ r .graph)) (cyclic-mono (t .within) K)
 
   -- A malformed record is refused with 3 whatever the cores are; any other names its core, which is the same in both runs.
@@ -116,16 +197,17 @@ module _ (K : ℕ) (whole : List Bytes) where
   unfolding refusal
   malformed-refused s r o h = rw (o, h)
 
-  both-step : (r : Bytes) {s₁ s₂ : State} → Along s₁ s₂ → List·Memᴰ r whole → (number (step K s₂ r .answer) ≡ 9 → ⊥)
-      → Together (step K s₁ r) (step K s₂ r)
-  both-step r {s₁} {s₂} a m room = by (isMalformed r) refl
+  both-step : (r : Bytes) {s₁ s₂ : State} → Along s₁ s₂ → List·Memᴰ r whole → (number (step K s₂ r .answer) ≡ 19 → ⊥)
+      → (number (step K s₂ r .answer) ≡ 9 → ⊥) → Together (step K s₁ r) (step K s₂ r)
+  both-step r {s₁} {s₂} a m room over = by (isMalformed r) refl
     where
       by : (b : Bool) → isMalformed r ≡ b → Together (step K s₁ r) (step K s₂ r)
       by true h = rw (malformed-refused s₁ r (a .open₁) h, malformed-refused s₂ r (a .open₂) h) (alike refl a)
       by false h =
-          let q = a .agree (coreOf r) (record { by = r; member = m; names = names-its-core r h }) in
-          let e = same-refusal K s₁ s₂ r q (a .open₁ ∙ sym (a .open₂)) (a .fewer) room in
-          rw e (both-settled r a q (refusal (situation K s₁ r)))
+          let n : NamedIn whole (coreOf r) = record { by = r; member = m; names = names-its-core r h } in
+          let q = a .agree (coreOf r) n in
+          let e = same-refusal K s₁ s₂ r q (a .open₁ ∙ sym (a .open₂)) (a .cross) (a .fewer) room over in
+          rw e (both-settled r n a q (refusal (situation K s₁ r)) refl)
 
   -- ---- A foreign record, in the second run only.
 
@@ -137,19 +219,21 @@ module _ (K : ℕ) (whole : List Bytes) where
   aside-decided a false = apart a
   aside-decided a true = faulted refl refl
 
-  aside-accept : (r : Bytes) {s₁ s₂ : State} → Along s₁ s₂ → (NamedIn whole (coreOf r) → ⊥) → Along s₁ (accept s₂ r)
-  aside-accept r {s₁} {s₂} a out =
+  aside-accept : (r : Bytes) {s₁ s₂ : State} → Along s₁ s₂ → (NamedIn whole (coreOf r) → ⊥) → isCross (eventOf r) ≡ false → Along s₁ (accept s₂ r)
+  aside-accept r {s₁} {s₂} a out o =
       record {
         open₁ = a .open₁;
         open₂ = a .open₂;
         agree = λ i n. rw (ne-eqb i (coreOf r) (λ q. out (rw q at n))) (a .agree i n);
         within = within-more _ _ (a .within);
+        cross = aside-cross (NamedIn whole) (a .cross) (eventOf r) (coreOf r) (s₂ .cores (coreOf r)) out o;
         fewer = let l = a .fewer in omega arith;
       }
 
-  aside-settled : (r : Bytes) {s₁ s₂ : State} → Along s₁ s₂ → (NamedIn whole (coreOf r) → ⊥) → (x : Option Refusal) → Aside s₁ (settled K s₂ r x)
-  aside-settled r a out (some x) = apart a
-  aside-settled r {s₂} a out none = aside-decided (aside-accept r a out) (cyclic K (accept s₂ r .graph))
+  aside-settled : (r : Bytes) {s₁ s₂ : State} → Along s₁ s₂ → (NamedIn whole (coreOf r) → ⊥) → isCross (eventOf r) ≡ false → (x : Option Refusal)
+      → Aside s₁ (settled K s₂ r x)
+  aside-settled r a out o (some x) = apart a
+  aside-settled r {s₂} a out o none = aside-decided (aside-accept r a out o) (cyclic K (accept s₂ r .graph))
 
   aside-step : (r : Bytes) {s₁ s₂ : State} → Along s₁ s₂ → Foreign whole r → Aside s₁ (step K s₂ r)
   aside-step r {s₁} {s₂} a f = by (isMalformed r) refl
@@ -157,7 +241,7 @@ module _ (K : ℕ) (whole : List Bytes) where
       by : (b : Bool) → isMalformed r ≡ b → Aside s₁ (step K s₂ r)
       by true h = rw (malformed-refused s₂ r (a .open₂) h) (apart a)
       by false h =
-          aside-settled r a (f .apart (coreOf r) (names-its-core r h)) (refusal (situation K s₂ r))
+          aside-settled r a (f .apart (coreOf r) (names-its-core r h)) (f .ordinary h) (refusal (situation K s₂ r))
 
   -- ---- The lists.
 
@@ -203,12 +287,13 @@ module _ (K : ℕ) (whole : List Bytes) where
   never-later n = record { never = λ i. n .never (suc i) }
 
   pairs : {xs ys : List Bytes} (e : Interleaved whole xs ys) → ((r : Bytes) → List·Memᴰ r xs → List·Memᴰ r whole) → (s₁ s₂ : State) → Along s₁ s₂
-      → Never 9 (answers K s₂ ys) → Pair e (answers K s₁ xs) (answers K s₂ ys)
-  pairs done sub s₁ s₂ a n = record { same = λ i l. absurd (not-suc-le-zero l); old = λ i l h. absurd (not-suc-le-zero l) }
-  pairs (keep {r} e) sub s₁ s₂ a n =
-      keep-pair r (both-step r a (sub r (List·Memᴰ·head refl)) (n .never 0))
-      (λ b. pairs e (λ x m. sub x (List·Memᴰ·tail m)) (step K s₁ r .state) (step K s₂ r .state) b (never-later n))
-  pairs (insert {r} f e) sub s₁ s₂ a n = insert-pair f (aside-step r a f) (λ b. pairs e sub s₁ (step K s₂ r .state) b (never-later n))
+      → Never 19 (answers K s₂ ys) → Never 9 (answers K s₂ ys) → Pair e (answers K s₁ xs) (answers K s₂ ys)
+  pairs done sub s₁ s₂ a m n = record { same = λ i l. absurd (not-suc-le-zero l); old = λ i l h. absurd (not-suc-le-zero l) }
+  pairs (keep {r} e) sub s₁ s₂ a m n =
+      keep-pair r (both-step r a (sub r (List·Memᴰ·head refl)) (m .never 0) (n .never 0))
+      (λ b. pairs e (λ x m. sub x (List·Memᴰ·tail m)) (step K s₁ r .state) (step K s₂ r .state) b (never-later m) (never-later n))
+  pairs (insert {r} f e) sub s₁ s₂ a m n =
+      insert-pair f (aside-step r a f) (λ b. pairs e sub s₁ (step K s₂ r .state) b (never-later m) (never-later n))
 
 fault-kept : {given : List ℕ} (n j : ℕ) → n ≡ 1 → (getD given j 0 ≡ n) ⊎ FaultBy given j → FaultBy given j
 fault-kept n j h (inl q) = record { at = j; by = le-refl j; is-fault = q ∙ h }
@@ -219,7 +304,7 @@ fault-kept n j h (inr f) = f
 -- A malformed record names no core, so it may be put in anywhere.
 pub malformed-foreign : (rs : List Bytes) (r : Bytes) → isMalformed r ≡ true → Foreign rs r
 malformed-foreign rs r h =
-    record { apart = λ core n m. false≢true (sym (n .formed) ∙ h) }
+    record { apart = λ core n m. false≢true (sym (n .formed) ∙ h); ordinary = λ w. absurd (false≢true (sym w ∙ h)) }
 
 -- `place` is where the first list's record stands: the same record, inside the second list, in the first list's order.
 pub place-same : {whole xs ys : List Bytes} (e : Interleaved whole xs ys) (i : ℕ) → i < length xs → getD ys (place e i) [] ≡ getD xs i []
@@ -241,12 +326,25 @@ place-order (keep e) zero (suc j) l = suc-le-suc zero-le
 place-order (keep e) (suc i) (suc j) l = suc-le-suc (place-order e i j (le-of-suc-le-suc l))
 place-order (insert f e) i j l = suc-le-suc (place-order e i j l)
 
+-- What is in progress was acquired when no more was kept than is now: at opening and after a join nothing is.
+pub record Started (x : Crosslocks) : Type 0 where
+  pub inside : (c : ℕ) → x .progress c ≡ true → x .since c ≤ length (x .history)
+
 -- From an open state.
-more-evidence-open : (K : ℕ) (s : State) → s .is-closed ≡ false → {xs ys : List Bytes} (e : Interleaved xs xs ys) → Never 9 (answers K s ys)
-    → MoreEvidence K s e (answers K s xs) (answers K s ys)
-more-evidence-open K s o {xs} {ys} e n =
-    let a : Along K xs s s = record { open₁ = o; open₂ = o; agree = λ i n. refl; within = within-self (s .graph); fewer = le-refl (s .journal .accepted) } in
-    let p = pairs K xs e (λ r m. m) s s a n in
+more-evidence-open : (K : ℕ) → K ≤ maxClasses → (s : State) → s .is-closed ≡ false → Started (s .cross) → {xs ys : List Bytes} (e : Interleaved xs xs ys)
+    → Never 19 (answers K s ys) → Never 9 (answers K s ys) → MoreEvidence K s e (answers K s xs) (answers K s ys)
+more-evidence-open K few s o st {xs} {ys} e m n =
+    let x : CrossAlong (NamedIn xs) (s .cross) (s .cross) =
+    record {
+      declared = refl;
+      progress = refl;
+      shorter = le-refl (length (s .cross .history));
+      inside = λ c l h. st .inside c h;
+      covers = λ c l h. record { covered = λ i n t y. y };
+    } in
+    let a : Along K few xs s s =
+    record { open₁ = o; open₂ = o; agree = λ i n. refl; within = within-self (s .graph); cross = x; fewer = le-refl (s .journal .accepted) } in
+    let p = pairs K few xs e (λ r m. m) s s a m n in
     record {
       same = p .same;
       true-fault = λ j h. cyclic-sound K (graphAt K s ys j) (fault-cycle K s ys j h);
@@ -268,11 +366,12 @@ more-evidence-closed K s c {xs} {ys} e =
       sooner = λ i l h. absurd (closed-no-fault K s xs i c h);
     }
 
--- Demand 3, from any state, "if neither run meets 9": where the second does not, the first does not either, so that is all that is asked.
-pub more-evidence : (K : ℕ) (s : State) {xs ys : List Bytes} (e : Interleaved xs xs ys) → Never 9 (answers K s ys)
-    → MoreEvidence K s e (answers K s xs) (answers K s ys)
-more-evidence K s {xs} {ys} e n = by (s .is-closed) refl
+-- Demand 3, from any state, "if neither run meets 9" and "neither run meets 19": where the second does not, the first does not either, so that is all that
+-- is asked.
+pub more-evidence : (K : ℕ) → K ≤ maxClasses → (s : State) → Started (s .cross) → {xs ys : List Bytes} (e : Interleaved xs xs ys)
+    → Never 19 (answers K s ys) → Never 9 (answers K s ys) → MoreEvidence K s e (answers K s xs) (answers K s ys)
+more-evidence K few s st {xs} {ys} e m n = by (s .is-closed) refl
   where
     by : (b : Bool) → s .is-closed ≡ b → MoreEvidence K s e (answers K s xs) (answers K s ys)
-    by false o = more-evidence-open K s o e n
+    by false o = more-evidence-open K few s o st e m n
     by true c = more-evidence-closed K s c e

@@ -59,6 +59,7 @@ keep K s =
       is-closed = s .is-closed;
       cores = s .cores;
       graph = record { locks = s .graph .locks; marks = kept K flags (s .graph .marks) };
+      cross = s .cross;
       journal = s .journal;
     }
 
@@ -71,7 +72,7 @@ kept-same K m c l u = by (ltb c K) refl
 
 keep-same : (K : ℕ) (s : State) → keep K s ≡ s
 keep-same K s =
-    ap (λ (m : Marks). record { is-closed = s .is-closed; cores = s .cores; graph = record { locks = s .graph .locks; marks = m }; journal = s .journal })
+    ap (λ (m : Marks). record { is-closed = s .is-closed; cores = s .cores; graph = record { locks = s .graph .locks; marks = m }; cross = s .cross; journal = s .journal })
     (fun-ext (λ c. fun-ext (λ l. fun-ext (λ u. kept-same K (s .graph .marks) c l u))))
 
 -- ---- A class on a closed path has a dependency to it and one from it. Where no class has both, nothing has to be decided.

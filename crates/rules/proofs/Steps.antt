@@ -11,7 +11,7 @@ use lib.ListN.{length, getD, take, replicate, getD-replicate}
 use Rattle.rules.specs.Record.{Bytes}
 use Rattle.rules.specs.StrongPath.{ClosedStrongPath}
 use Rattle.rules.specs.Decision.{cyclic}
-use Rattle.rules.specs.Verdict.{Refusal, closed, malformed, noClass, noTransition, stillHeld, notHeld, tooDeep, countFull, clean, fault, refused, refusalNumber, number, order, Situation, applies, firstThatApplies, refusal}
+use Rattle.rules.specs.Verdict.{Refusal, closed, malformed, noClass, wrongSort, noTransition, stillHeld, notHeld, tooDeep, inProgress, notInProgress, listFull, historyFull, countFull, clean, fault, refused, refusalNumber, number, order, Situation, applies, firstThatApplies, refusal}
 use Rattle.rules.specs.Run.{State, situation, accept, close, Result, settled, step, answers, run, graphAt}
 use Rattle.rules.specs.TwoRuns.{FaultBy}
 use Rattle.rules.proofs.Decided.{cyclic-sound, cyclic-complete}
@@ -36,10 +36,15 @@ pub refused-number : (x : Refusal) → 1 < refusalNumber x
 refused-number closed = omega arith
 refused-number malformed = omega arith
 refused-number noClass = omega arith
+refused-number wrongSort = omega arith
 refused-number noTransition = omega arith
 refused-number stillHeld = omega arith
 refused-number notHeld = omega arith
 refused-number tooDeep = omega arith
+refused-number inProgress = omega arith
+refused-number notInProgress = omega arith
+refused-number listFull = omega arith
+refused-number historyFull = omega arith
 refused-number countFull = omega arith
 
 -- A fault closes the validator, and the graph then has a cycle.
@@ -167,13 +172,18 @@ fault-exactly K s rs i l (inr z) = (λ h. cyclic-sound K (graphAt K s rs i) (fau
 
 in-order : (x : Refusal) → List·Memᴰ x order
 in-order closed = List·Memᴰ·head refl
-in-order malformed = search (List·Memᴰ·head, List·Memᴰ·tail) depth 10
-in-order noClass = search (List·Memᴰ·head, List·Memᴰ·tail) depth 10
-in-order noTransition = search (List·Memᴰ·head, List·Memᴰ·tail) depth 10
-in-order stillHeld = search (List·Memᴰ·head, List·Memᴰ·tail) depth 10
-in-order notHeld = search (List·Memᴰ·head, List·Memᴰ·tail) depth 10
-in-order tooDeep = search (List·Memᴰ·head, List·Memᴰ·tail) depth 10
-in-order countFull = search (List·Memᴰ·head, List·Memᴰ·tail) depth 10
+in-order malformed = search (List·Memᴰ·head, List·Memᴰ·tail) depth 15
+in-order noClass = search (List·Memᴰ·head, List·Memᴰ·tail) depth 15
+in-order wrongSort = search (List·Memᴰ·head, List·Memᴰ·tail) depth 15
+in-order noTransition = search (List·Memᴰ·head, List·Memᴰ·tail) depth 15
+in-order stillHeld = search (List·Memᴰ·head, List·Memᴰ·tail) depth 15
+in-order notHeld = search (List·Memᴰ·head, List·Memᴰ·tail) depth 15
+in-order tooDeep = search (List·Memᴰ·head, List·Memᴰ·tail) depth 15
+in-order inProgress = search (List·Memᴰ·head, List·Memᴰ·tail) depth 15
+in-order notInProgress = search (List·Memᴰ·head, List·Memᴰ·tail) depth 15
+in-order listFull = search (List·Memᴰ·head, List·Memᴰ·tail) depth 15
+in-order historyFull = search (List·Memᴰ·head, List·Memᴰ·tail) depth 15
+in-order countFull = search (List·Memᴰ·head, List·Memᴰ·tail) depth 15
 
 none-applies : (rs : List Refusal) (s : Situation) (x : Refusal) → firstThatApplies rs s ≡ none → List·Memᴰ x rs → applies x s ≡ false
 none-applies (y ∷ rs) s x h m = by (applies y s) refl (List·Memᴰ·cases-cons m) (none-applies rs s x)

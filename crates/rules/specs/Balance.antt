@@ -4,7 +4,7 @@ use mathlib.Core.Bool.{Bool, true, false, _&&_}
 use mathlib.Core.List.{List, [], _∷_}
 use Prim.Native.Nat.{ℕ, suc, _+_}
 use lib.Dec.{eqb}
-use Rattle.rules.specs.Record.{Bytes, Event, acquire, release, interrupt, coreOf, eventOf}
+use Rattle.rules.specs.Record.{Bytes, Event, acquire, release, interrupt, crossAcquire, commit, crossRelease, coreOf, eventOf}
 use Rattle.rules.specs.Context.{Frame, frameOf}
 use Rattle.rules.specs.HeldLocks.{HeldLock}
 use Rattle.rules.specs.Verdict.{Answer, clean, fault, refused}
@@ -14,11 +14,17 @@ abbrev pub acquires : ℕ → Event → Bool
 acquires c (acquire x m) = eqb c x
 acquires c (release x m) = false
 acquires c (interrupt e) = false
+acquires c (crossAcquire x) = false
+acquires c (commit x) = false
+acquires c (crossRelease x) = false
 
 abbrev pub releases : ℕ → Event → Bool
 releases c (acquire x m) = false
 releases c (release x m) = eqb c x
 releases c (interrupt e) = false
+releases c (crossAcquire x) = false
+releases c (commit x) = false
+releases c (crossRelease x) = false
 
 abbrev pub isAccepted : Answer → Bool
 isAccepted clean = true

@@ -10,6 +10,7 @@ use Rattle.rules.specs.Marks.{Level, hardIrq, softIrq, Usage, safe, unsa
 use Rattle.rules.specs.Graph.{Kind, Source, lock, irq}
 use Rattle.rules.specs.KindNames.{ER, EN, SN}
 use Rattle.rules.specs.Cycle.{Entry}
+use Rattle.rules.specs.Run.{State, start}
 
 -- ---- Records: an acquire, a release, an interrupt event. The document's E, r, R are the modes exclusive, read, recursive.
 
@@ -62,6 +63,10 @@ enterHard = 6
 
 unfoldable pub does : ℕ → ℕ → Bytes
 does core event = says core (2 + event) 0 0
+
+-- Opened with no class declared a crosslock.
+abbrev pub plain : State
+plain = start (λ c. false)
 
 -- ---- Answers of n records: all 0, or all 0 up to the last.
 

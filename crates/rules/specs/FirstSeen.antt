@@ -14,7 +14,7 @@ abbrev pub drawings : ℕ → State → List Bytes → List Dependencies
 drawings K s [] = []
 drawings K s (r ∷ rs) =
     let o = step K s r in
-    cond (isAccepted (o .answer)) (drawnWith (s .cores (coreOf r)) r ∷ drawings K (o .state) rs) (drawings K (o .state) rs)
+    cond (isAccepted (o .answer)) (drawnWith (s .cores (coreOf r)) (s .cross) r ∷ drawings K (o .state) rs) (drawings K (o .state) rs)
 
 -- One more than a number, but 0 of 0.
 abbrev pub oneLater : ℕ → ℕ

@@ -2,7 +2,7 @@
 use mathlib.Core.Bool.{Bool, false, not, _&&_, _||_}
 use Prim.Native.Nat.{ℕ}
 use lib.Dec.{ltb, eqb}
-use Rattle.rules.specs.Record.{Event, acquire, release, interrupt}
+use Rattle.rules.specs.Record.{Event, acquire, release, interrupt, crossAcquire, commit, crossRelease}
 use Rattle.rules.specs.HeldLocks.{First, Second, E, S, R, N, sameFirst, sameSecond, isTry, firstOf, secondBy, someHeld, Core, current}
 use Rattle.rules.specs.Marks.{Level, hardIrq, softIrq, safe, unsafe, Marks}
 
@@ -35,14 +35,19 @@ emptyGraph = record { locks = λ f t k. false; marks = λ c l u. false }
 abbrev pub addTo : Graph → Dependencies → Marks → Graph
 addTo g d m = record { locks = λ f t k. g .locks f t k || d f t k; marks = λ c l u. g .marks c l u || m c l u }
 
--- "A take draws one hold arrow to the new class from every hold in the core's current frame"; a try "draws no arrow from the older
--- holds", and no other record draws one.
+-- What is drawn from held locks. "A take draws one hold arrow to the new class from every hold in the core's current frame"; a try "draws no arrow from
+-- the older holds". The take of a crosslock "draws hold arrows, EN or SN by the hold's mode, from the current frame's holds (TC)". No other record draws
+-- one from them; a commit draws from the history (Crosslocks.antt).
 abbrev pub drawnBy : Event → Core → Dependencies
 drawnBy (acquire c m) core f t k =
     not (isTry m)
     && (eqb t c && sameSecond (k .second) (secondBy m) && someHeld f (λ h. sameFirst (k .first) (firstOf h)) (current core))
 drawnBy (release c m) core f t k = false
 drawnBy (interrupt e) core f t k = false
+drawnBy (crossAcquire c) core f t k =
+    eqb t c && sameSecond (k .second) N && someHeld f (λ h. sameFirst (k .first) (firstOf h)) (current core)
+drawnBy (commit c) core f t k = false
+drawnBy (crossRelease c) core f t k = false
 
 -- Where a dependency comes from. Numbers 0 hold, 1 hard, 2 soft in the slip.
 pub data Source : Type 0 where

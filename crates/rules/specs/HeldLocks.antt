@@ -4,7 +4,7 @@ use mathlib.Core.List.{List, [], _∷_, _++_}
 use Prim.Native.Nat.{ℕ, zero, suc, _%_}
 use lib.Dec.{leb, eqb}
 use Rattle.rules.specs.Limits.{heldModes}
-use Rattle.rules.specs.Record.{Event, acquire, release, interrupt}
+use Rattle.rules.specs.Record.{Event, acquire, release, interrupt, crossAcquire, commit, crossRelease}
 use Rattle.rules.specs.Context.{CoreState, taskBothOn, Frame, nextState, frameOf}
 
 -- The letters of document 001. E is an exclusive holder, S a shared one (either read).
@@ -99,8 +99,11 @@ withCurrent c hs = record { state = c .state; held = λ f. cond (eqb f (frameOf 
 abbrev pub withState : Core → CoreState → Core
 withState c s = record { state = s; held = c .held }
 
--- The core after an accepted event.
+-- The core after an accepted event. A crosslock "is no hold".
 abbrev pub afterEvent : Event → Core → Core
 afterEvent (acquire c m) core = withCurrent core (current core ++ (record { class = c; mode = m } ∷ []))
 afterEvent (release c m) core = withCurrent core (releaseNewest c (current core))
 afterEvent (interrupt e) core = withState core (nextState (core .state) e)
+afterEvent (crossAcquire c) core = core
+afterEvent (commit c) core = core
+afterEvent (crossRelease c) core = core

@@ -1,4 +1,5 @@
 pub mod Limits
+pub mod Number
 pub mod Record
 pub mod WellFormed
 pub mod Context
@@ -6,6 +7,7 @@ pub mod HeldLocks
 pub mod Marks
 pub mod Graph
 pub mod KindNames
+pub mod Crosslocks
 pub mod StrongPath
 pub mod Decision
 pub mod Cycle
@@ -20,4 +22,6 @@ pub mod Balance
 pub mod Join
 pub mod FirstSeen
 pub mod Examples
+pub mod CrossExamples
+pub mod Visits
 pub mod Log

@@ -17,9 +17,19 @@ maxDepth = 48
 abbrev pub maxAccepted : ℕ
 maxAccepted = 4294967295
 
--- Record kinds are 0 to 9, of which 0 and 1 name a lock class and the others are interrupt events.
+-- Crosslocks (02, j): "a list of up to 16 in progress", "a lent history of 256".
+abbrev pub maxInProgress : ℕ
+maxInProgress = 16
+
+abbrev pub maxKept : ℕ
+maxKept = 256
+
+-- Record kinds are 0 to 12: 0 and 1 name a lock class, then come the interrupt events, and behind them the three that name a crosslock.
+abbrev pub interruptKinds : ℕ
+interruptKinds = 8
+
 abbrev pub kindCount : ℕ
-kindCount = 10
+kindCount = 2 + interruptKinds + 3
 
 -- Modes in which a lock is held: 0 exclusive, 1 non-recursive read, 2 recursive read.
 abbrev pub heldModes : ℕ

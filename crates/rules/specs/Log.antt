@@ -1,24 +1,35 @@
--- Document 01, "Logs for the bench", and document 02, b: "A log is the header 4C 48 01 K and then records", and what comes of the records.
-use mathlib.Core.Bool.{Bool, true, false, cond, _&&_}
+-- Document 01, "Logs for the bench", and document 02, b and j: "A log is the header 4C 48 01 K and then records", and what comes of the records.
+use mathlib.Core.Bool.{Bool, true, false, cond, _&&_, _||_}
 use mathlib.Core.List.{List, [], _∷_, _++_}
-use Prim.Native.Nat.{ℕ, zero, suc, _*_, _/_}
+use Prim.Native.Nat.{ℕ, zero, suc, _+_, _*_, _/_}
 use lib.Dec.{leb, eqb}
 use lib.ListN.{length, getD, take, drop}
 use Rattle.rules.specs.Limits.{maxClasses}
+use Rattle.rules.specs.Number.{lowFirst}
 use Rattle.rules.specs.Record.{Bytes, recordSize}
 use Rattle.rules.specs.Verdict.{number}
 use Rattle.rules.specs.Run.{State, step}
 
-abbrev pub headerSize : ℕ
-headerSize = 4
+-- "a header 4C 48 02 K is followed by" the word that declares crosslocks, of eight bytes; one of version 1 declares none. The third byte tells which.
+abbrev pub plainSize : ℕ
+plainSize = 4
 
--- A good header: four bytes, the signature 4C 48, version 1, and K from 1 to 64.
+abbrev pub wordSize : ℕ
+wordSize = 8
+
+abbrev pub declares : List ℕ → Bool
+declares bytes = eqb (getD bytes 2 0) 2
+
+abbrev pub headerSize : List ℕ → ℕ
+headerSize bytes = cond (declares bytes) (plainSize + wordSize) plainSize
+
+-- A good header: of its size, the signature 4C 48, version 1 or 2, and K from 1 to 64.
 unfoldable pub isHeader : List ℕ → Bool
 isHeader bytes =
-    eqb (length bytes) headerSize
+    eqb (length bytes) (headerSize bytes)
     && eqb (getD bytes 0 0) 0x4C
     && eqb (getD bytes 1 0) 0x48
-    && eqb (getD bytes 2 0) 1
+    && (eqb (getD bytes 2 0) 1 || declares bytes)
     && leb 1 (getD bytes 3 0)
     && leb (getD bytes 3 0) maxClasses
 
@@ -26,10 +37,14 @@ isHeader bytes =
 unfoldable pub headerClasses : List ℕ → ℕ
 headerClasses bytes = cond (isHeader bytes) (getD bytes 3 0) 0
 
--- The next unit of a log is its header until that was opened, and then a record.
-abbrev pub unitSize : (opened : Bool) → ℕ
-unitSize false = headerSize
-unitSize true = recordSize
+-- The word of a good header, "low byte first": bit c declares class c. Others have 0.
+unfoldable pub headerWord : List ℕ → ℕ
+headerWord bytes = cond (isHeader bytes && declares bytes) (lowFirst wordSize bytes plainSize) 0
+
+-- The next unit of a log, of which these bytes are the first or all, is its header until that was opened, and then a record.
+abbrev pub unitSize : (opened : Bool) (bytes : List ℕ) → ℕ
+unitSize false bytes = headerSize bytes
+unitSize true bytes = recordSize
 
 -- The first n records of bytes.
 abbrev pub firstRecords : ℕ → List ℕ → List Bytes

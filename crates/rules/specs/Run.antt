@@ -8,7 +8,8 @@ use lib.ListN.{take}
 use Rattle.rules.specs.Record.{Bytes, coreOf, eventOf}
 use Rattle.rules.specs.HeldLocks.{Core, freshCore, afterEvent}
 use Rattle.rules.specs.Marks.{marksOf}
-use Rattle.rules.specs.Graph.{Graph, Dependencies, emptyGraph, addTo, drawnBy}
+use Rattle.rules.specs.Graph.{Graph, Dependencies, emptyGraph, addTo}
+use Rattle.rules.specs.Crosslocks.{Crosslocks, declaring, drawnOn, afterCross}
 use Rattle.rules.specs.KindNames.{someKind}
 use Rattle.rules.specs.Decision.{cyclic}
 use Rattle.rules.specs.Verdict.{Refusal, Answer, clean, fault, refused, number, Situation, refusal}
@@ -33,41 +34,43 @@ pub record State : Type 0 where
   pub is-closed : Bool
   pub cores : ℕ → Core
   pub graph : Graph
+  pub cross : Crosslocks
   pub journal : Journal
 
--- Every core fresh, over the graph and the journal with which the run starts.
-abbrev pub startingFrom : Graph → Journal → State
-startingFrom g j = record { is-closed = false; cores = λ i. freshCore; graph = g; journal = j }
+-- Every core fresh and no crosslock in progress, over the declarations, the graph and the journal with which the run starts.
+abbrev pub startingFrom : (declared : ℕ → Bool) → Graph → Journal → State
+startingFrom d g j = record { is-closed = false; cores = λ i. freshCore; graph = g; cross = declaring d; journal = j }
 
 -- What opening gives: the empty graph.
-abbrev pub start : State
-start = startingFrom emptyGraph emptyJournal
+abbrev pub start : (declared : ℕ → Bool) → State
+start d = startingFrom d emptyGraph emptyJournal
 
 abbrev pub situation : ℕ → State → Bytes → Situation
 situation K s r =
-    record { is-closed = s .is-closed; classes = K; core = s .cores (coreOf r); accepted = s .journal .accepted; bytes = r }
+    record { is-closed = s .is-closed; classes = K; core = s .cores (coreOf r); cross = s .cross; accepted = s .journal .accepted; bytes = r }
 
 -- All lock dependencies that a record draws, where its core stands as `core`. The journal reads them too.
-abbrev pub drawnWith : Core → Bytes → Dependencies
-drawnWith core r = drawnBy (eventOf r) core
+abbrev pub drawnWith : Core → Crosslocks → Bytes → Dependencies
+drawnWith core x r = drawnOn (eventOf r) (coreOf r) core x
 
--- What an accepted record does, where its core stands as `core`: it draws lock dependencies from the core as it stood and sets marks from
--- the core as it then stands.
+-- What an accepted record does, where its core stands as `core`: it draws lock dependencies from the core and the history as they stood and sets marks
+-- from the core as it then stands.
 abbrev pub acceptOn : Core → State → Bytes → State
 acceptOn core s r =
     let after = afterEvent (eventOf r) core in
     record {
       is-closed = s .is-closed;
       cores = λ i. cond (eqb i (coreOf r)) after (s .cores i);
-      graph = addTo (s .graph) (drawnWith core r) (marksOf after);
-      journal = withRecord (drawnWith core r) (s .journal);
+      graph = addTo (s .graph) (drawnWith core (s .cross) r) (marksOf after);
+      cross = afterCross (eventOf r) (coreOf r) core (s .cross);
+      journal = withRecord (drawnWith core (s .cross) r) (s .journal);
     }
 
 abbrev pub accept : State → Bytes → State
 accept s r = acceptOn (s .cores (coreOf r)) s r
 
 abbrev pub close : State → State
-close s = record { is-closed = true; cores = s .cores; graph = s .graph; journal = s .journal }
+close s = record { is-closed = true; cores = s .cores; graph = s .graph; cross = s .cross; journal = s .journal }
 
 pub record Result : Type 0 where
   pub answer : Answer

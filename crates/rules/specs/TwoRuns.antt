@@ -1,10 +1,11 @@
 -- Document 01, "Two desks, one claim": demand 3 as a statement about two lists of records. proofs/MoreEvidence.antt proves it.
 use mathlib.Core.Path.{_≡_}
+use mathlib.Core.Bool.{false}
 use mathlib.Core.List.{List, [], _∷_, List·Memᴰ}
 use mathlib.Core.Logic.{_⊎_}
 use Prim.Native.Nat.{ℕ, zero, suc, _≤_, _<_}
 use lib.ListN.{length, getD}
-use Rattle.rules.specs.Record.{Bytes, Names}
+use Rattle.rules.specs.Record.{Bytes, eventOf, isCross, isMalformed, Names}
 use Rattle.rules.specs.StrongPath.{ClosedStrongPath}
 use Rattle.rules.specs.Run.{State, graphAt}
 
@@ -14,9 +15,10 @@ pub record NamedIn (rs : List Bytes) (core : ℕ) : Type 0 where
   pub member : List·Memᴰ by rs
   pub names : Names by core
 
--- The record names no core that the list names.
+-- The record names no core that the list names; and "no added record is of kinds 10 to 12" (02, j; a malformed one is of no kind).
 pub record Foreign (rs : List Bytes) (r : Bytes) : Type 0 where
   pub apart : (core : ℕ) → Names r core → NamedIn rs core → ⊥
+  pub ordinary : isMalformed r ≡ false → isCross (eventOf r) ≡ false
 
 -- The second list is the first, in its order, with records put in at any places, each foreign to `whole`, which is the first list.
 pub data Interleaved (whole : List Bytes) : List Bytes → List Bytes → Type 0 where

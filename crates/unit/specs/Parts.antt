@@ -10,6 +10,7 @@ use Rattle.unit.specs.Units.{UnitValidated}
 
 -- It goes at most to the end of the unit: the part is kept, or it completes the unit, which is validated.
 pub data PartTaken (f : Feed) (b : Buffers) (part : List ℕ) : Feed → Buffers → Type 0 where
-  not-yet : length (f .loose ++ part) < unitSize (f .opened) → PartTaken f b part (withPart f part) b
-  complete : {f′ : Feed} {b′ : Buffers} → length (f .loose ++ part) ≡ unitSize (f .opened) → UnitValidated (f .opened) (f .number) b (f .loose ++ part) f′ b′
+  not-yet : length (f .loose ++ part) < unitSize (f .opened) (f .loose ++ part) → PartTaken f b part (withPart f part) b
+  complete : {f′ : Feed} {b′ : Buffers} → length (f .loose ++ part) ≡ unitSize (f .opened) (f .loose ++ part)
+      → UnitValidated (f .opened) (f .number) b (f .loose ++ part) f′ b′
       → PartTaken f b part f′ b′

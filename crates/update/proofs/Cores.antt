@@ -161,13 +161,13 @@ module _ {K : ℕ} {is-closed : Bool} {cores : ℕ → Core} {marks : Marks} {de
         eight = λ k l. rw (other (originsAt + k) (λ e. omega arith)) (b .eight k l);
       }
 
-  -- ---- The count.
+  -- ---- The count and what stands behind it.
 
-  pub count-changed : {n : ℕ} {after : List ℕ} → NumberPut desk acceptedAt n after → DeskBytes K is-closed cores marks after
-  count-changed {after = after} P =
-      let other : (j : ℕ) → j < acceptedAt → getD after j 0 ≡ getD desk j 0 = λ j l. P .else j (inl l) in
+  pub behind-changed : {after : List ℕ} → length after ≡ length desk → ((j : ℕ) → j < acceptedAt → getD after j 0 ≡ getD desk j 0)
+      → DeskBytes K is-closed cores marks after
+  behind-changed {after} size other =
       record {
-        long = rw (P .long) (b .long);
+        long = rw size (b .long);
         classes = other 0 (omega arith) ∙ b .classes;
         closed = other closedAt (omega arith) ∙ b .closed;
         states = λ j lj. other (statesAt + j) (omega arith) ∙ b .states j lj;
@@ -179,3 +179,6 @@ module _ {K : ℕ} {is-closed : Bool} {cores : ℕ → Core} {marks : Marks} {de
             ap (λ (x : ℕ). x / 2 ^ (k % 8) % 2) (other (originsAt + k / 8) (omega arith)) ∙ b .origins j f p lj lf lp;
         eight = λ k l. rw (other (originsAt + k) (omega arith)) (b .eight k l);
       }
+
+  pub count-changed : {n : ℕ} {after : List ℕ} → NumberPut desk acceptedAt n after → DeskBytes K is-closed cores marks after
+  count-changed P = behind-changed (P .long) (λ j l. P .else j (inl l))

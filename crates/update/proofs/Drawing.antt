@@ -38,7 +38,7 @@ same-dependencies {K} {sheet} d d′ e m =
 
 module _ (K from to held acquired : ℕ) (lf : from < K) (lt : to < K) where
   -- One dependency more, at one cell.
-  abbrev oneMore : Dependencies → Dependencies
+  abbrev pub oneMore : Dependencies → Dependencies
   oneMore d f t k = d f t k || (eqb f from && (eqb t to && kindsBy held acquired f t k))
 
   there : (d : Dependencies) → bitOr (kindByte d from to) (kindBits held acquired) ≡ kindByte (oneMore d) from to
@@ -52,7 +52,7 @@ module _ (K from to held acquired : ℕ) (lf : from < K) (lt : to < K) where
   elsewhere d f t (inl n) = sym (simp (ne-eqb f from n, or-false))
   elsewhere d f t (inr n) = sym (simp (ne-eqb t to n, and-false, or-false))
 
-  add-cell : (d : Dependencies) (now : List ℕ) → SheetBytes K d now
+  pub add-cell : (d : Dependencies) (now : List ℕ) → SheetBytes K d now
       → SheetBytes K (oneMore d) (set now (from * K + to) (bitOr (getD now (from * K + to) 0) (kindBits held acquired)))
   add-cell d now m = record { long = simp length-set (m .long); kinds = λ f t l l′. at f t l l′ (ℕ-discrete f from) (ℕ-discrete t to) }
     where

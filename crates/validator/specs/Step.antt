@@ -10,11 +10,12 @@ use Rattle.layout.specs.Decoding.{view, CarriedOut}
 use Rattle.layout.specs.Fit.{fitsAll}
 
 -- A record validated in the state s of the rules.
-abbrev pub Validated : (K : ℕ) (s : State) (bytes desk sheet seen slip : List ℕ) (answer : ℕ) (desk′ sheet′ seen′ slip′ : List ℕ) → Type 0
+abbrev pub Validated : (K : ℕ) (s : State) (bytes desk sheet seen history slip : List ℕ) (answer : ℕ) (desk′ sheet′ seen′ history′ slip′ : List ℕ) → Type 0
 Validated K s bytes = CarriedOut K (step K s bytes)
 
 -- The step. Unfit buffers are refused with 11 before anything else, and nothing is changed; fit ones are taken as they stand.
-pub record Stepped (desk sheet seen slip bytes : List ℕ) (answer : ℕ) (desk′ sheet′ seen′ slip′ : List ℕ) : Type 0 where
-  pub is-unfit : fitsAll desk sheet seen slip ≡ false → (answer ≡ unfit) × (desk′ ≡ desk) × (sheet′ ≡ sheet) × (seen′ ≡ seen) × (slip′ ≡ slip)
-  pub validated : fitsAll desk sheet seen slip ≡ true
-      → Validated (classesOf desk) (view desk sheet seen) bytes desk sheet seen slip answer desk′ sheet′ seen′ slip′
+pub record Stepped (desk sheet seen history slip bytes : List ℕ) (answer : ℕ) (desk′ sheet′ seen′ history′ slip′ : List ℕ) : Type 0 where
+  pub is-unfit : fitsAll desk sheet seen history slip ≡ false
+      → (answer ≡ unfit) × (desk′ ≡ desk) × (sheet′ ≡ sheet) × (seen′ ≡ seen) × (history′ ≡ history) × (slip′ ≡ slip)
+  pub validated : fitsAll desk sheet seen history slip ≡ true
+      → Validated (classesOf desk) (view desk sheet seen history) bytes desk sheet seen history slip answer desk′ sheet′ seen′ history′ slip′

@@ -4,28 +4,30 @@ use mathlib.Core.Bool.{Bool, true, false, cond, not, _&&_, _||_, false≢true}
 use mathlib.Core.List.{List, [], _∷_, _++_, List·Memᴰ, List·Memᴰ·head, List·Memᴰ·tail}
 use mathlib.Core.Logic.{⊎-elim}
 use mathlib.Core.Option.{none}
-use Prim.Native.Nat.{ℕ, zero, suc, _≤_, _<_, zero-le, suc-le-suc}
+use Prim.Native.Nat.{ℕ, zero, suc, _-_, _≤_, _<_, zero-le, suc-le-suc}
 use native.Mathlib.Nat.{le-of-suc-le-suc, not-suc-le-zero}
 use native.Mathlib.Omega.{arith}
-use lib.Dec.{leb, eqb}
+use lib.Dec.{leb, ltb, eqb}
 use lib.ListN.{length, length-append}
-use borrow.Author.Tests.{leb-false, eqb-true, ne-eqb}
-use Rattle.rules.specs.Limits.{maxDepth, maxAccepted, kindCount, modeCount}
-use Rattle.rules.specs.Record.{Bytes, Event, acquire, release, interrupt, eventBy, coreOf, kindOf, classOf, modeOf, eventOf}
+use borrow.Author.Tests.{ltb-true, leb-false, eqb-true, ne-eqb}
+use Rattle.rules.specs.Limits.{maxClasses, maxDepth, maxAccepted, interruptKinds, kindCount, modeCount}
+use Rattle.rules.specs.Record.{Bytes, Event, acquire, release, interrupt, crossAcquire, commit, crossRelease, crossEventBy, eventBy, coreOf, kindOf, classOf, modeOf, eventOf}
 use Rattle.rules.specs.WellFormed.{WellFormed}
 use Rattle.rules.specs.Context.{CoreState, leavesHandler, Frame, soft, hard, frameOf, hardOverSoft, mayHoldSoft, mayHoldHard, taskSoftOff, softHardOn}
 use Rattle.rules.specs.HeldLocks.{First, HeldLock, isTry, someHeld, isHeld, releaseNewest, Core, current, withCurrent, afterEvent}
 use Rattle.rules.specs.Marks.{Level, hardIrq, softIrq, Usage, unsafe, setIn, letterFits, marksOf}
-use Rattle.rules.specs.Graph.{Kind, Dependencies, Graph, emptyGraph, addTo, drawnBy}
+use Rattle.rules.specs.Graph.{Kind, Dependencies, Graph, emptyGraph, addTo}
+use Rattle.rules.specs.Crosslocks.{Crosslocks, drawnOn}
 use Rattle.rules.specs.KindNames.{someKind}
-use Rattle.rules.specs.Verdict.{Refusal, applies, malformed, noClass, noTransition, stillHeld, tooDeep, countFull, classMissing, transitionMissing, someLock, leavesLocked, frameFull, refusal}
+use Rattle.rules.specs.Verdict.{Refusal, applies, malformed, noClass, wrongSort, noTransition, stillHeld, tooDeep, listFull, historyFull, countFull, classMissing, transitionMissing, someLock, leavesLocked, frameFull, refusal}
 use Rattle.rules.specs.Join.{joinedGraph, joinedJournal, joinedState}
 use Rattle.rules.specs.Run.{Journal, emptyJournal, withRecord, State, startingFrom, start, situation, drawnWith, accept, close, Result, step, run}
 use Rattle.rules.proofs.Booleans.{or-cases, or-left, or-mono, and-cases, and-mono}
 use Rattle.rules.proofs.Formed.{well-formed}
 use Rattle.rules.proofs.Journals.{numbered-kept, numbered-joined}
 use Rattle.rules.proofs.Steps.{StepCases, was-refused, was-clean, was-fault, stepped, accepted-passes}
-use Rattle.validity.specs.Valid.{ValidLock, ValidLocks, ValidCore, ValidGraph, ValidJournal, Valid}
+use Rattle.validity.specs.Valid.{ValidLock, ValidLocks, ValidCore, ValidGraph, ValidJournal, ValidCross, Valid}
+use Rattle.validity.proofs.Crossed.{commit-in-range, valid-declaring, cross-kept}
 use Rattle.validity.proofs.Contexts.{eventCount, FrameStates, soft-states, hard-states, current-may, next-in-range, next-may, frame-last}
 
 -- ---- Held locks.
@@ -87,11 +89,23 @@ abbrev InLimits : Event → Type 0
 InLimits (acquire c m) = m < modeCount
 InLimits (release c m) = Unit {0}
 InLimits (interrupt e) = e < eventCount
+InLimits (crossAcquire c) = Unit {0}
+InLimits (commit c) = Unit {0}
+InLimits (crossRelease c) = Unit {0}
+
+cross-in-limits : (k c : ℕ) → InLimits (crossEventBy k c)
+cross-in-limits zero c = tt
+cross-in-limits (suc zero) c = tt
+cross-in-limits (suc (suc k)) c = tt
 
 event-in-limits : (k c m : ℕ) → k < kindCount → m < modeCount → InLimits (eventBy k c m)
 event-in-limits zero c m h l = l
 event-in-limits (suc zero) c m h l = tt
-event-in-limits (suc (suc k)) c m h l = omega arith
+event-in-limits (suc (suc k)) c m h l = by (ltb k interruptKinds) refl
+  where
+    by : (b : Bool) → ltb k interruptKinds ≡ b → InLimits (cond b (interrupt k) (crossEventBy (k - interruptKinds) c))
+    by true e = ltb-true k interruptKinds e
+    by false e = cross-in-limits (k - interruptKinds) c
 
 in-limits : (r : Bytes) → WellFormed r → InLimits (eventOf r)
 in-limits r w = event-in-limits (kindOf r) (classOf r) (modeOf r) (w .kind) (w .mode)
@@ -164,19 +178,30 @@ module _ (K : ℕ) (c : Core) (v : ValidCore K c) where
         hard-held = next-only hard-states c (v .states) hard-only e i t q .only;
         no-more = v .no-more;
       }
+  core-kept (crossAcquire a) i n t q d = v
+  core-kept (commit a) i n t q d = v
+  core-kept (crossRelease a) i n t q d = v
 
   -- The classes that a valid core marks, and those between which its event draws dependencies, are in range.
   marked-in-range : (a : ℕ) (l : Level) (u : Usage) → marksOf c a l u ≡ true → a < K
   marked-in-range a l u h = held-in-range K a (letterFits u) (current c) (v .locks (frameOf (c .state))) (and-cases (setIn l u (c .state)) _ h .1)
 
-  drawn-in-range : (ev : Event) → classMissing K ev ≡ false → (f t : ℕ) (k : Kind) → drawnBy ev c f t k ≡ true → (f < K) × (t < K)
-  drawn-in-range (acquire a m) n f t k h =
+  drawn-in-range : (ev : Event) (i : ℕ) (x : Crosslocks) → ValidCross K x → classMissing K ev ≡ false
+      → (f t : ℕ) (k : Kind) → drawnOn ev i c x f t k ≡ true → (f < K) × (t < K)
+  drawn-in-range (acquire a m) i x w n f t k h =
       let p = and-cases _ _ (and-cases (not (isTry m)) _ h .1) in (
         held-in-range K f _ (current c) (v .locks (frameOf (c .state))) (p .1),
         rw (eqb-true t a (and-cases _ _ (p .0) .0)) (leb-false K a n),
       )
-  drawn-in-range (release a m) n f t k h = absurd (false≢true h)
-  drawn-in-range (interrupt e) n f t k h = absurd (false≢true h)
+  drawn-in-range (release a m) i x w n f t k h = absurd (false≢true h)
+  drawn-in-range (interrupt e) i x w n f t k h = absurd (false≢true h)
+  drawn-in-range (crossAcquire a) i x w n f t k h =
+      let p = and-cases _ _ h in (
+        held-in-range K f _ (current c) (v .locks (frameOf (c .state))) (p .1),
+        rw (eqb-true t a (and-cases _ _ (p .0) .0)) (leb-false K a n),
+      )
+  drawn-in-range (commit a) i x w n f t k h = commit-in-range K a i (frameOf (c .state)) x w (leb-false K a n) f t k h
+  drawn-in-range (crossRelease a) i x w n f t k h = absurd (false≢true h)
 
 -- Soft-unsafe is set in one state, in which hard-unsafe is set too.
 marked-unsafe : (c : Core) (a : ℕ) (i : First) → marksOf c a softIrq (unsafe i) ≡ true → marksOf c a hardIrq (unsafe i) ≡ true
@@ -185,20 +210,21 @@ marked-unsafe c a i =
     (λ h. or-left (eqb (c .state) softHardOn) (or-left (eqb (c .state) taskSoftOff) h))
     (λ h. h)
 
-graph-kept : (K : ℕ) (g : Graph) (ev : Event) (c : Core) → ValidGraph K g → ValidCore K c → ValidCore K (afterEvent ev c)
-    → classMissing K ev ≡ false → ValidGraph K (addTo g (drawnBy ev c) (marksOf (afterEvent ev c)))
-graph-kept K g ev c w v after n =
+graph-kept : (K : ℕ) (g : Graph) (ev : Event) (i : ℕ) (c : Core) (x : Crosslocks) → ValidGraph K g → ValidCore K c → ValidCross K x
+    → ValidCore K (afterEvent ev c) → classMissing K ev ≡ false → ValidGraph K (addTo g (drawnOn ev i c x) (marksOf (afterEvent ev c)))
+graph-kept K g ev i c x w v u after n =
     record {
       marks-in-range = λ a l u h.
           ⊎-elim (w .marks-in-range a l u) (marked-in-range K (afterEvent ev c) after a l u) (or-cases (g .marks a l u) _ h);
-      soft-unsafe = λ a i. or-mono (g .marks a softIrq (unsafe i)) _ (w .soft-unsafe a i) (marked-unsafe (afterEvent ev c) a i);
-      locks-in-range = λ f t k h. ⊎-elim (w .locks-in-range f t k) (drawn-in-range K c v ev n f t k) (or-cases (g .locks f t k) _ h);
+      soft-unsafe = λ a l. or-mono (g .marks a softIrq (unsafe l)) _ (w .soft-unsafe a l) (marked-unsafe (afterEvent ev c) a l);
+      locks-in-range = λ f t k h. ⊎-elim (w .locks-in-range f t k) (drawn-in-range K c v ev i x u n f t k) (or-cases (g .locks f t k) _ h);
     }
 
 -- ---- States.
 
-pub valid-startingFrom : (K : ℕ) (g : Graph) (j : Journal) → ValidGraph K g → ValidJournal (g .locks) j → Valid K (startingFrom g j)
-valid-startingFrom K g j w v =
+pub valid-startingFrom : (K : ℕ) (d : ℕ → Bool) (g : Graph) (j : Journal) → ((c : ℕ) → d c ≡ true → c < K) → ValidGraph K g
+    → ValidJournal (g .locks) j → Valid K (startingFrom d g j)
+valid-startingFrom K d g j small w v =
     record {
       cores = λ i. record {
         states = zero-le;
@@ -210,12 +236,13 @@ valid-startingFrom K g j w v =
       };
       no-more = λ i l. refl;
       graph = w;
+      cross = valid-declaring K d small;
       journal = v;
     }
 
-pub valid-start : (K : ℕ) → Valid K start
-valid-start K =
-    valid-startingFrom K emptyGraph emptyJournal
+pub valid-start : (K : ℕ) (d : ℕ → Bool) → ((c : ℕ) → d c ≡ true → c < K) → Valid K (start d)
+valid-start K d small =
+    valid-startingFrom K d emptyGraph emptyJournal small
     (record {
       marks-in-range = λ c l u h. absurd (false≢true h);
       soft-unsafe = λ c a h. absurd (false≢true h);
@@ -248,7 +275,7 @@ journals-joined d e i j v w =
 
 pub valid-joined : {K : ℕ} {s t : State} → Valid K s → Valid K t → Valid K (joinedState s t)
 valid-joined {K} {s} {t} v w =
-    valid-startingFrom K (joinedGraph (s .graph) (t .graph)) (joinedJournal (s .journal) (t .journal))
+    valid-startingFrom K (s .cross .declared) (joinedGraph (s .graph) (t .graph)) (joinedJournal (s .journal) (t .journal)) (v .cross .declared)
     (graphs-joined K (s .graph) (t .graph) (v .graph) (w .graph))
     (journals-joined (s .graph .locks) (t .graph .locks) (s .journal) (t .journal) (v .journal) (w .journal))
 
@@ -266,13 +293,17 @@ journal-kept locks drawn j v h =
     by true f t = let l = leb-false maxAccepted (j .accepted) h in omega arith
     by false f t = v .at-most f t
 
-pub valid-accept : (K : ℕ) (s : State) (r : Bytes) → Valid K s → refusal (situation K s r) ≡ none → Valid K (accept s r)
-valid-accept K s r v h =
+pub valid-accept : (K : ℕ) (s : State) (r : Bytes) → K ≤ maxClasses → Valid K s → refusal (situation K s r) ≡ none → Valid K (accept s r)
+valid-accept K s r few v h =
     record {
       cores = λ i. by (eqb i (coreOf r)) i;
       no-more = λ i l. let c = formed .core in rw (ne-eqb i (coreOf r) (λ e. omega arith)) (v .no-more i l);
-      graph = graph-kept K (s .graph) (eventOf r) (s .cores (coreOf r)) (v .graph) (v .cores (coreOf r)) after (passes noClass);
-      journal = journal-kept (s .graph .locks) (drawnWith (s .cores (coreOf r)) r) (s .journal) (v .journal) (passes countFull);
+      graph =
+          graph-kept K (s .graph) (eventOf r) (coreOf r) (s .cores (coreOf r)) (s .cross) (v .graph) (v .cores (coreOf r)) (v .cross) after (passes noClass);
+      cross =
+          cross-kept K (s .cross) (v .cross) (eventOf r) (coreOf r) (s .cores (coreOf r)) few (formed .core) (v .cores (coreOf r) .states) (passes noClass)
+          (passes wrongSort) (passes listFull) (passes historyFull);
+      journal = journal-kept (s .graph .locks) (drawnWith (s .cores (coreOf r)) (s .cross) r) (s .journal) (v .journal) (passes countFull);
     }
   where
     passes : (x : Refusal) → applies x (situation K s r) ≡ false
@@ -291,16 +322,16 @@ valid-accept K s r v h =
     by false i = v .cores i
 
 pub valid-close : {K : ℕ} {s : State} → Valid K s → Valid K (close s)
-valid-close v = record { cores = v .cores; no-more = v .no-more; graph = v .graph; journal = v .journal }
+valid-close v = record { cores = v .cores; no-more = v .no-more; graph = v .graph; cross = v .cross; journal = v .journal }
 
-stepped-valid : {K : ℕ} {s : State} {r : Bytes} {o : Result} → StepCases K s r o → Valid K s → Valid K (o .state)
-stepped-valid (was-refused x e) v = v
-stepped-valid {K} {s} {r} (was-clean e q) v = valid-accept K s r v e
-stepped-valid {K} {s} {r} (was-fault e q) v = valid-close (valid-accept K s r v e)
+stepped-valid : {K : ℕ} {s : State} {r : Bytes} {o : Result} → K ≤ maxClasses → StepCases K s r o → Valid K s → Valid K (o .state)
+stepped-valid few (was-refused x e) v = v
+stepped-valid {K} {s} {r} few (was-clean e q) v = valid-accept K s r few v e
+stepped-valid {K} {s} {r} few (was-fault e q) v = valid-close (valid-accept K s r few v e)
 
-pub valid-step : (K : ℕ) (s : State) (r : Bytes) → Valid K s → Valid K (step K s r .state)
-valid-step K s r v = stepped-valid (stepped K s r) v
+pub valid-step : (K : ℕ) (s : State) (r : Bytes) → K ≤ maxClasses → Valid K s → Valid K (step K s r .state)
+valid-step K s r few v = stepped-valid few (stepped K s r) v
 
-pub valid-run : (K : ℕ) (s : State) (rs : List Bytes) → Valid K s → Valid K (run K s rs)
-valid-run K s [] v = v
-valid-run K s (r ∷ rs) v = valid-run K (step K s r .state) rs (valid-step K s r v)
+pub valid-run : (K : ℕ) (s : State) (rs : List Bytes) → K ≤ maxClasses → Valid K s → Valid K (run K s rs)
+valid-run K s [] few v = v
+valid-run K s (r ∷ rs) few v = valid-run K (step K s r .state) rs few (valid-step K s r few v)

@@ -2,15 +2,17 @@
 use mathlib.Core.Path.{_≡_}
 use mathlib.Core.Bool.{true, not}
 use mathlib.Core.List.{List, []}
+use mathlib.Core.Option.{Option, none, some}
 use Prim.Native.Nat.{ℕ, _≤_, _<_}
 use lib.Dec.{eqb}
 use lib.ListN.{length, getD}
-use Rattle.rules.specs.Limits.{coreCount, maxDepth, maxAccepted, modeCount}
+use Rattle.rules.specs.Limits.{coreCount, maxClasses, maxDepth, maxAccepted, heldModes, modeCount, maxInProgress, maxKept}
 use Rattle.rules.specs.Context.{hardOverSoft, Frame, soft, hard, mayHoldSoft, mayHoldHard}
 use Rattle.rules.specs.HeldLocks.{First, HeldLock, Core, freshCore}
 use Rattle.rules.specs.Marks.{Level, hardIrq, softIrq, Usage, unsafe}
 use Rattle.rules.specs.Graph.{Kind, Dependencies, Graph}
 use Rattle.rules.specs.KindNames.{someKind}
+use Rattle.rules.specs.Crosslocks.{Kept, Crosslocks, sizeOf}
 use Rattle.rules.specs.Run.{Journal, State}
 
 pub record ValidLock (K : ℕ) (h : HeldLock) : Type 0 where
@@ -42,8 +44,23 @@ pub record ValidJournal (locks : Dependencies) (j : Journal) : Type 0 where
   pub at-most : (f t : ℕ) → j .seen f t ≤ maxAccepted
   pub numbered : (f t : ℕ) → eqb (j .seen f t) 0 ≡ not (someKind (locks f t))
 
+-- An entry of the history.
+pub data ValidEntry (K : ℕ) : Option Kept → Type 0 where
+  struck : ValidEntry K none
+  counts : {e : Kept} → e .core < coreCount → e .frame ≤ hard → e .class < K → e .mode < heldModes → ValidEntry K (some e)
+
+pub record ValidCross (K : ℕ) (x : Crosslocks) : Type 0 where
+  pub declared : (c : ℕ) → x .declared c ≡ true → c < K
+  pub progress : (c : ℕ) → x .progress c ≡ true → x .declared c ≡ true
+  pub few : sizeOf (x .progress) ≤ maxInProgress
+  pub kept : length (x .history) ≤ maxKept
+  pub since : (c : ℕ) → x .since c ≤ maxAccepted
+  pub no-more : (c : ℕ) → maxClasses ≤ c → x .since c ≡ 0
+  pub entries : (i : ℕ) → i < length (x .history) → ValidEntry K (getD (x .history) i none)
+
 pub record Valid (K : ℕ) (s : State) : Type 0 where
   pub cores : (i : ℕ) → ValidCore K (s .cores i)
   pub no-more : (i : ℕ) → coreCount ≤ i → s .cores i ≡ freshCore
   pub graph : ValidGraph K (s .graph)
+  pub cross : ValidCross K (s .cross)
   pub journal : ValidJournal (s .graph .locks) (s .journal)

@@ -13,6 +13,7 @@ use Rattle.benches.proofs.refusal.Lts as lts
 use Rattle.fit.proofs.fits.Reads as fits-reads
 use Rattle.benches.proofs.has_room.Reads as has-room-reads
 use Rattle.benches.proofs.larger.Reads as larger-reads
+use Rattle.benches.proofs.same_classes.Reads as same-classes-reads
 
 fits-requires : tie.Need-fits-requires
 fits-requires c κs = search needs
@@ -47,23 +48,26 @@ has-room-requires c κs = rw (c .larger .ensures) (larger-few _ _ (facts _ _ _ (
 returns-3 : tie.Need-returns-3
 returns-3 c = no-room _ _ _ _ _ _ (sym (c .before .before .before .before .before .before .before .before .fits2 .ensures) ∙ not-false _ (c .before .before .before .before .before .before .before .if1 .left)) (sym (c .before .before .before .before .before .before .fits3 .ensures) ∙ not-false _ (c .before .before .before .before .before .if2 .left)) (rw (c .before .before .larger .ensures) at (sym (c .before .has-room .ensures) ∙ not-true _ (c .if3 .taken)))
 
+same-classes-requires : tie.Need-same-classes-requires
+same-classes-requires c κs = (facts _ _ _ (sym (c .before .before .before .before .before .before .before .before .fits2 .ensures) ∙ not-false _ (c .before .before .before .before .before .before .before .if1 .left)) .long, facts _ _ _ (sym (c .before .before .before .before .before .before .fits3 .ensures) ∙ not-false _ (c .before .before .before .before .before .if2 .left)) .long)
+
 returns-4 : tie.Need-returns-4
-returns-4 c = other-classes _ _ _ _ _ _ (sym (c .before .before .before .before .before .before .before .before .before .fits2 .ensures) ∙ not-false _ (c .before .before .before .before .before .before .before .before .if1 .left)) (sym (c .before .before .before .before .before .before .before .fits3 .ensures) ∙ not-false _ (c .before .before .before .before .before .before .if2 .left)) (rw (c .before .before .before .larger .ensures) at (sym (c .before .before .has-room .ensures) ∙ not-false _ (c .before .if3 .left))) (c .if4 .taken)
+returns-4 c = other-classes _ _ _ _ _ _ (sym (c .before .before .before .before .before .before .before .before .before .before .fits2 .ensures) ∙ not-false _ (c .before .before .before .before .before .before .before .before .before .if1 .left)) (sym (c .before .before .before .before .before .before .before .before .fits3 .ensures) ∙ not-false _ (c .before .before .before .before .before .before .before .if2 .left)) (rw (c .before .before .before .before .larger .ensures) at (sym (c .before .before .before .has-room .ensures) ∙ not-false _ (c .before .before .if3 .left))) (sym (c .before .same-classes .ensures) ∙ not-true _ (c .if4 .taken))
 
 shared-slice-read-if5 : tie.Need-shared-slice-read-if5
-shared-slice-read-if5 c = omega (arith, facts _ _ _ (sym (c .before .before .before .before .before .before .before .before .before .before .fits2 .ensures) ∙ not-false _ (c .before .before .before .before .before .before .before .before .before .if1 .left)) .long)
+shared-slice-read-if5 c = omega (arith, facts _ _ _ (sym (c .before .before .before .before .before .before .before .before .before .before .before .fits2 .ensures) ∙ not-false _ (c .before .before .before .before .before .before .before .before .before .before .if1 .left)) .long)
 
 returns-5 : tie.Need-returns-5
-returns-5 c = first-closed _ _ _ _ _ _ (sym (c .before .before .before .before .before .before .before .before .before .before .before .fits2 .ensures) ∙ not-false _ (c .before .before .before .before .before .before .before .before .before .before .if1 .left)) (sym (c .before .before .before .before .before .before .before .before .before .fits3 .ensures) ∙ not-false _ (c .before .before .before .before .before .before .before .before .if2 .left)) (rw (c .before .before .before .before .before .larger .ensures) at (sym (c .before .before .before .before .has-room .ensures) ∙ not-false _ (c .before .before .before .if3 .left))) (c .before .before .if4 .left) (c .if5 .taken)
+returns-5 c = first-closed _ _ _ _ _ _ (sym (c .before .before .before .before .before .before .before .before .before .before .before .before .fits2 .ensures) ∙ not-false _ (c .before .before .before .before .before .before .before .before .before .before .before .if1 .left)) (sym (c .before .before .before .before .before .before .before .before .before .before .fits3 .ensures) ∙ not-false _ (c .before .before .before .before .before .before .before .before .before .if2 .left)) (rw (c .before .before .before .before .before .before .larger .ensures) at (sym (c .before .before .before .before .before .has-room .ensures) ∙ not-false _ (c .before .before .before .before .if3 .left))) (sym (c .before .before .before .same-classes .ensures) ∙ not-false _ (c .before .before .if4 .left)) (c .if5 .taken)
 
 shared-slice-read-if6 : tie.Need-shared-slice-read-if6
-shared-slice-read-if6 c = omega (arith, facts _ _ _ (sym (c .before .before .before .before .before .before .before .before .before .before .fits3 .ensures) ∙ not-false _ (c .before .before .before .before .before .before .before .before .before .if2 .left)) .long)
+shared-slice-read-if6 c = omega (arith, facts _ _ _ (sym (c .before .before .before .before .before .before .before .before .before .before .before .fits3 .ensures) ∙ not-false _ (c .before .before .before .before .before .before .before .before .before .before .if2 .left)) .long)
 
 returns-6 : tie.Need-returns-6
-returns-6 c = second-closed _ _ _ _ _ _ (sym (c .before .before .before .before .before .before .before .before .before .before .before .before .before .fits2 .ensures) ∙ not-false _ (c .before .before .before .before .before .before .before .before .before .before .before .before .if1 .left)) (sym (c .before .before .before .before .before .before .before .before .before .before .before .fits3 .ensures) ∙ not-false _ (c .before .before .before .before .before .before .before .before .before .before .if2 .left)) (rw (c .before .before .before .before .before .before .before .larger .ensures) at (sym (c .before .before .before .before .before .before .has-room .ensures) ∙ not-false _ (c .before .before .before .before .before .if3 .left))) (c .before .before .before .before .if4 .left) (c .before .before .if5 .left) (c .if6 .taken)
+returns-6 c = second-closed _ _ _ _ _ _ (sym (c .before .before .before .before .before .before .before .before .before .before .before .before .before .before .fits2 .ensures) ∙ not-false _ (c .before .before .before .before .before .before .before .before .before .before .before .before .before .if1 .left)) (sym (c .before .before .before .before .before .before .before .before .before .before .before .before .fits3 .ensures) ∙ not-false _ (c .before .before .before .before .before .before .before .before .before .before .before .if2 .left)) (rw (c .before .before .before .before .before .before .before .before .larger .ensures) at (sym (c .before .before .before .before .before .before .before .has-room .ensures) ∙ not-false _ (c .before .before .before .before .before .before .if3 .left))) (sym (c .before .before .before .before .before .same-classes .ensures) ∙ not-false _ (c .before .before .before .before .if4 .left)) (c .before .before .if5 .left) (c .if6 .taken)
 
 returns-7 : tie.Need-returns-7
-returns-7 c = not-refused _ _ _ _ _ _ (sym (c .before .before .before .before .before .before .before .before .before .before .before .before .before .fits2 .ensures) ∙ not-false _ (c .before .before .before .before .before .before .before .before .before .before .before .before .if1 .left)) (sym (c .before .before .before .before .before .before .before .before .before .before .before .fits3 .ensures) ∙ not-false _ (c .before .before .before .before .before .before .before .before .before .before .if2 .left)) (rw (c .before .before .before .before .before .before .before .larger .ensures) at (sym (c .before .before .before .before .before .before .has-room .ensures) ∙ not-false _ (c .before .before .before .before .before .if3 .left))) (c .before .before .before .before .if4 .left) (c .before .before .if5 .left) (c .if6 .left)
+returns-7 c = not-refused _ _ _ _ _ _ (sym (c .before .before .before .before .before .before .before .before .before .before .before .before .before .before .fits2 .ensures) ∙ not-false _ (c .before .before .before .before .before .before .before .before .before .before .before .before .before .if1 .left)) (sym (c .before .before .before .before .before .before .before .before .before .before .before .before .fits3 .ensures) ∙ not-false _ (c .before .before .before .before .before .before .before .before .before .before .before .if2 .left)) (rw (c .before .before .before .before .before .before .before .before .larger .ensures) at (sym (c .before .before .before .before .before .before .before .has-room .ensures) ∙ not-false _ (c .before .before .before .before .before .before .if3 .left))) (sym (c .before .before .before .before .before .same-classes .ensures) ∙ not-false _ (c .before .before .before .before .if4 .left)) (c .before .before .if5 .left) (c .if6 .left)
 
 pub refusal-spec : {M : Type 1} → statement M
 refusal-spec =
@@ -80,6 +84,7 @@ refusal-spec =
     larger-requires
     has-room-requires
     returns-3
+    same-classes-requires
     returns-4
     shared-slice-read-if5
     returns-5

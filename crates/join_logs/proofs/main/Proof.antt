@@ -36,14 +36,14 @@ slice-aggregate-replay-5 c = search needs
 slice-aggregate-replay-6 : tie.Need-slice-aggregate-replay-6
 slice-aggregate-replay-6 c = search needs
 
+slice-aggregate-replay-7 : tie.Need-slice-aggregate-replay-7
+slice-aggregate-replay-7 c = search needs
+
 replay-requires : tie.Need-replay-requires
 replay-requires c κs = search needs
 
 open-log-requires-2 : tie.Need-open-log-requires-2
 open-log-requires-2 c κs = search needs
-
-slice-aggregate-replay-7 : tie.Need-slice-aggregate-replay-7
-slice-aggregate-replay-7 c = search needs
 
 slice-aggregate-replay-8 : tie.Need-slice-aggregate-replay-8
 slice-aggregate-replay-8 c = search needs
@@ -59,6 +59,12 @@ slice-aggregate-replay-11 c = search needs
 
 slice-aggregate-replay-12 : tie.Need-slice-aggregate-replay-12
 slice-aggregate-replay-12 c = search needs
+
+slice-aggregate-replay-13 : tie.Need-slice-aggregate-replay-13
+slice-aggregate-replay-13 c = search needs
+
+slice-aggregate-replay-14 : tie.Need-slice-aggregate-replay-14
+slice-aggregate-replay-14 c = search needs
 
 replay-requires-2 : tie.Need-replay-requires-2
 replay-requires-2 c κs = search needs
@@ -134,7 +140,7 @@ slice-aggregate-tell-own-3 : tie.Need-slice-aggregate-tell-own-3
 slice-aggregate-tell-own-3 c = search needs
 
 tell-own-requires : tie.Need-tell-own-requires
-tell-own-requires c κs = (omega arith, omega arith, shown (c .before .before .before .before .before .before .before .before .before .before .before .before .before .before .before .before .before .before .before .before .before .before .before .before .before .before .before .before .replay .ensures))
+tell-own-requires c κs = (omega arith, omega arith, shown (c .before .before .before .before .before .before .before .before .before .before .before .before .before .before .before .before .before .before .before .before .before .before .before .before .before .before .before .before .before .before .before .replay .ensures))
 
 slice-aggregate-tell-own-4 : tie.Need-slice-aggregate-tell-own-4
 slice-aggregate-tell-own-4 c = search needs
@@ -146,7 +152,7 @@ slice-aggregate-tell-own-6 : tie.Need-slice-aggregate-tell-own-6
 slice-aggregate-tell-own-6 c = search needs
 
 tell-own-requires-2 : tie.Need-tell-own-requires-2
-tell-own-requires-2 c κs = (omega arith, omega arith, shown (c .before .before .before .before .before .before .before .before .before .before .before .before .before .before .before .before .before .before .before .replay2 .ensures))
+tell-own-requires-2 c κs = (omega arith, omega arith, shown (c .before .before .before .before .before .before .before .before .before .before .before .before .before .before .before .before .before .before .before .before .replay2 .ensures))
 
 returns-2 : tie.Need-returns-2
 returns-2 c = search needs
@@ -162,14 +168,16 @@ main-spec =
     slice-aggregate-replay-4
     slice-aggregate-replay-5
     slice-aggregate-replay-6
+    slice-aggregate-replay-7
     replay-requires
     open-log-requires-2
-    slice-aggregate-replay-7
     slice-aggregate-replay-8
     slice-aggregate-replay-9
     slice-aggregate-replay-10
     slice-aggregate-replay-11
     slice-aggregate-replay-12
+    slice-aggregate-replay-13
+    slice-aggregate-replay-14
     replay-requires-2
     is-clean-requires
     is-clean-requires-2

@@ -1,11 +1,11 @@
--- A desk of zeros, and its first byte.
+-- A desk of zeros, its first byte, and the declared word.
 use mathlib.Core.Path.{refl, sym, ap, _∙_, subst}
 use mathlib.Core.List.{List}
 use Prim.Native.Nat.{ℕ, _+_, _≤_}
 use native.Mathlib.Omega.{arith}
-use lib.ListN.{length, getD, set}
-use Rattle.layout.specs.Layout.{classesAt, statesAt, deskSize}
-use Rattle.opening.proofs.Opens.{zeroed-length, zeroed-below, zeroed-front, desk-length}
+use lib.ListN.{length, getD}
+use Rattle.layout.specs.Layout.{statesAt, deskSize}
+use Rattle.opening.proofs.Opens.{zeroed-length, zeroed-below, zeroed-front, desk-length, word-room, desk-opened}
 use borrow.Author.Needs.{needs}
 use Rattle.opening.proofs.fresh_desk.Statement.{statement}
 use Rattle.opening.proofs.fresh_desk.Tie as tie
@@ -38,16 +38,31 @@ seat-cores-requires c κs =
 slice-write-desk : tie.Need-slice-write-desk
 slice-write-desk c = search needs
 
+put-word-requires : tie.Need-put-word-requires
+put-word-requires c κs =
+    let d = c .before .before .before in
+    let f = d .before .before .before .before in
+    let b = f .before .before .before in
+    word-room (b .args .classes) (b .args .declared) (b .args .desk .now) (b .pre) _
+    (d .seat-cores .ensures ∙ zeroed-front deskSize (b .args .desk .now) (b .pre) deskSize _ refl (f .fill .ensures))
+
 same-length : tie.Need-same-length
 same-length c =
-    let desk = c .before .before .before .before .before .before .before .before .before .args .desk .now in
-    let long = c .before .before .before .before .before .before .before .before .before .pre in
-    ap (λ (l : List ℕ). length (set l classesAt (c .before .before .before .before .before .before .before .before .before .args .classes))) (c .before .before .seat-cores .ensures ∙ zeroed-front deskSize desk long deskSize _ refl (c .before .before .before .before .before .before .fill .ensures))
-    ∙ desk-length (c .before .before .before .before .before .before .before .before .before .args .classes) desk long
+    let d = c .before .before .before .before .before .before in
+    let f = d .before .before .before .before in
+    let b = f .before .before .before in
+    ap length
+    (desk-opened (b .args .classes) (b .args .declared) (b .args .desk .now) (b .pre) _
+    (d .seat-cores .ensures ∙ zeroed-front deskSize (b .args .desk .now) (b .pre) deskSize _ refl (f .fill .ensures)) _ (c .before .before .put-word .ensures))
+    ∙ desk-length (b .args .classes) (b .args .declared) (b .args .desk .now) (b .pre)
 
 returns : tie.Need-returns
 returns c =
-    ap (λ (l : List ℕ). set l classesAt (c .before .before .before .before .before .before .before .before .before .args .classes)) (c .before .before .seat-cores .ensures ∙ zeroed-front deskSize (c .before .before .before .before .before .before .before .before .before .args .desk .now) (c .before .before .before .before .before .before .before .before .before .pre) deskSize _ refl (c .before .before .before .before .before .before .fill .ensures))
+    let d = c .before .before .before .before .before .before in
+    let f = d .before .before .before .before in
+    let b = f .before .before .before in
+    desk-opened (b .args .classes) (b .args .declared) (b .args .desk .now) (b .pre) _
+    (d .seat-cores .ensures ∙ zeroed-front deskSize (b .args .desk .now) (b .pre) deskSize _ refl (f .fill .ensures)) _ (c .before .before .put-word .ensures)
 
 pub fresh-desk-spec : {M : Type 1} → statement M
 fresh-desk-spec =
@@ -59,5 +74,6 @@ fresh-desk-spec =
     fill-requires
     seat-cores-requires
     slice-write-desk
+    put-word-requires
     same-length
     returns)

@@ -4,7 +4,7 @@ use Prim.Native.Nat.{_-_}
 use lib.Seq.{getD-take}
 use Rattle.progress.specs.Feed.{looseAt}
 use Rattle.progress.specs.Code.{feedOf}
-use Rattle.progress.proofs.Bytes.{six, length-loose, answer-byte, opened-byte, count-byte, loose-byte, unused-byte, number-byte}
+use Rattle.progress.proofs.Bytes.{twelve, length-loose, answer-byte, opened-byte, count-byte, loose-byte, unused-byte, number-byte}
 use borrow.Author.Needs.{needs}
 use Rattle.progress.proofs.byte_of.Statement.{statement}
 use Rattle.progress.proofs.byte_of.Tie as tie
@@ -24,7 +24,7 @@ cast-result c = search needs
 returns-4 : tie.Need-returns-4
 returns-4 c =
     let a = c .before .before .before .args in
-    let l = length-loose (a .t1 .loose) (a .t1 .count) (six (c .before .before .before .args .t1 .loose) (c .before .before .before .good .0 .1 .1 .1 .1 .0 .1 .0 .1)) (c .before .before .before .pre .1) in
+    let l = length-loose (a .t1 .loose) (a .t1 .count) (twelve (c .before .before .before .args .t1 .loose) (c .before .before .before .good .0 .1 .1 .1 .1 .0 .1 .0 .1)) (c .before .before .before .pre .1) in
     sym l ∙ count-byte (feedOf (a .t1)) (a .i) (c .before .before .if1 .left) (c .before .if2 .left) (c .if4 .taken)
 
 sub-place : tie.Need-sub-place
@@ -42,7 +42,7 @@ returns-5 c =
 returns-6 : tie.Need-returns-6
 returns-6 c =
     let a = c .before .before .before .before .before .args in
-    unused-byte (a .t1 .loose) (a .t1 .count) (a .i - looseAt) (six (c .before .before .before .before .before .args .t1 .loose) (c .before .before .before .before .before .good .0 .1 .1 .1 .1 .0 .1 .0 .1)) (c .before .before .before .before .before .pre .1) (c .if6 .left)
+    unused-byte (a .t1 .loose) (a .t1 .count) (a .i - looseAt) (twelve (c .before .before .before .before .before .args .t1 .loose) (c .before .before .before .before .before .good .0 .1 .1 .1 .1 .0 .1 .0 .1)) (c .before .before .before .before .before .pre .1) (c .if6 .left)
     ∙ loose-byte (feedOf (a .t1)) (a .i) (c .before .before .before .before .if1 .left) (c .before .before .before .if2 .left) (c .before .before .if4 .left) (c .before .if5 .taken)
 
 cast-result-2 : tie.Need-cast-result-2

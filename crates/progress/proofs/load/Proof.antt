@@ -24,15 +24,15 @@ shared-slice-read-t9 c = search needs
 cast-t10 : tie.Need-cast-t10
 cast-t10 c = search needs
 
-number-of-requires : tie.Need-number-of-requires
-number-of-requires c κs = search needs
+word-at-requires : tie.Need-word-at-requires
+word-at-requires c κs = search needs
 
 returns : tie.Need-returns
 returns c =
     let f = c .before .before .before .before .before .before in
     let feed = f .args .feed .now in
     let same = c .before .before .loose-of .ensures .same (getD feed countAt 0) (f .pre .1) in (
-      viewed feed _ _ same (c .number-of .ensures),
+      viewed feed _ _ same (c .word-at .ensures),
       rw same (sym (length-take-le (getD feed countAt 0) (drop looseAt feed) (simp length-drop (omega (arith, f .pre .0, f .pre .1))))),
       f .pre .1,
     )
@@ -46,5 +46,5 @@ load-spec =
     loose-of-requires
     shared-slice-read-t9
     cast-t10
-    number-of-requires
+    word-at-requires
     returns)

@@ -1,5 +1,5 @@
 use Rattle.progress.specs.Code.{feedOf}
-use Rattle.progress.proofs.Bytes.{six, part-behind, with-loose}
+use Rattle.progress.proofs.Bytes.{twelve, part-behind, with-loose}
 use mathlib.Core.Path.{_≡_, refl, sym, ap, _∙_}
 use Prim.Native.Nat.{_+_, _≤_}
 use native.Mathlib.Omega.{arith}
@@ -16,8 +16,8 @@ part-loose-start c = search needs
 
 part-loose-end : tie.Need-part-loose-end
 part-loose-end c =
-    let l : length (c .before .before .args .p .loose) ≡ 6 = simp length-map at (c .before .before .good .0 .1 .1 .1 .1 .0 .1 .0 .1) in
-    let h : 6 ≤ length (c .before .before .args .p .loose) = omega arith in
+    let l : length (c .before .before .args .p .loose) ≡ 12 = simp length-map at (c .before .before .good .0 .1 .1 .1 .1 .0 .1 .0 .1) in
+    let h : 12 ≤ length (c .before .before .args .p .loose) = omega arith in
     h
 
 copy-requires : tie.Need-copy-requires
@@ -29,7 +29,7 @@ add-t8 c = search needs
 returns : tie.Need-returns
 returns c =
     let a = c .before .before .before .before .before .args in
-    (with-loose (feedOf (a .p)) _ _ (rw (c .before .copy .ensures .1) (part-behind (a .p .loose) (a .part .now) _ _ (a .p .count) (omega (arith, six (a .p .loose) (c .before .before .before .before .before .good .0 .1 .1 .1 .1 .0 .1 .0 .1))))), refl)
+    (with-loose (feedOf (a .p)) _ _ (rw (c .before .copy .ensures .1) (part-behind (a .p .loose) (a .part .now) _ _ (a .p .count) (omega (arith, twelve (a .p .loose) (c .before .before .before .before .before .good .0 .1 .1 .1 .1 .0 .1 .0 .1))))), refl)
 
 pub with-part-spec : {M : Type 1} → statement M
 with-part-spec =

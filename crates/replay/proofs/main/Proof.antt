@@ -30,6 +30,9 @@ slice-aggregate-text-of-input-6 c = search needs
 slice-aggregate-text-of-input-7 : tie.Need-slice-aggregate-text-of-input-7
 slice-aggregate-text-of-input-7 c = search needs
 
+slice-aggregate-text-of-input-8 : tie.Need-slice-aggregate-text-of-input-8
+slice-aggregate-text-of-input-8 c = search needs
+
 text-of-input-requires : tie.Need-text-of-input-requires
 text-of-input-requires c κs = search needs
 
@@ -38,8 +41,8 @@ array-share-prefix-out c = search needs
 
 slice-aggregate-print : tie.Need-slice-aggregate-print
 slice-aggregate-print c =
-    let t = c .before .before .before .before .before .before .before .before .text-of-input in
-    sym (length-take-le (t .result .size) (t .last .1 .1 .1 .1 .1 .1 .0) (t .ensures .text .inside))
+    let t = c .before .before .before .before .before .before .before .before .before .text-of-input in
+    sym (length-take-le (t .result .size) (t .last .1 .1 .1 .1 .1 .1 .1 .0) (t .ensures .text .inside))
 
 print-requires : tie.Need-print-requires
 print-requires c κs = search needs
@@ -58,6 +61,7 @@ main-spec =
     slice-aggregate-text-of-input-5
     slice-aggregate-text-of-input-6
     slice-aggregate-text-of-input-7
+    slice-aggregate-text-of-input-8
     text-of-input-requires
     array-share-prefix-out
     slice-aggregate-print

@@ -14,7 +14,7 @@ replay-requires c κs = search needs
 
 put-text-requires : tie.Need-put-text-requires
 put-text-requires c κs =
-    (search needs, search needs, shown (c .before .before .before .before .before .before .before .before .before .before .before .before .before .before .replay .ensures))
+    (search needs, search needs, shown (c .before .before .before .before .before .before .before .before .before .before .before .before .before .before .before .before .replay .ensures))
 
 is-answer-requires : tie.Need-is-answer-requires
 is-answer-requires c κs = search needs
@@ -40,6 +40,9 @@ same-length-6 c = search needs
 same-length-7 : tie.Need-same-length-7
 same-length-7 c = search needs
 
+same-length-8 : tie.Need-same-length-8
+same-length-8 c = search needs
+
 returns : tie.Need-returns
 returns c = search needs
 
@@ -57,4 +60,5 @@ text-of-input-spec =
     same-length-5
     same-length-6
     same-length-7
+    same-length-8
     returns)
