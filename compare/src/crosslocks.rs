@@ -970,6 +970,10 @@ fn first_refusal(rng: &mut Rng, each: &mut dyn FnMut(Case) -> bool) -> bool {
     all.all(|((kind, class, mode), with)| {
         let has = |bit: u32| with >> bit & 1 == 1;
         let (full_frame, full_history, in_list, full_list, last_count, closed) = (has(0), has(1), has(2), has(3), has(4), has(5));
+        // A malformed one on a closed desk is left to demand 3's pairs.
+        if closed && (kind == 13 || kind == 10 && mode == 1) {
+            return true;
+        }
         // Classes 0 to 16 are crosslocks; 16 is not in progress.
         let progress: Vec<u8> = match (in_list, full_list) {
             (false, false) => vec![],

@@ -1270,7 +1270,7 @@ pub const FIXED: [(&str, u64); 86] = [
     (crosslocks::EACH_CLASS, 67),
     (crosslocks::EACH_SINCE, 119),
     (crosslocks::STRUCK_OUT, 128),
-    (crosslocks::FIRST_REFUSAL, 1344),
+    (crosslocks::FIRST_REFUSAL, 1280),
     (crosslocks::FULL_LISTS, 6),
     (crosslocks::EACH_LIMIT, 731),
     (crosslocks::HISTORY_BYTES, 5120),
