@@ -349,6 +349,7 @@ fn obey(mut args: impl Iterator<Item = String>) -> Result<bool, String> {
         first: plant.and_then(|plant| match plant {
             Plant { of_balance: true, .. } => Some(balances::fixed as fn(&mut dyn FnMut(Case) -> bool)),
             Plant { of_join: true, .. } => Some(joins::fixed),
+            Plant { of_crosslock: true, .. } => Some(crosslocks::fixed),
             _ => None,
         }),
     };
