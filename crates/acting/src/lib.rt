@@ -1,4 +1,6 @@
 // What the event of a record does, said once for all kinds; and the last refusal, which any of them may meet.
+#![tactic(auto)]
+
 ghost use Rattle.std.specs.Prelude.{◌≡◌, ◌≤◌, leb, length};
 ghost use Rattle.rules.specs.Limits.{max_accepted};
 ghost use Rattle.layout.specs.Layout.{desk_size, accepted_of};

@@ -1,4 +1,6 @@
 // What a well-formed record does to fit buffers: it is refused with nothing changed, or its core, frame, crosslocks and lock dependencies are updated.
+#![tactic(auto)]
+
 ghost use Rattle.std.specs.Prelude.{◌≡◌, List, ℕ, ◌<◌, ◌≤◌, length};
 ghost use Rattle.rules.specs.Context.{leaves_handler};
 ghost use Rattle.rules.specs.Record.{kind_of};

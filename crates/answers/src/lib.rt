@@ -1,5 +1,6 @@
 // The numbers of the answers, once for the code. Opening gives OK or BAD_OPENING, the question OK, UNFIT or NO_CLASS, the step OK to UNFIT but BAD_OPENING
 // and WRONG_SORT to HISTORY_FULL, the joiner OK, FAULT or UNFIT to BENCH_CLOSED.
+#![tactic(auto)]
 
 pub const OK: u8 = 0;
 

@@ -1,4 +1,6 @@
 // The balance of a piece, of each lock class: its acquires less its releases, over the records of the piece that are not malformed.
+#![tactic(auto)]
+
 ghost use Rattle.std.specs.Prelude.{◌≡◌, ◌≤◌, ◌+ℤ◌};
 ghost use Rattle.std.specs.Int.Signed.{mag};
 ghost use Rattle.balance.specs.Code.{Room, part_of, counted};

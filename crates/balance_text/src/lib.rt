@@ -1,4 +1,6 @@
 // The text of the balances of a piece.
+#![tactic(auto)]
+
 ghost use Rattle.std.specs.Prelude.{◌≡◌, ◌+◌, ◌<◌, ◌≤◌, pos, nat_abs, length, get_or};
 ghost use Rattle.rules.specs.Limits.{max_classes};
 ghost use Rattle.log.specs.Text.{Appended};

@@ -1,4 +1,6 @@
 // Document 02, i: when two benches, each a desk with its two sheets, are not joined.
+#![tactic(auto)]
+
 ghost use Rattle.std.specs.Prelude.{◌≡◌, ◌≤◌, length};
 ghost use Rattle.rules.specs.Limits.{max_classes};
 ghost use Rattle.layout.specs.Layout.{desk_size};

@@ -1,5 +1,7 @@
 // Whether there is a cycle, and how many dependencies the shortest has at most. A class whose usage marks clash is a cycle by itself: that is
 // read from a table, and the walk is for the rest.
+#![tactic(auto)]
+
 ghost use Rattle.std.specs.Prelude.{◌≤◌, length};
 ghost use Rattle.rules.specs.Limits.{max_classes};
 ghost use Rattle.layout.specs.Layout.{desk_size};

@@ -1,4 +1,6 @@
 // What follows an accepted record.
+#![tactic(auto)]
+
 ghost use Rattle.std.specs.Prelude.{◌<◌, ◌≤◌, length};
 ghost use Rattle.rules.specs.Limits.{core_count};
 ghost use Rattle.layout.specs.Layout.{seen_size, slip_size, classes_of};

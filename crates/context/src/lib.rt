@@ -1,4 +1,6 @@
 // Interrupt context: a core's state, the next-state table, and the bits that a state and a mode set.
+#![tactic(auto)]
+
 ghost use Rattle.std.specs.Prelude.{◌≡◌, ◌<◌};
 ghost use Rattle.rules.specs.Limits.{held_modes, mode_count};
 ghost use Rattle.rules.specs.Context.{next_state, frame_of};

@@ -1,4 +1,6 @@
 // The frame in which a core holds locks, and what the bytes of a core say.
+#![tactic(auto)]
+
 ghost use Rattle.std.specs.Prelude.{◌≡◌, ◌<◌, ◌≤◌, length};
 ghost use Rattle.rules.specs.Context.{frame_of};
 ghost use Rattle.rules.specs.Limits.{core_count};

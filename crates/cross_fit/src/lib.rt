@@ -1,4 +1,6 @@
 // The part of the fit test that looks at crosslocks: those of the desk, and the history.
+#![tactic(auto)]
+
 ghost use Rattle.std.specs.Prelude.{◌≡◌, ◌≤◌, length};
 ghost use Rattle.rules.specs.Limits.{max_classes, max_kept};
 ghost use Rattle.layout.specs.Layout.{desk_size, history_size, classes_of, kept_of};

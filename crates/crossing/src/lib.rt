@@ -1,4 +1,6 @@
 // What the three kinds of a crosslock do: its acquire, a commit, its release.
+#![tactic(auto)]
+
 ghost use Rattle.std.specs.Prelude.{◌≡◌, List, ℕ, ◌<◌, ◌≤◌, length};
 ghost use Rattle.rules.specs.Record.{kind_of};
 ghost use Rattle.rules.specs.WellFormed.{WellFormed};

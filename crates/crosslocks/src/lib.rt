@@ -1,4 +1,6 @@
 // The crosslocks of a desk: which classes are declared, and which of them are in progress.
+#![tactic(auto)]
+
 ghost use Rattle.std.specs.Prelude.{◌≡◌, ◌<◌, ◌≤◌, leb, length};
 ghost use Rattle.rules.specs.Limits.{max_classes, max_in_progress, max_kept};
 ghost use Rattle.rules.specs.Crosslocks.{size_of, is_idle};

@@ -1,4 +1,6 @@
 // The part of the fit test of document 01 that looks at the desk: cores, frames, origins, usage marks.
+#![tactic(auto)]
+
 ghost use Rattle.std.specs.Prelude.{◌≡◌, ◌&&◌, ◌||◌, ◌<◌, ◌≤◌, ◌*◌, ◌/◌, ◌%◌, leb, eqb, length};
 ghost use Rattle.rules.specs.Limits.{core_count, max_classes, max_depth};
 ghost use Rattle.rules.specs.Context.{may_hold_soft, may_hold_hard};

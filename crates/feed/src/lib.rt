@@ -1,4 +1,6 @@
 // Document 02, b: a log in pieces. The one place that cuts a log into its header and its records.
+#![tactic(auto)]
+
 ghost use Rattle.std.specs.Prelude.{◌<◌, ◌≤◌};
 ghost use Rattle.rules.specs.Log.{unit_size};
 ghost use Rattle.progress.specs.Feed.{most_loose};

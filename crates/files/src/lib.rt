@@ -1,4 +1,6 @@
 // What the programs do with files: a log from a file is fed, piece by piece as the reads give it, and ended; a text is written.
+#![tactic(auto)]
+
 ghost use Rattle.std.specs.Prelude.{◌≤◌, length};
 ghost use Rattle.progress.specs.Feed.{feed_size};
 ghost use Rattle.validator.specs.Calls.{buffers};

@@ -1,4 +1,6 @@
 // The fit test of document 01: whether desk and both sheets are such as opening and steps leave.
+#![tactic(auto)]
+
 ghost use Rattle.std.specs.Prelude.{◌≡◌, ◌≤◌, ◌*◌, length};
 ghost use Rattle.rules.specs.Limits.{max_classes};
 ghost use Rattle.layout.specs.Layout.{sheet_size, number_size};

@@ -1,4 +1,6 @@
 // The held locks of a frame, in the bytes of the desk.
+#![tactic(auto)]
+
 ghost use Rattle.std.specs.Prelude.{◌≡◌, ◌<◌, ◌≤◌, length};
 ghost use Rattle.rules.specs.Limits.{max_depth, mode_count};
 ghost use Rattle.layout.specs.Layout.{frame_count, desk_size, depth_of};

@@ -1,4 +1,6 @@
 // The history: the acquires that are kept while a crosslock is in progress, and what a commit draws to them.
+#![tactic(auto)]
+
 ghost use Rattle.std.specs.Prelude.{◌≡◌, suc, ◌*◌, ◌<◌, ◌≤◌, length};
 ghost use Rattle.rules.specs.Limits.{max_accepted, max_kept, mode_count};
 ghost use Rattle.layout.specs.Layout.{frame_count, desk_size, history_size, seen_size, accepted_of, kept_of};

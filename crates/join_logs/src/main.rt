@@ -2,6 +2,8 @@
 // itself.
 //
 // The program is thin: each log is run by `files::replay`, as `replay` runs one, and the texts are `join_text`'s.
+#![tactic(auto)]
+
 ghost use Rattle.std.specs.Prelude.{◌+◌, ◌≤◌, length};
 ghost use Rattle.rules.specs.Limits.{max_classes};
 ghost use Rattle.layout.specs.Layout.{slip_size};

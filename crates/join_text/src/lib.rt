@@ -1,4 +1,6 @@
 // Document 02, i: the text of a join of two logs.
+#![tactic(auto)]
+
 ghost use Rattle.std.specs.Prelude.{◌≡◌, ◌++◌, ◌+◌, ◌≤◌, length};
 ghost use Rattle.rules.specs.Limits.{max_classes};
 ghost use Rattle.layout.specs.Layout.{slip_size, count_of};

@@ -1,4 +1,6 @@
 // Document 02, i: two benches, one drawing. Joins two open desks of one K, with their sheets, into a third.
+#![tactic(auto)]
+
 ghost use Rattle.benches.specs.Benches.{bench};
 ghost use Rattle.joiner.specs.Joining.{Joined};
 ghost use Rattle.joiner.specs.Parts.{Ready, DrawnOfBoth};

@@ -1,4 +1,5 @@
 // The layout of the buffers, once for the code. specs/Layout.antt is the same for the definitions.
+#![tactic(auto)]
 
 pub const CORES: usize = 8;
 

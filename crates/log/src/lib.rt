@@ -1,4 +1,6 @@
 // Document 01, "Logs for the bench": the text of what came of a log.
+#![tactic(auto)]
+
 ghost use Rattle.std.specs.Prelude.{◌≡◌, ◌++◌, ◌+◌, ◌*◌, ◌<◌, ◌≤◌, length};
 ghost use Rattle.rules.specs.Limits.{max_classes};
 ghost use Rattle.layout.specs.Layout.{slip_size, entries_at, entry_size, count_of};

@@ -255,9 +255,9 @@ module _ (K : ℕ) (d : ℕ → Bool) where
   rest_ordinary o = record { each = λ r m. o.each r (Memᴰ.tail m) }
 
   -- It may come first.
-  moved : (s : State) → s.cross ≡ declaring d → {x : Bytes} {ys ys' : List Bytes} → IsOrdinary x → Ordinary ys' → Put x ys ys' → flow K s ys' ≡ flow K s (x ∷ ys)
+  moved : {x : Bytes} (s : State) → s.cross ≡ declaring d → {ys ys' : List Bytes} → IsOrdinary x → Ordinary ys' → Put x ys ys' → flow K s ys' ≡ flow K s (x ∷ ys)
   moved s z ox o here = refl
-  moved s z {x} ox o (behind {y} {ys} n p) =
+  moved {x} s z ox o (behind {y} {ys} n p) =
       moved (proceed K s y) (proceed_cross s y z (first_ordinary o)) ox (rest_ordinary o) p
       ∙ ap (λ (t : State). flow K t ys) (swapped s z y x (first_ordinary o) ox n)
 
@@ -277,10 +277,10 @@ module _ (K : ℕ) (d : ℕ → Bool) where
   put_same i {x} (behind {y} n p) = shuffled (eqb i (core_of x)) (eqb i (core_of y)) (not_both i x y n) (put_same i p) refl refl refl
 
   -- Each core's answers stay as they are.
-  own_moved : (i : ℕ) (s : State) → s.cross ≡ declaring d → {x : Bytes} {ys ys' : List Bytes} → IsOrdinary x → Ordinary ys' → Put x ys ys'
+  own_moved : (i : ℕ) {x : Bytes} (s : State) → s.cross ≡ declaring d → {ys ys' : List Bytes} → IsOrdinary x → Ordinary ys' → Put x ys ys'
       → to_core i ys' (flow_answers K s ys') ≡ to_core i (x ∷ ys) (flow_answers K s (x ∷ ys))
   own_moved i s z ox o here = refl
-  own_moved i s z {x} ox o (behind {y} {ys} n p) =
+  own_moved i {x} s z ox o (behind {y} {ys} n p) =
       shuffled (eqb i (core_of x)) (eqb i (core_of y)) (not_both i x y n)
       (own_moved i (proceed K s y) (proceed_cross s y z (first_ordinary o)) ox (rest_ordinary o) p)
       (ap answer_by (judged_aside s z y x (first_ordinary o) n))

@@ -1,4 +1,6 @@
 // What an accepted record adds to the numbers: the count in the desk, and those of the pairs at which it draws.
+#![tactic(auto)]
+
 ghost use Rattle.std.specs.Prelude.{suc, ◌<◌, ◌≤◌, length};
 ghost use Rattle.rules.specs.Limits.{max_accepted};
 ghost use Rattle.layout.specs.Layout.{accepted_at, desk_size, seen_size, accepted_of};

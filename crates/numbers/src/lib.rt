@@ -1,4 +1,6 @@
 // Numbers of four bytes in a lent buffer, the low byte first, and words of eight.
+#![tactic(auto)]
+
 ghost use Rattle.std.specs.Prelude.{◌≡◌, ◌+◌, ◌≤◌, ◌<◌, ◌^◌, length};
 ghost use Rattle.layout.specs.Layout.{number_size};
 ghost use Rattle.rules.specs.Number.{low_first};

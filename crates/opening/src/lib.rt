@@ -1,4 +1,6 @@
 // Document 01, "Opening": a fresh desk, two empty sheets and an empty history.
+#![tactic(auto)]
+
 ghost use Rattle.std.specs.Prelude.{◌≡◌, ℕ, ◌<◌, ◌≤◌, length, replicate};
 ghost use Rattle.rules.specs.Limits.{core_count};
 ghost use Rattle.rules.specs.Context.{task_both_on};

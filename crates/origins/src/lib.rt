@@ -1,4 +1,6 @@
 // The origin bits of the desk: one for each place of a held lock, 1 for a try. Bit i is that of place i % MAX_DEPTH of frame i / MAX_DEPTH.
+#![tactic(auto)]
+
 ghost use Rattle.std.specs.Prelude.{◌≡◌, ◌<◌, ◌≤◌, length};
 ghost use Rattle.layout.specs.Layout.{place_count, desk_size, origin_bit};
 ghost use Rattle.origins.specs.Origins.{DigitPut, OriginPut};

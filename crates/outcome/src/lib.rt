@@ -1,4 +1,6 @@
 // What comes of a log, and where it is told.
+#![tactic(auto)]
+
 ghost use Rattle.std.specs.Prelude.{◌≡◌};
 ghost use Rattle.outcome.specs.Outcomes.{outcome_of, is_answer};
 

@@ -1,4 +1,6 @@
 // The library's calls for a host in C: a slice is a pointer and then a length.
+#![tactic(auto)]
+
 ghost use Rattle.balance.specs.Piece.{PieceBalanced};
 ghost use Rattle.feed.specs.Calls.{Started, FedPiece, FedEnd};
 ghost use Rattle.benches.specs.Benches.{bench};

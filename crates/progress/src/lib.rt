@@ -1,4 +1,6 @@
 // How far a feed has come, and the lent buffer in which it is kept between calls. specs/Feed.antt says what its bytes stand for.
+#![tactic(auto)]
+
 ghost use Rattle.std.specs.Prelude.{◌≡◌, ◌++◌, ◌+◌, ◌≤◌, ◌<◌, length, get_or, drop, take};
 ghost use Rattle.rules.specs.Log.{unit_size};
 ghost use Rattle.layout.specs.Fit.{all_below};

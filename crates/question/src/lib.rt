@@ -1,4 +1,6 @@
 // The question: which lock classes end a strong path from one.
+#![tactic(auto)]
+
 ghost use Rattle.question.specs.Question.{Asked};
 
 use answers::{NO_CLASS, OK, UNFIT};

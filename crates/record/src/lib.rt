@@ -1,4 +1,6 @@
 // A record of the log: six bytes, the mark 4C 4B, core, kind, class, mode.
+#![tactic(auto)]
+
 ghost use Rattle.std.specs.Prelude.{◌≡◌};
 ghost use Rattle.rules.specs.Record.{is_malformed, stray_byte};
 

@@ -1,6 +1,8 @@
 // Document 01, "Logs for the bench": validates a log from standard input, and writes what came of it to standard output.
 //
 // The program is thin: each read gives a piece of the log, which the feed takes; the text of what came of it is `log::put_text`'s.
+#![tactic(auto)]
+
 ghost use Rattle.std.specs.Prelude.{◌+◌, ◌≤◌, length};
 ghost use Rattle.rules.specs.Limits.{max_classes};
 ghost use Rattle.layout.specs.Layout.{slip_size};

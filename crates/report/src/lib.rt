@@ -1,4 +1,6 @@
 // A cycle in the slip: byte 0 is the number of its dependencies, and each has seven bytes: class, kind, source, and four of its number.
+#![tactic(auto)]
+
 ghost use Rattle.std.specs.Prelude.{◌≡◌, ◌+◌, ◌*◌, ◌/◌, ◌%◌, ◌<◌, ◌≤◌, length};
 ghost use Rattle.rules.specs.Graph.{kind_bit, source_number};
 ghost use Rattle.rules.specs.Ranks.{kind_at, source_at};

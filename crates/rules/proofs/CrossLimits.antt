@@ -53,6 +53,7 @@ cores_below n [] = true
 cores_below n (r ∷ rs) = ltb (core_of r) n && cores_below n rs
 
 below : (n : ℕ) (rs : List Bytes) (r : Bytes) → Memᴰ r rs → cores_below n rs ≡ true → core_of r < n
+below n [] r m h = elim m [ ]
 below n (x ∷ rs) r (Memᴰ.head e) h = ltb-true (core_of r) n (rw e (and_cases (ltb (core_of x) n) (cores_below n rs) h).0)
 below n (x ∷ rs) r (Memᴰ.tail m) h = below n rs r m (and_cases (ltb (core_of x) n) (cores_below n rs) h).1
 

@@ -5,7 +5,6 @@ use mathlib.Core.List.{List, [], ◌∷◌, ◌++◌}
 use mathlib.Core.Logic.{◌⊎◌, inl, inr, ⊎_elim}
 use mathlib.Core.Option.{Option, none, some}
 use Prim.Native.Nat.{ℕ, zero, suc, ◌-◌, ◌≤◌, ◌<◌, max}
-use native.Mathlib.Decide.{dec_lt}
 use native.Mathlib.Omega.{arith}
 use lib.Dec.{leb, ltb, eqb}
 use borrow.Author.Tests.{ltb-true, leb-true, leb-false, eqb-true, lt-ltb, le-leb, lt-leb}
@@ -13,13 +12,13 @@ use Rattle.rules.specs.Limits.{interrupt_kinds}
 use Rattle.rules.specs.Record.{Bytes, Event, acquire, release, interrupt, cross_acquire, commit, cross_release, cross_event_by, event_by, core_of, kind_of, class_of, mode_of, event_of}
 use Rattle.rules.specs.Context.{Frame, frame_of}
 use Rattle.rules.specs.HeldLocks.{same_first, same_second, HeldLock, is_try, first_of, second_by, some_held, is_held, release_newest, Core, current, after_event}
-use Rattle.rules.specs.Marks.{Level, hard_irq, soft_irq, Usage, safe, unsafe, set_in, letter_fits, marks_of}
-use Rattle.rules.specs.Graph.{Kind, Graph, lock, irq, Source, dependency_by, dependency}
+use Rattle.rules.specs.Marks.{Level, hard_irq, soft_irq, Usage, safe, unsafe, set_in, letter_fits}
+use Rattle.rules.specs.Graph.{Kind, lock, irq, Source, dependency_by, dependency}
 use Rattle.rules.specs.Crosslocks.{Crosslocks, drawn_on, after_cross}
-use Rattle.rules.specs.StrongPath.{Dependency, StrongPath, one, more, ClosedStrongPath}
+use Rattle.rules.specs.StrongPath.{Dependency, StrongPath, one, more}
 use Rattle.rules.specs.Decision.{cyclic}
-use Rattle.rules.specs.Verdict.{Refusal, closed, malformed, no_class, wrong_sort, no_transition, still_held, not_held, too_deep, in_progress, not_in_progress, list_full, history_full, count_full, refused, number, class_missing, sort_wrong, applies, refusal}
-use Rattle.rules.specs.Run.{State, start, situation, accept, close, Result, decided, settled, step, answers}
+use Rattle.rules.specs.Verdict.{Refusal, closed, malformed, no_class, wrong_sort, no_transition, still_held, not_held, too_deep, in_progress, not_in_progress, list_full, history_full, count_full, refused, number, class_missing, sort_wrong, refusal}
+use Rattle.rules.specs.Run.{State, start, situation, accept, Result, step, answers}
 use Rattle.rules.proofs.Booleans.{or_cases, or_right, and_cases, and_both}
 use Rattle.rules.proofs.Decided.{cyclic_sound, cyclic_complete}
 use Rattle.rules.proofs.Steps.{refused_alike, accepted_passes, StepCases, was_refused, was_clean, was_fault, stepped}
@@ -230,7 +229,7 @@ same_refusal : (n K : ℕ) (s : State) (r : Bytes) → n ≤ K → (ltb (class_o
 same_refusal n K s r few h =
     refused_alike (λ x. false)
     (record {
-      same = λ x. elim x [
+      same = elim [
         | closed ↦ λ z. refl
         | malformed ↦ λ z. refl
         | no_class ↦ λ z. sym (same_missing n K r few h)

@@ -23,7 +23,7 @@ use Rattle.rules.specs.Run.{State, situation, accept_on, accept, Result, decided
 use Rattle.rules.specs.TwoRuns.{NamedIn, Foreign, Interleaved, done, keep, insert, place, Never, FaultBy, MoreEvidence}
 use Rattle.rules.proofs.Decided.{cyclic_sound}
 use Rattle.rules.proofs.Monotone.{Within, within_self, within_more, within_both, cyclic_mono}
-use Rattle.rules.proofs.Histories.{Covered, CrossAlong, both_cross, aside_cross, commit_mono}
+use Rattle.rules.proofs.Histories.{CrossAlong, both_cross, aside_cross, commit_mono}
 use Rattle.rules.proofs.Booleans.{and_mono}
 use Rattle.rules.proofs.Steps.{closed_answers, closed_no_fault, shut_after, fault_cycle, accepted_passes, Alike, refused_alike}
 
@@ -111,7 +111,7 @@ module _ (K : ℕ) {named : ℕ → Type 0} (s₁ s₂ : State) (r : Bytes) (q :
   alike_here : Alike is_limit (situation K s₁ r) (situation K s₂ r)
   alike_here =
       record {
-        same = λ x. elim x [
+        same = elim [
           | closed ↦ λ n. o
           | malformed ↦ λ n. refl
           | no_class ↦ λ n. refl
@@ -262,13 +262,13 @@ module _ (K : ℕ) (few : K ≤ max_classes) (whole : List Bytes) where
   keep_pair r {o₁} {o₂} (alike q a) rest =
       let p = rest a in
       record {
-        same = λ i. elim i [ zero ↦ λ l. inl q | suc i ↦ λ l. later (number o₂.answer) (p.same i (le_of_suc-le-suc l)) ];
-        old = λ i. elim i [ zero ↦ λ l h. inr (sym q ∙ h) | suc i ↦ λ l h. p.old i (le_of_suc-le-suc l) h ];
+        same = elim [ zero ↦ λ l. inl q | suc i ↦ λ l. later (number o₂.answer) (p.same i (le_of_suc-le-suc l)) ];
+        old = elim [ zero ↦ λ l h. inr (sym q ∙ h) | suc i ↦ λ l h. p.old i (le_of_suc-le-suc l) h ];
       }
   keep_pair {ys} {e} r {o₁} {o₂} (faulted h c z) rest =
       record {
         same = λ i l. inr (at_once (number o₂.answer) (answers K o₂.state ys) (place (keep {r = r} e) i) h);
-        old = λ i. elim i [ zero ↦ λ l k. z | suc i ↦ λ l k. absurd (closed_no_fault K o₂.state ys (place e i) c k) ];
+        old = elim [ zero ↦ λ l k. z | suc i ↦ λ l k. absurd (closed_no_fault K o₂.state ys (place e i) c k) ];
       }
 
   insert_pair : {xs ys : List Bytes} {e : Interleaved whole xs ys} {r : Bytes} (f : Foreign whole r) {s₁ : State} {o₂ : Result} → Aside s₁ o₂

@@ -1,5 +1,5 @@
 -- Crosslocks (000; document 02, j): classes of which one context takes the lock and another releases it, as completions.
-use Rattle.std.specs.Prelude.{Bool, true, false, cond, not, ◌&&◌, ◌||◌, List, [], ◌∷◌, ◌++◌, map, ℕ, zero, suc, eqb, length, drop}
+use Rattle.std.specs.Prelude.{Bool, false, cond, not, ◌&&◌, ◌||◌, List, [], ◌∷◌, ◌++◌, map, ℕ, zero, suc, eqb, length, drop}
 use Rattle.std.proofs.Math.Option.{Option, none, some}
 use Rattle.rules.specs.Limits.{max_classes}
 use Rattle.rules.specs.Record.{Event, acquire, release, interrupt, cross_acquire, commit, cross_release}

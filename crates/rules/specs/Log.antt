@@ -1,5 +1,5 @@
 -- Document 01, "Logs for the bench", and document 02, b and j: "A log is the header 4C 48 01 K and then records", and what comes of the records.
-use Rattle.std.specs.Prelude.{Bool, true, false, cond, ◌&&◌, ◌||◌, List, [], ◌∷◌, ◌++◌, ℕ, zero, suc, ◌+◌, ◌*◌, ◌/◌, leb, eqb, length, get_or, take, drop}
+use Rattle.std.specs.Prelude.{Bool, true, false, cond, ◌&&◌, ◌||◌, List, [], ◌∷◌, ℕ, zero, suc, ◌+◌, ◌*◌, ◌/◌, leb, eqb, length, get_or, take, drop}
 use Rattle.rules.specs.Limits.{max_classes}
 use Rattle.rules.specs.Number.{low_first}
 use Rattle.rules.specs.Record.{Bytes, record_size}

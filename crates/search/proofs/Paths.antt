@@ -26,7 +26,7 @@ pub after_r : {rows : List ℕ} {x : ℕ} {s t : Arrivals} → Onward rows x E s
 after_r o =
     record {
       kept = o.kept;
-      all = λ j f b. elim f [ E ↦ λ _. o.all j b | S ↦ λ z. let q : ◌≡◌ {A = Bool} false true = z in let w : ◌≡◌ {A = ℕ} 0 1 = cc in absurd (omega arith) ];
+      all = λ j. elim [ E ↦ λ b _. o.all j b | S ↦ λ b z. let q : ◌≡◌ {A = Bool} false true = z in let w : ◌≡◌ {A = ℕ} 0 1 = cc in absurd (omega arith) ];
       only = λ j b h. ⊎_elim (λ y. inl y) (λ m. inr (E, refl, m)) (o.only j b h);
     }
 
@@ -34,7 +34,7 @@ pub after_n : {rows : List ℕ} {x : ℕ} {s t u : Arrivals} → Onward rows x E
 after_n o p =
     record {
       kept = λ j b h. p.kept j b (o.kept j b h);
-      all = λ j f b. elim f [ E ↦ λ _ h. p.kept j b (o.all j b h) | S ↦ λ _. p.all j b ];
+      all = λ j. elim [ E ↦ λ b _ h. p.kept j b (o.all j b h) | S ↦ λ b _. p.all j b ];
       only = λ j b h. ⊎_elim (λ y. ⊎_elim (λ z. inl z) (λ m. inr (E, refl, m)) (o.only j b y)) (λ m. inr (S, refl, m)) (p.only j b h);
     }
 

@@ -33,8 +33,8 @@ pub put_r : {s : Arrivals} {c x : ℕ} → Fits s → c < 64 → With s.r c x �
 put_r f l w =
     record {
       there = w.there;
-      kept = λ j b. elim b [ R ↦ λ h. w.kept j h | N ↦ λ h. h ];
-      only = λ j b. elim b [ R ↦ λ h. ⊎_elim (λ y. inl y) (λ e. inr (e, refl)) (w.only j h) | N ↦ λ h. inl h ];
+      kept = λ j. elim [ R ↦ λ h. w.kept j h | N ↦ λ h. h ];
+      only = λ j. elim [ R ↦ λ h. ⊎_elim (λ y. inl y) (λ e. inr (e, refl)) (w.only j h) | N ↦ λ h. inl h ];
       more = λ z. let e = w.more z in omega arith;
       fits = record { r = w.within 64 f.r l; n = f.n };
     }
@@ -43,8 +43,8 @@ pub put_n : {s : Arrivals} {c x : ℕ} → Fits s → c < 64 → With s.n c x �
 put_n f l w =
     record {
       there = w.there;
-      kept = λ j b. elim b [ N ↦ λ h. w.kept j h | R ↦ λ h. h ];
-      only = λ j b. elim b [ N ↦ λ h. ⊎_elim (λ y. inl y) (λ e. inr (e, refl)) (w.only j h) | R ↦ λ h. inl h ];
+      kept = λ j. elim [ N ↦ λ h. w.kept j h | R ↦ λ h. h ];
+      only = λ j. elim [ N ↦ λ h. ⊎_elim (λ y. inl y) (λ e. inr (e, refl)) (w.only j h) | R ↦ λ h. inl h ];
       more = λ z. let e = w.more z in omega arith;
       fits = record { r = f.r; n = w.within 64 f.n l };
     }
@@ -90,9 +90,9 @@ module _ (rows : List ℕ) (x first : ℕ) (e : first ≡ first_index (first_at 
       let r = rw row_r at r in
       let n = rw row_n at n in
       record {
-        kept = λ j b. elim b [ R ↦ r.left j | N ↦ n.left j ];
-        all = λ j b. elim b [ R ↦ r.right j | N ↦ n.right j ];
-        only = λ j b. elim b [ R ↦ r.only j | N ↦ n.only j ];
+        kept = λ j. elim [ R ↦ r.left j | N ↦ n.left j ];
+        all = λ j. elim [ R ↦ r.right j | N ↦ n.right j ];
+        only = λ j. elim [ R ↦ r.only j | N ↦ n.only j ];
       }
 
 -- ---- The walk's sets.
@@ -104,7 +104,7 @@ meets_by {w = w} b h l n =
 
 pub meets_not : {s t : Arrivals} {r n : ℕ} → Both s.r t.r r → r ≡ 0 → Both s.n t.n n → n ≡ 0 → Meets s t false
 meets_not hr zr hn zn =
-    record { some = λ z. absurd (false≢true z); none = λ _ j b. elim b [ R ↦ λ x y. empty j zr (hr.all j x y) | N ↦ λ x y. empty j zn (hn.all j x y) ] }
+    record { some = λ z. absurd (false≢true z); none = λ _ j. elim [ R ↦ λ x y. empty j zr (hr.all j x y) | N ↦ λ x y. empty j zn (hn.all j x y) ] }
 
 pub finished_r : {done : List ℕ} {c x : ℕ} → Words done → c < 64 → With (get_or done 0 0) c x → Finished done c R (set done 0 x)
 finished_r {done} {c} {x} d l w =

@@ -1,5 +1,7 @@
 // Search of a dependency graph that is given as successor words: bit t of rows[4 * c + kind] is a dependency from class c to class t,
 // where the kinds ER, EN, SR, SN are 0, 1, 2, 3.
+#![tactic(auto)]
+
 ghost use Rattle.std.specs.Prelude.{◌≡◌, ◌+◌, ◌-◌, ◌*◌, ◌<◌, ◌≤◌};
 ghost use Rattle.rules.specs.HeldLocks.{E, S, R, N};
 ghost use Rattle.search.specs.Rows.{first_at, first_index, Ranged, Reached};

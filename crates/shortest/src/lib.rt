@@ -1,5 +1,7 @@
 // The cycle that is shown: the fewest dependencies, and of these the least by the slip's bytes. First the start, then at each class the first
 // dependency, by kind, source and next class, from which the start is reached again in time.
+#![tactic(auto)]
+
 ghost use Rattle.std.specs.Prelude.{◌≡◌, ◌+◌, ◌*◌, ◌/◌, ◌%◌, ◌<◌, ◌≤◌, length};
 ghost use Rattle.successors.specs.Column.{Columns};
 ghost use Rattle.successors.specs.Successors.{Ready, SafeColumns};

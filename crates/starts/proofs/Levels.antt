@@ -47,7 +47,7 @@ module _ (rows : List ℕ) (x first : ℕ) (e : first ≡ first_index (first_at 
   leads_none p q zr zn =
       let u = rw (row_r rows x first e) at p in
       let v = rw (row_n rows x first e) at q in
-      record { yes' = λ z. absurd (false≢true z); no' = λ _ b. elim b [ R ↦ λ y m k. empty y zr (u.all y m k) | N ↦ λ y m k. empty y zn (v.all y m k) ] }
+      record { yes' = λ z. absurd (false≢true z); no' = λ _. elim [ R ↦ λ y m k. empty y zr (u.all y m k) | N ↦ λ y m k. empty y zn (v.all y m k) ] }
 
 module _ {rows : List ℕ} {x : ℕ} {s : Arrivals} where
   by_E : LeadsBy rows x E s true → (b : Second) → LeadsInto rows s x b
@@ -78,9 +78,9 @@ module _ {rows : List ℕ} {x : ℕ} {s : Arrivals} where
   pub widened_e : {out : Arrivals} {r n : ℕ} → LeadsBy rows x E s true → With out.r x r → With out.n x n → Widened rows x s out (record { r = r; n = n })
   widened_e l wr wn =
       record {
-        kept = λ j b. elim b [ R ↦ λ h. wr.kept j h | N ↦ λ h. wn.kept j h ];
-        there = λ b. elim b [ R ↦ λ _. wr.there | N ↦ λ _. wn.there ];
-        only = λ j b. elim b [
+        kept = λ j. elim [ R ↦ λ h. wr.kept j h | N ↦ λ h. wn.kept j h ];
+        there = elim [ R ↦ λ _. wr.there | N ↦ λ _. wn.there ];
+        only = λ j. elim [
           | R ↦ λ h. ⊎_elim (λ y. inl y) (λ e. inr (e, by_E l R)) (wr.only j h)
           | N ↦ λ h. ⊎_elim (λ y. inl y) (λ e. inr (e, by_E l N)) (wn.only j h)
         ];
@@ -89,16 +89,16 @@ module _ {rows : List ℕ} {x : ℕ} {s : Arrivals} where
   pub widened_s : {out : Arrivals} {n : ℕ} → LeadsBy rows x E s false → LeadsBy rows x S s true → With out.n x n → Widened rows x s out (record { r = out.r; n = n })
   widened_s z l wn =
       record {
-        kept = λ j b. elim b [ R ↦ λ h. h | N ↦ λ h. wn.kept j h ];
-        there = λ b. elim b [ R ↦ λ k. absurd (not_R z k) | N ↦ λ _. wn.there ];
-        only = λ j b. elim b [ R ↦ λ h. inl h | N ↦ λ h. ⊎_elim (λ y. inl y) (λ e. inr (e, by_S l)) (wn.only j h) ];
+        kept = λ j. elim [ R ↦ λ h. h | N ↦ λ h. wn.kept j h ];
+        there = elim [ R ↦ λ k. absurd (not_R z k) | N ↦ λ _. wn.there ];
+        only = λ j. elim [ R ↦ λ h. inl h | N ↦ λ h. ⊎_elim (λ y. inl y) (λ e. inr (e, by_S l)) (wn.only j h) ];
       }
 
   pub widened_none : {out : Arrivals} → LeadsBy rows x E s false → LeadsBy rows x S s false → Widened rows x s out out
   widened_none z l =
       record {
         kept = λ j b h. h;
-        there = λ b. elim b [ R ↦ λ k. absurd (not_R z k) | N ↦ λ k. absurd (not_N z l k) ];
+        there = elim [ R ↦ λ k. absurd (not_R z k) | N ↦ λ k. absurd (not_N z l k) ];
         only = λ j b h. inl h;
       }
 
@@ -134,15 +134,15 @@ put_one w j h = ⊎_elim (λ y. absurd (empty j refl y)) (λ e. e) (w.only j h)
 pub home_r : {c l r n : ℕ} → l ≡ 0 → With 0 c r → With 0 c n → AtHome c (letter_at l) (record { r = r; n = n })
 home_r {l = l} z wr wn =
     rw (letter_r l z) (record {
-      sound = λ x b. elim b [ R ↦ λ h. (put_one wr x h, refl) | N ↦ λ h. (put_one wn x h, refl) ];
-      complete = λ b. elim b [ R ↦ λ _. wr.there | N ↦ λ _. wn.there ];
+      sound = λ x. elim [ R ↦ λ h. (put_one wr x h, refl) | N ↦ λ h. (put_one wn x h, refl) ];
+      complete = elim [ R ↦ λ _. wr.there | N ↦ λ _. wn.there ];
     })
 
 pub home_n : {c l n : ℕ} → (l ≡ 0 → ⊥) → With 0 c n → AtHome c (letter_at l) (record { r = 0; n = n })
 home_n {l = l} z wn =
     rw (letter_n l z) (record {
-      sound = λ x b. elim b [ R ↦ λ h. absurd (empty x refl h) | N ↦ λ h. (put_one wn x h, refl) ];
-      complete = λ b. elim b [ R ↦ λ k. absurd (false≢true k) | N ↦ λ _. wn.there ];
+      sound = λ x. elim [ R ↦ λ h. absurd (empty x refl h) | N ↦ λ h. (put_one wn x h, refl) ];
+      complete = elim [ R ↦ λ k. absurd (false≢true k) | N ↦ λ _. wn.there ];
     })
 
 pub in_r : {s : Arrivals} {c l : ℕ} → l ≡ 0 → s.r / 2 ^ c % 2 ≡ 1 → IsIn s c (letter_at l) true
@@ -332,7 +332,7 @@ module _ {rows : List ℕ} {K c m : ℕ} {h : Second} {s t : Arrivals} {levels a
       }
 
 pub empty_law : {s : Arrivals} → s.r ≡ 0 → s.n ≡ 0 → IsEmpty s true
-empty_law p q = record { none = λ _ x b. elim b [ R ↦ empty x p | N ↦ empty x q ] }
+empty_law p q = record { none = λ _ x. elim [ R ↦ empty x p | N ↦ empty x q ] }
 
 pub not_empty : {s : Arrivals} → IsEmpty s false
 not_empty = record { none = λ z. absurd (false≢true z) }

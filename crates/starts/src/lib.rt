@@ -1,4 +1,6 @@
 // Where the shortest cycle starts, and from which arrivals it can still be closed in time.
+#![tactic(auto)]
+
 ghost use Rattle.std.specs.Prelude.{◌≡◌, ◌*◌, ◌<◌, ◌≤◌, length};
 ghost use Rattle.search.specs.Rows.{first_at, first_index};
 ghost use Rattle.starts.specs.Levels.{LeadsBy, Widened, Behind, AtHome, IsIn, IsEmpty, stored, letter_at, Filled, level_at};

@@ -1,4 +1,6 @@
 // The successor words of a desk and a sheet: for each lock class and each kind of dependency, the classes that a dependency goes to.
+#![tactic(auto)]
+
 ghost use Rattle.std.specs.Prelude.{◌≡◌, ℕ, ◌+◌, ◌*◌, ◌<◌, ◌≤◌, min, length};
 ghost use Rattle.words.specs.Bits.{bit};
 ghost use Rattle.layout.specs.Layout.{desk_size, marks_at};

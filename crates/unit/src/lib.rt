@@ -1,4 +1,6 @@
 // A unit of a log: its header or a record. It is validated once all its bytes are there.
+#![tactic(auto)]
+
 ghost use Rattle.std.specs.Prelude.{◌≡◌, ◌+◌, ◌≤◌, length};
 ghost use Rattle.rules.specs.Log.{unit_size, is_header, header_classes, header_word};
 ghost use Rattle.progress.specs.Code.{feed_of, Counted};

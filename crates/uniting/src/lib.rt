@@ -1,4 +1,6 @@
 // Document 02, i: the bytes and the numbers of two benches joined.
+#![tactic(auto)]
+
 ghost use Rattle.std.specs.Prelude.{◌≡◌, ◌*◌, ◌≤◌, length};
 ghost use Rattle.rules.specs.Limits.{max_classes};
 ghost use Rattle.rules.specs.Join.{first_or};

@@ -1,4 +1,6 @@
 // What an accepted record draws in the bytes: lock dependencies and usage marks.
+#![tactic(auto)]
+
 ghost use Rattle.std.specs.Prelude.{◌*◌, ◌<◌, ◌≤◌, length};
 ghost use Rattle.rules.specs.Limits.{mode_count};
 ghost use Rattle.held.specs.Frames.{HeldIn};

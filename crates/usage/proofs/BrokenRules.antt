@@ -89,7 +89,7 @@ module _ (K : ℕ) (g : Graph) (x : Exclusive g) (y : SoftBringsHard g) where
 
   soft_not_hard : soft_irq ≡ hard_irq → ⊥
   soft_not_hard q =
-      let n : Level → ℕ = λ l. elim l [ hard_irq ↦ 0 | soft_irq ↦ 1 ] in
+      let n : Level → ℕ = elim [ hard_irq ↦ 0 | soft_irq ↦ 1 ] in
       let z : n soft_irq ≡ n hard_irq = λ i. n (q i) in
       omega arith
 

@@ -40,8 +40,8 @@ odd_exclusive : Exclusive odd_graph
 odd_exclusive =
     record {
       locks = λ f t k h. absurd (false≢true h);
-      safes = λ c l b. elim l [ hard_irq ↦ is_N b (eqb c 0) | soft_irq ↦ is_N b (eqb c 1) ];
-      unsafes = λ c l a. elim l [ hard_irq ↦ is_E a (eqb c 1) | soft_irq ↦ is_E a (eqb c 0) ];
+      safes = λ c. elim [ hard_irq ↦ λ b. is_N b (eqb c 0) | soft_irq ↦ λ b. is_N b (eqb c 1) ];
+      unsafes = λ c. elim [ hard_irq ↦ λ a. is_E a (eqb c 1) | soft_irq ↦ λ a. is_E a (eqb c 0) ];
     }
 
 no_lock_path : {f t : ℕ} → LockPath 2 odd_graph f t → ⊥

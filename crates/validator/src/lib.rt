@@ -1,4 +1,6 @@
 // The step: one record over the lent buffers.
+#![tactic(auto)]
+
 ghost use Rattle.validator.specs.Step.{Stepped};
 
 use action::act;

@@ -1,6 +1,8 @@
 // Document 02, f: reads a piece of a log from standard input, and writes its balances to standard output.
 //
 // The program is thin: what it writes of the bytes that it read is `balance_text::put_text`'s.
+#![tactic(auto)]
+
 ghost use Rattle.std.specs.Prelude.{◌≤◌, length};
 
 use balance::MOST_BYTES;

@@ -122,7 +122,7 @@ trailing_step : (k w d t : ℕ) → w % 2 ≡ d → 0 < w → (0 < w / 2 → Tra
 unfolding bit TrailingIs
 trailing_step k w zero t e p ih =
     let h = ih (omega arith) in
-    (omega arith, h.1, λ j. elim j [ zero ↦ λ l. e | suc i ↦ λ l. h.2 i (omega arith) ])
+    (omega arith, h.1, elim [ zero ↦ λ l. e | suc i ↦ λ l. h.2 i (omega arith) ])
 trailing_step k w (suc d) t e p ih = (omega arith, omega arith, λ j l. absurd (omega arith))
 
 trailing : (k w : ℕ) → 0 < w → w < 2 ^ k → TrailingIs k w (count_trailing_zeros k w)

@@ -1,4 +1,6 @@
 // A word as a set of up to 64 lock classes: bit i is class i.
+#![tactic(auto)]
+
 ghost use Rattle.std.specs.Prelude.{◌≡◌, ◌-◌, ◌<◌, ◌≤◌};
 ghost use Rattle.std.specs.Int.Count.{ones};
 ghost use Rattle.words.specs.Bits.{Without, With, Lowest, Both};

@@ -22,10 +22,10 @@ module _ (l : List ℕ) (at n : ℕ) where
 returns : tie.Need-returns
 returns c = let a = c.before.before.args in none a.piece.now a.at a.wanted c.before.if1.true
 
-returns_2 : tie.Need-returns-2
+returns_2 : tie.Need-returns
 returns_2 c = let a = c.before.before.before.args in rest a.piece.now a.at a.wanted c.before.if2.true
 
-returns_3 : tie.Need-returns-3
+returns_3 : tie.Need-returns
 returns_3 c = let a = c.before.before.before.args in some a.piece.now a.at a.wanted
 
 pub part_at_spec : {M : Type 1} → statement M

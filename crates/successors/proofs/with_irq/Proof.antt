@@ -27,12 +27,12 @@ returns : tie.Need-returns
 returns c =
     let locks = c.before.before.before.before.before.before.before.before.args.locks in
     record {
-      at = λ a b. elim a [
-        | E ↦ elim b [
+      at = elim [
+        | E ↦ elim [
           | R ↦ λ t. joined locks.er _ t (c.before.before.before.before.before.before.before.irq-word.ensures t)
           | N ↦ λ t. joined locks.en _ t (c.before.before.before.before.before.irq-word2.ensures t)
         ]
-        | S ↦ elim b [
+        | S ↦ elim [
           | R ↦ λ t. joined locks.sr _ t (c.before.before.before.irq-word3.ensures t)
           | N ↦ λ t. joined locks.sn _ t (c.before.irq-word4.ensures t)
         ]

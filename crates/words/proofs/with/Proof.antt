@@ -3,7 +3,7 @@ use Rattle.words.proofs.Words.{with_law}
 use Rattle.words.proofs.with.Statement.{statement}
 use Rattle.words.proofs.with.Tie as tie
 
-shl_result : tie.Need-overflow-shl-result
+shl_result : tie.Need-overflow_shl-result
 shl_result c = search rules
 
 returns : tie.Need-returns

@@ -6,8 +6,7 @@ use native.Mathlib.Omega.{arith}
 use lib.Dec.{leb, ltb, eqb}
 use borrow.Author.Tests.{le-leb, lt-ltb, le-ltb}
 use Rattle.rules.specs.Record.{stray_byte}
-use Rattle.record.proofs.stray_byte.Statement.{statement}
-use Rattle.record.proofs.stray_byte.Tie as tie
+use Rattle.record.proofs.stray_byte.Goals as goal
 
 same_limit : (k : ℕ) → ltb (suc (suc k)) 10 ≡ ltb k 8
 same_limit k =
@@ -26,8 +25,5 @@ same_test (suc (suc k)) c m = rw (le-leb 2 (suc (suc k)) (omega arith), same_lim
     by true false b = refl
     by false a b = refl
 
-returns : tie.Need-returns
+pub returns : goal.returns
 returns c = same_test c.args.kind c.args.class c.args.mode
-
-pub stray_byte_spec : {M : Type 1} → statement M
-stray_byte_spec = tie.close (tie.spec returns)
