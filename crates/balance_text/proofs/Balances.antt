@@ -17,9 +17,9 @@ use Rattle.balance.specs.Code.{Room}
 use Rattle.balance.proofs.Adding.{passes, answered_0, given}
 use Rattle.balance.proofs.Counting.{bits}
 use Rattle.balance.proofs.Walking.{room_of}
-use Rattle.log.specs.Text.{refused_line, digits, line_end, Appended}
-use Rattle.log.proofs.Digits.{places_of_byte, places_of_word}
-use Rattle.log.proofs.Writing.{appended_both, as_text}
+use Rattle.log_text.specs.Text.{refused_line, digits, line_end, Appended}
+use Rattle.log_text.proofs.Digits.{places_of_byte, places_of_word}
+use Rattle.log_text.proofs.Writing.{appended_both, as_text}
 use Rattle.balance_text.specs.Text.{signed_text, space, balance_line, shown, lines_below, piece_text, signed_room, line_room, LinePut}
 
 -- ---- A line.

@@ -12,8 +12,8 @@ use mir.Syntax.{w32}
 use mir.Val.{SFits}
 use mir.ValLaws.{to_z-of_z}
 use Rattle.balance.proofs.Counting.{bits}
-use Rattle.log.specs.Text.{digits, Appended}
-use Rattle.log.proofs.Writing.{appended_both, as_text}
+use Rattle.log_text.specs.Text.{digits, Appended}
+use Rattle.log_text.proofs.Writing.{appended_both, as_text}
 use Rattle.balance_text.specs.Text.{sign, signed_text}
 
 plain : (z : ℤ) (t : Bool) → SFits w32 z → lt_z (bits z) (pos 0) ≡ t → lt_z z (pos 0) ≡ t

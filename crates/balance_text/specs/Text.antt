@@ -2,7 +2,7 @@
 use Rattle.std.specs.Prelude.{cond, List, [], ◌∷◌, ◌++◌, ℕ, zero, suc, ◌+◌, ◌*◌, ◌≤◌, ℤ, pos, negsuc, nat_abs}
 use Rattle.rules.specs.Limits.{max_classes}
 use Rattle.rules.specs.Log.{records_of}
-use Rattle.log.specs.Text.{digits, line_end, refused_line, Appended}
+use Rattle.log_text.specs.Text.{digits, line_end, refused_line, Appended}
 use Rattle.balance.specs.Piece.{bad_piece, is_refused, balance}
 
 -- A minus where the number is below zero.

@@ -3,13 +3,13 @@
 
 ghost use Rattle.std.specs.Prelude.{◌≡◌, ◌+◌, ◌<◌, ◌≤◌, pos, nat_abs, length, get_or};
 ghost use Rattle.rules.specs.Limits.{max_classes};
-ghost use Rattle.log.specs.Text.{Appended};
+ghost use Rattle.log_text.specs.Text.{Appended};
 ghost use Rattle.balance.specs.Code.{Room};
 ghost use Rattle.balance_text.specs.Text.{signed_text, lines_below, piece_text, signed_room, line_room, text_room, LinePut};
 
 use answers::OK;
 use layout::MAX_CLASSES;
-use log::{put_number, put_refusal, put_word, wide};
+use log_text::{put_number, put_refusal, put_word, wide};
 
 // Room for the longest text: a line for each class.
 pub const TEXT_SIZE: usize = 32 * MAX_CLASSES;

@@ -15,7 +15,7 @@ use Rattle.plungerowl.specs.Logs.{WholeLog, joined, FeedRan, no_piece, piece, en
 use Rattle.plungerowl.proofs.Feeds.{log_in_pieces, ended_run, run_shown}
 use Rattle.outcome.specs.Outcomes.{outcome_of}
 use Rattle.outcome.specs.declared.Outcome.{Outcome}
-use Rattle.log.specs.Text.{Showable}
+use Rattle.log_text.specs.Text.{Showable}
 use Rattle.files.specs.Replayed.{Taken, ReadToEnd, Replayed, unread, whole}
 
 -- ---- A turn of the loop.

@@ -7,12 +7,12 @@
 ghost use Rattle.std.specs.Prelude.{◌+◌, ◌≤◌, length};
 ghost use Rattle.rules.specs.Limits.{max_classes};
 ghost use Rattle.layout.specs.Layout.{slip_size};
-ghost use Rattle.log.specs.Text.{line_size, cycle_size, Showable};
+ghost use Rattle.log_text.specs.Text.{line_size, cycle_size, Showable};
 
 use files::{BUF_SIZE, SEEN_SIZE, SHEET_SIZE, SLIP_SIZE};
 use join_text::is_clean;
 use layout::{DESK_SIZE, HISTORY_SIZE};
-use log::TEXT_SIZE;
+use log_text::TEXT_SIZE;
 use outcome::{Outcome, is_answer};
 use progress::FEED_SIZE;
 

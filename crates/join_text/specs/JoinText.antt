@@ -4,7 +4,7 @@ use Rattle.layout.specs.Slip.{entries_of}
 use Rattle.benches.specs.Benches.{Bench}
 use Rattle.joiner.specs.Joining.{Joined}
 use Rattle.outcome.specs.declared.Outcome.{Outcome}
-use Rattle.log.specs.Text.{refused_line, cycle_text, Appended, text_of}
+use Rattle.log_text.specs.Text.{refused_line, cycle_text, Appended, text_of}
 
 -- "clean"
 abbrev pub clean_line : List ℕ

@@ -6,12 +6,12 @@ ghost use Rattle.rules.specs.Limits.{max_classes};
 ghost use Rattle.layout.specs.Layout.{slip_size, count_of};
 ghost use Rattle.layout.specs.Slip.{entries_of};
 ghost use Rattle.benches.specs.Benches.{bench};
-ghost use Rattle.log.specs.Text.{cycle_text, line_size, cycle_size, Appended, Showable};
+ghost use Rattle.log_text.specs.Text.{cycle_text, line_size, cycle_size, Appended, Showable};
 ghost use Rattle.join_text.specs.JoinText.{fault_line, joined_text, is_clean, own_text, JoinTold};
 
 use answers::{FAULT, OK};
 use joiner::join;
-use log::{put_cycle, put_refusal, put_text, put_word};
+use log_text::{put_cycle, put_refusal, put_text, put_word};
 use outcome::Outcome;
 
 // "fault", and the cycle of the slip.

@@ -4,7 +4,7 @@ use Rattle.validator.specs.Calls.{Buffers}
 use Rattle.outcome.specs.Outcomes.{is_answer}
 use Rattle.outcome.specs.declared.Outcome.{Outcome}
 use Rattle.files.specs.Replayed.{Replayed}
-use Rattle.log.specs.Text.{Appended, text_of}
+use Rattle.log_text.specs.Text.{Appended, text_of}
 
 -- The text made is that of what came of the log, from place 0 on, and of the buffer no other byte changed.
 pub record TextOfInput (b : Buffers) (out : List ℕ) (answer : Bool) (out' : List ℕ) (size : ℕ) (b' : Buffers) : Type 0 where

@@ -1,20 +1,20 @@
 // Document 01, "Logs for the bench": validates a log from standard input, and writes what came of it to standard output.
 //
-// The program is thin: each read gives a piece of the log, which the feed takes; the text of what came of it is `log::put_text`'s.
+// The program is thin: each read gives a piece of the log, which the feed takes; the text of what came of it is `log_text::put_text`'s.
 #![tactic(auto)]
 
 ghost use Rattle.std.specs.Prelude.{◌+◌, ◌≤◌, length};
 ghost use Rattle.rules.specs.Limits.{max_classes};
 ghost use Rattle.layout.specs.Layout.{slip_size};
 ghost use Rattle.progress.specs.Feed.{feed_size};
-ghost use Rattle.log.specs.Text.{line_size, cycle_size};
+ghost use Rattle.log_text.specs.Text.{line_size, cycle_size};
 ghost use Rattle.validator.specs.Calls.{buffers};
 ghost use Rattle.replay.specs.Texts.{TextOfInput};
 
 use files::{BUF_SIZE, SEEN_SIZE, SHEET_SIZE, SLIP_SIZE};
 use layout::{DESK_SIZE, HISTORY_SIZE};
 use libc::STDIN_FILENO;
-use log::TEXT_SIZE;
+use log_text::TEXT_SIZE;
 use progress::FEED_SIZE;
 
 // A text, and whether it is an answer or a complaint.
@@ -39,7 +39,7 @@ fn text_of_input(
     ensures { TextOfInput (buffers desk.old sheet.old seen.old history.old slip.old) out.old result.answer out.new result.size (buffers desk.new sheet.new seen.new history.new slip.new) }
 {
     let outcome = files::replay(STDIN_FILENO, feed, desk, sheet, seen, history, slip, buf);
-    let size = log::put_text(out, 0, outcome, slip);
+    let size = log_text::put_text(out, 0, outcome, slip);
     Text {
         answer: outcome::is_answer(outcome),
         size,

@@ -110,7 +110,7 @@ fn finish_n(done: &mut [u64; 2], class: u32)
 
 // Whether a strong path goes on from class, arrived at by R, to an arrival on the path to here (on_r, on_n). left: how many dependencies the
 // path may still have.
-#[cycle(arrived_by_n_arrived_by_r)]
+#[cycle(walk)]
 fn arrived_by_r(
     rows: &[u64; 256],
     class: u32,
@@ -146,7 +146,7 @@ fn arrived_by_r(
 }
 
 // The same from class, arrived at by N.
-#[cycle(arrived_by_n_arrived_by_r)]
+#[cycle(walk)]
 fn arrived_by_n(
     rows: &[u64; 256],
     class: u32,

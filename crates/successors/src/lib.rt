@@ -15,7 +15,7 @@ pub const DEPENDENCY_KINDS: usize = 4;
 pub const ROWS: usize = DEPENDENCY_KINDS * MAX_CLASSES;
 
 // A word for each kind of dependency.
-#[derive(Drop)]
+#[derive(Clone, Copy)]
 pub struct KindWords {
     pub er: u64,
     pub en: u64,
@@ -24,7 +24,7 @@ pub struct KindWords {
 }
 
 // A word for each safe mark of a level: the classes that have it.
-#[derive(Drop)]
+#[derive(Clone, Copy)]
 pub struct SafeWords {
     pub n: u64,
     pub r: u64,

@@ -1,6 +1,6 @@
 -- `balance_text::put_text` meets its contract. Assumes nothing.
 use borrow.Author.Rules.{rules}
-use Rattle.log.proofs.Writing.{as_text}
+use Rattle.log_text.proofs.Writing.{as_text}
 use Rattle.balance_text.proofs.Balances.{text_refused, text_balances, room_given}
 use Rattle.balance_text.proofs.put_text.Statement.{statement}
 use Rattle.balance_text.proofs.put_text.Tie as tie

@@ -1,11 +1,11 @@
-use Rattle.log.proofs.Writing.{appended_both}
+use Rattle.log_text.proofs.Writing.{appended_both}
 use borrow.Author.Rules.{rules}
 use Rattle.join_text.proofs.put_fault.Statement.{statement}
 use Rattle.join_text.proofs.put_fault.Tie as tie
 use Rattle.join_text.proofs.put_fault.Reads as reads
 use Rattle.join_text.proofs.put_fault.Lts as lts
-use Rattle.log.proofs.put_cycle.Reads as put_cycle_reads
-use Rattle.log.proofs.put_word.Reads as put_word_reads
+use Rattle.log_text.proofs.put_cycle.Reads as put_cycle_reads
+use Rattle.log_text.proofs.put_word.Reads as put_word_reads
 
 slice_aggregate_put_word : tie.Need-slice-aggregate-put-word
 slice_aggregate_put_word c = search rules

@@ -1,8 +1,8 @@
 use mathlib.Core.Path.{◌≡◌, refl, ap}
 use mathlib.Core.List.{List}
 use Prim.Native.Nat.{ℕ, zero, suc}
-use Rattle.log.specs.Text.{refused_line}
-use Rattle.log.proofs.Writing.{as_text}
+use Rattle.log_text.specs.Text.{refused_line}
+use Rattle.log_text.proofs.Writing.{as_text}
 use Rattle.join_text.specs.JoinText.{joined_text}
 use borrow.Author.Rules.{rules}
 use Rattle.join_text.proofs.put_joined.Statement.{statement}
@@ -10,8 +10,8 @@ use Rattle.join_text.proofs.put_joined.Tie as tie
 use Rattle.join_text.proofs.put_joined.Reads as reads
 use Rattle.join_text.proofs.put_joined.Lts as lts
 use Rattle.join_text.proofs.put_fault.Reads as put_fault_reads
-use Rattle.log.proofs.put_refusal.Reads as put_refusal_reads
-use Rattle.log.proofs.put_word.Reads as put_word_reads
+use Rattle.log_text.proofs.put_refusal.Reads as put_refusal_reads
+use Rattle.log_text.proofs.put_word.Reads as put_word_reads
 
 other : (a : ℕ) (slip : List ℕ) → (a ≡ 0 → ⊥) → (a ≡ 1 → ⊥) → joined_text a slip ≡ refused_line a
 other zero slip z o = absurd (z refl)

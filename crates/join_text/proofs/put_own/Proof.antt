@@ -4,16 +4,16 @@ use mathlib.Core.List.{List, [], ◌++◌}
 use Prim.Native.Nat.{ℕ}
 use native.Mathlib.Omega.{arith}
 use Rattle.outcome.specs.declared.Outcome.{Outcome}
-use Rattle.log.specs.Text.{Appended, text_of}
-use Rattle.log.proofs.Writing.{appended_both, as_text}
+use Rattle.log_text.specs.Text.{Appended, text_of}
+use Rattle.log_text.proofs.Writing.{appended_both, as_text}
 use Rattle.join_text.specs.JoinText.{is_clean, own_text}
 use borrow.Author.Rules.{rules}
 use Rattle.join_text.proofs.put_own.Statement.{statement}
 use Rattle.join_text.proofs.put_own.Tie as tie
 use Rattle.join_text.proofs.put_own.Reads as reads
 use Rattle.join_text.proofs.put_own.Lts as lts
-use Rattle.log.proofs.put_text.Reads as put_text_reads
-use Rattle.log.proofs.put_word.Reads as put_word_reads
+use Rattle.log_text.proofs.put_text.Reads as put_text_reads
+use Rattle.log_text.proofs.put_word.Reads as put_word_reads
 use Rattle.join_text.proofs.is_clean.Reads as is_clean_reads
 
 nothing : (out : List ℕ) → Appended out 0 [] out 0

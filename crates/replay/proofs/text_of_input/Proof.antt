@@ -6,7 +6,7 @@ use Rattle.replay.proofs.text_of_input.Tie as tie
 use Rattle.replay.proofs.text_of_input.Reads as reads
 use Rattle.replay.proofs.text_of_input.Lts as lts
 use Rattle.outcome.proofs.is_answer.Reads as is_answer_reads
-use Rattle.log.proofs.put_text.Reads as put_text_reads
+use Rattle.log_text.proofs.put_text.Reads as put_text_reads
 use Rattle.files.proofs.replay.Reads as replay_reads
 
 replay_requires : tie.Need-replay-requires

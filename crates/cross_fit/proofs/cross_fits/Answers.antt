@@ -1,0 +1,17 @@
+use mathlib.Core.Path.{refl, sym, ap, ◌∙◌}
+use Prim.Native.Nat.{ℕ}
+use lib.Dec.{leb}
+use borrow.Author.Tests.{not-true, not-false}
+use Rattle.rules.specs.Limits.{max_kept}
+use Rattle.cross_fit.proofs.Tests.{by_declared, by_progress, by_many, by_kept}
+use borrow.Author.Rules.{rules}
+use Rattle.cross_fit.proofs.cross_fits.Goals as goal
+
+pub returns-then-without-ne0 : goal.returns-then-without-ne0
+returns-then-without-ne0 c = by_progress _ _ _ c.word_at-declared.ensures c.word_at-progress.ensures _ c.without.type_inv c.without.ensures c.if-without-ne0.true
+
+pub returns-then-count-gt-MAX_IN_PROGRESS : goal.returns-then-count-gt-MAX_IN_PROGRESS
+returns-then-count-gt-MAX_IN_PROGRESS c =
+    let l = c.if-count-gt-MAX_IN_PROGRESS.true in
+    let e = c.count.ensures.0 in
+    by_many _ _ _ c.word_at-declared.ensures c.word_at-progress.ensures c.word_at-progress.type_inv (rw e at l)

@@ -1,0 +1,45 @@
+use mathlib.Core.Path.{◌≡◌, sym, ◌∙◌}
+use mathlib.Core.Bool.{true}
+use mathlib.Core.Logic.{⊎_elim}
+use Prim.Native.Nat.{◌≤◌, ◌-◌}
+use native.Mathlib.Omega.{arith}
+use borrow.Author.Rules.{rules}
+use borrow.Author.Tests.{not-true, not-false}
+use Rattle.layout.specs.Layout.{place_of, lock_of}
+use Rattle.layout.specs.Fit.{all_below, entry_fits}
+use Rattle.layout.proofs.AllBelow.{all_none, all_kept, all_lost}
+use Rattle.cross_fit.proofs.Tests.{all_kept_fit}
+use Rattle.cross_fit.proofs.entries_fit.Goals as goal
+
+pub bounds-desk-0 : goal.bounds-desk-0
+bounds-desk-0 c = omega arith
+
+pub number_at-kept-requires : goal.number_at-kept-requires
+number_at-kept-requires c = omega arith
+
+pub loop-i-init : goal.loop-i-init
+loop-i-init c = (omega arith, sym (all_none _))
+
+pub overflow_mul-i : goal.overflow_mul-i
+overflow_mul-i c = omega arith
+
+pub bounds-history-i : goal.bounds-history-i
+bounds-history-i c = omega arith
+
+pub overflow_mul-i-in-loop-i : goal.overflow_mul-i-in-loop-i
+overflow_mul-i-in-loop-i c = omega arith
+
+pub overflow_add-i : goal.overflow_add-i
+overflow_add-i c = omega arith
+
+pub bounds-history-i-in-loop-i : goal.bounds-history-i-in-loop-i
+bounds-history-i-in-loop-i c = omega arith
+
+pub overflow_add-i-in-loop-i : goal.overflow_add-i-in-loop-i
+overflow_add-i-in-loop-i c = omega arith
+
+pub loop-i-smaller : goal.loop-i-smaller
+loop-i-smaller c = omega arith
+
+pub returns : goal.returns
+returns c = all_kept_fit c.args.desk.now c.args.history.now c.loop-i.i c.number_at-kept.result _ (omega arith) c.number_at-kept.ensures c.loop-i.invariant.1

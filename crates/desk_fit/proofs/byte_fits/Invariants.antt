@@ -1,0 +1,18 @@
+-- The invariant: the result is the test of the bits passed.
+use mathlib.Core.Path.{◌≡◌, ◌∙◌, sym}
+use mathlib.Core.Bool.{true}
+use mathlib.Core.Logic.{⊎_elim}
+use Prim.Native.Nat.{◌≤◌, ◌-◌, ◌+◌, ◌*◌}
+use native.Mathlib.Omega.{arith}
+use borrow.Author.Tests.{not-true, not-false}
+use Rattle.layout.specs.Fit.{all_below, origin_fits}
+use Rattle.desk_fit.specs.Empty.{byte_fits}
+use Rattle.layout.proofs.AllBelow.{all_none, all_kept, all_lost}
+use Rattle.desk_fit.proofs.Origins.{byte_none}
+use Rattle.desk_fit.proofs.byte_fits.Given as goal
+
+abbrev pub invariant-loop-j : goal.invariant-loop-j
+invariant-loop-j l = (l.j ≤ 8) × (l.ok ≡ all_below l.j (λ l.j. origin_fits l.desk (8 * l.b + l.j)))
+
+abbrev pub decreases-loop-j : goal.decreases-loop-j
+decreases-loop-j l = 8 - l.j

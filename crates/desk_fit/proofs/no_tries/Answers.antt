@@ -1,0 +1,29 @@
+use mathlib.Core.Path.{◌≡◌, ◌∙◌, sym}
+use mathlib.Core.Bool.{true}
+use mathlib.Core.Logic.{⊎_elim}
+use Prim.Native.Nat.{◌≤◌, ◌-◌}
+use native.Mathlib.Omega.{arith}
+use borrow.Author.Tests.{eq-eqb, ne_eqb}
+use Rattle.layout.specs.Layout.{origin_bytes}
+use Rattle.layout.specs.Fit.{all_below}
+use Rattle.desk_fit.specs.Empty.{no_try_in}
+use Rattle.layout.proofs.AllBelow.{all_none, all_kept, all_lost}
+use Rattle.desk_fit.proofs.no_tries.Goals as goal
+
+pub loop-b-init : goal.loop-b-init
+loop-b-init c = (omega arith, sym (all_none _))
+
+pub overflow_add-b : goal.overflow_add-b
+overflow_add-b c = omega arith
+
+pub bounds-desk-b : goal.bounds-desk-b
+bounds-desk-b c = omega arith
+
+pub overflow_add-b-in-loop-b : goal.overflow_add-b-in-loop-b
+overflow_add-b-in-loop-b c = omega arith
+
+pub loop-b-smaller : goal.loop-b-smaller
+loop-b-smaller c = omega arith
+
+pub returns : goal.returns
+returns c = let e : c.loop-b.b ≡ origin_bytes = omega arith in rw e at c.loop-b.invariant.1

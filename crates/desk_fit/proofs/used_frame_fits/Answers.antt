@@ -1,0 +1,65 @@
+use mathlib.Core.Path.{◌≡◌, ◌∙◌, sym}
+use mathlib.Core.Bool.{Bool, ◌&&◌, and-true}
+use mathlib.Core.List.{List}
+use mathlib.Core.Logic.{⊎_elim}
+use Prim.Native.Nat.{ℕ, ◌≤◌, ◌-◌, ◌+◌}
+use native.Mathlib.Omega.{arith}
+use lib.Dec.{ltb, leb}
+use borrow.Author.Rules.{rules}
+use borrow.Author.Tests.{not-true, not-false}
+use Rattle.rules.specs.Limits.{max_depth}
+use Rattle.layout.specs.Layout.{depths_at, depth_of, held_of}
+use Rattle.layout.specs.Fit.{all_below, held_fits, frame_fits}
+use Rattle.layout.proofs.AllBelow.{all_none, all_kept, all_lost}
+use Rattle.desk_fit.proofs.used_frame_fits.Goals as goal
+
+abbrev fits_at : ℕ → List ℕ → ℕ → ℕ → Bool
+fits_at K desk n p = held_fits K (ltb p (depth_of desk n)) (held_of desk n p)
+
+pub overflow_add-depth : goal.overflow_add-depth
+overflow_add-depth c = omega arith
+
+pub bounds-desk-n : goal.bounds-desk-n
+bounds-desk-n c = omega arith
+
+pub overflow_cast-depth : goal.overflow_cast-depth
+overflow_cast-depth c = omega (arith, c.shared_slice_known-2-1.given (depths_at + c.args.n))
+
+pub loop-p-init : goal.loop-p-init
+loop-p-init c = (omega arith, rw (all_none _) (sym (and-true _)))
+
+pub overflow_mul-n : goal.overflow_mul-n
+overflow_mul-n c = omega arith
+
+pub overflow_add-n : goal.overflow_add-n
+overflow_add-n c = omega arith
+
+pub overflow_add-n-in-loop-p : goal.overflow_add-n-in-loop-p
+overflow_add-n-in-loop-p c = omega arith
+
+pub bounds-desk-n-in-loop-p : goal.bounds-desk-n-in-loop-p
+bounds-desk-n-in-loop-p c = omega arith
+
+pub overflow_add-p : goal.overflow_add-p
+overflow_add-p c = omega arith
+
+pub loop-p-smaller : goal.loop-p-smaller
+loop-p-smaller c = omega arith
+
+pub loop-p-preserved : goal.loop-p-preserved
+loop-p-preserved c =
+    let a = c.args in
+    let test = fits_at a.classes a.desk.now a.n in
+    let first = leb (depth_of a.desk.now a.n) max_depth in (
+      omega arith,
+      ⊎_elim (λ w. w.1 ∙ all_lost first _ test (sym c.held_fits.ensures ∙ not-true _ w.0.taken))
+          (λ w. w.1 ∙ c.loop-p.invariant.1
+          ∙ all_kept first _ test (sym c.held_fits.ensures ∙ not-false _ w.0.left))
+          c.if-not-held_fits.branch,
+    )
+
+pub returns : goal.returns
+unfolding frame_fits
+returns c =
+    let e : c.loop-p.p ≡ max_depth = omega arith in
+    rw e at c.loop-p.invariant.1

@@ -1,0 +1,22 @@
+-- The invariant: the result is the test of the depth and of the bytes passed.
+use mathlib.Core.Path.{◌≡◌, ◌∙◌, sym}
+use mathlib.Core.Bool.{Bool, ◌&&◌, and-true}
+use mathlib.Core.List.{List}
+use mathlib.Core.Logic.{⊎_elim}
+use Prim.Native.Nat.{ℕ, ◌≤◌, ◌-◌, ◌+◌}
+use native.Mathlib.Omega.{arith}
+use lib.Dec.{ltb, leb}
+use borrow.Author.Rules.{rules}
+use borrow.Author.Tests.{not-true, not-false}
+use Rattle.rules.specs.Limits.{max_depth}
+use Rattle.layout.specs.Layout.{depths_at, depth_of, held_of}
+use Rattle.layout.specs.Fit.{all_below, held_fits, frame_fits}
+use Rattle.layout.proofs.AllBelow.{all_none, all_kept, all_lost}
+use Rattle.desk_fit.proofs.used_frame_fits.Given as goal
+
+abbrev pub invariant-loop-p : goal.invariant-loop-p
+invariant-loop-p l =
+    (l.p ≤ max_depth) × (l.ok ≡ (leb (depth_of l.desk l.n) max_depth && all_below l.p (fits_at l.classes l.desk l.n)))
+
+abbrev pub decreases-loop-p : goal.decreases-loop-p
+decreases-loop-p l = max_depth - l.p
