@@ -9,6 +9,7 @@ use Rattle.layout.specs.Layout.{place_of, lock_of}
 use Rattle.layout.specs.Fit.{all_below, entry_fits}
 use Rattle.layout.proofs.AllBelow.{all_none, all_kept, all_lost}
 use Rattle.cross_fit.proofs.Tests.{all_kept_fit}
+use Rattle.cross_fit.proofs.entries_fit.Goals.{else-not-entry_fits, then-not-entry_fits}
 use Rattle.cross_fit.proofs.entries_fit.Goals as goal
 
 pub bounds-desk-0 : goal.bounds-desk-0
@@ -43,3 +44,9 @@ loop-i-smaller c = omega arith
 
 pub returns : goal.returns
 returns c = all_kept_fit c.args.desk.now c.args.history.now c.loop-i.i c.number_at-kept.result _ (omega arith) c.number_at-kept.ensures c.loop-i.invariant.1
+
+pub loop-i-preserved : goal.loop-i-preserved
+loop-i-preserved c = (
+  omega arith,
+  elim c.if-not-entry_fits.branch [ then-not-entry_fits w ↦ w.ok-is ∙ all_lost true _ _ (sym c.entry_fits.ensures ∙ w.if-not-entry_fits.true) | else-not-entry_fits w ↦ w.ok-is ∙ c.loop-i.invariant.1 ∙ all_kept true _ _ (sym c.entry_fits.ensures ∙ w.if-not-entry_fits.false) ],
+)

@@ -8,6 +8,7 @@ use Rattle.layout.specs.Fit.{all_below, origin_fits}
 use Rattle.desk_fit.specs.Empty.{byte_fits}
 use Rattle.layout.proofs.AllBelow.{all_none, all_kept, all_lost}
 use Rattle.desk_fit.proofs.Origins.{byte_none}
+use Rattle.desk_fit.proofs.byte_fits.Goals.{else-not-origin_fits, then-not-origin_fits}
 use Rattle.desk_fit.proofs.byte_fits.Goals as goal
 
 pub overflow_add-b : goal.overflow_add-b
@@ -40,9 +41,7 @@ loop-j-smaller c = omega arith
 pub loop-j-preserved : goal.loop-j-preserved
 loop-j-preserved c = (
   omega arith,
-  ⊎_elim (λ w. w.1 ∙ all_lost true _ _ (sym c.origin_fits.ensures ∙ not-true _ w.0.taken))
-      (λ w. w.1 ∙ c.loop-j.invariant.1 ∙ all_kept true _ _ (sym c.origin_fits.ensures ∙ not-false _ w.0.left))
-      c.if-not-origin_fits.branch,
+  elim c.if-not-origin_fits.branch [ then-not-origin_fits w ↦ w.ok-is ∙ all_lost true _ _ (sym c.origin_fits.ensures ∙ w.if-not-origin_fits.true) | else-not-origin_fits w ↦ w.ok-is ∙ c.loop-j.invariant.1 ∙ all_kept true _ _ (sym c.origin_fits.ensures ∙ w.if-not-origin_fits.false) ],
 )
 
 pub returns : goal.returns

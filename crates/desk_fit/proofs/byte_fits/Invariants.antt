@@ -12,7 +12,7 @@ use Rattle.desk_fit.proofs.Origins.{byte_none}
 use Rattle.desk_fit.proofs.byte_fits.Given as goal
 
 abbrev pub invariant-loop-j : goal.invariant-loop-j
-invariant-loop-j l = (l.j ≤ 8) × (l.ok ≡ all_below l.j (λ l.j. origin_fits l.desk (8 * l.b + l.j)))
+invariant-loop-j l = (l.j ≤ 8) × (l.ok ≡ all_below l.j (λ j. origin_fits l.desk (8 * l.b + j)))
 
 abbrev pub decreases-loop-j : goal.decreases-loop-j
 decreases-loop-j l = 8 - l.j

@@ -8,6 +8,7 @@ use Rattle.layout.specs.Layout.{origin_bytes}
 use Rattle.layout.specs.Fit.{all_below}
 use Rattle.desk_fit.specs.Empty.{byte_fits}
 use Rattle.layout.proofs.AllBelow.{all_none, all_kept, all_lost}
+use Rattle.desk_fit.proofs.bytes_fit.Goals.{else-not-byte_fits, then-not-byte_fits}
 use Rattle.desk_fit.proofs.bytes_fit.Goals as goal
 
 pub loop-b-init : goal.loop-b-init
@@ -25,9 +26,7 @@ loop-b-smaller c = omega arith
 pub loop-b-preserved : goal.loop-b-preserved
 loop-b-preserved c = (
   omega arith,
-  ⊎_elim (λ w. w.1 ∙ all_lost true _ _ (sym c.byte_fits.ensures ∙ not-true _ w.0.taken))
-      (λ w. w.1 ∙ c.loop-b.invariant.1 ∙ all_kept true _ _ (sym c.byte_fits.ensures ∙ not-false _ w.0.left))
-      c.if-not-byte_fits.branch,
+  elim c.if-not-byte_fits.branch [ then-not-byte_fits w ↦ w.ok-is ∙ all_lost true _ _ (sym c.byte_fits.ensures ∙ w.if-not-byte_fits.true) | else-not-byte_fits w ↦ w.ok-is ∙ c.loop-b.invariant.1 ∙ all_kept true _ _ (sym c.byte_fits.ensures ∙ w.if-not-byte_fits.false) ],
 )
 
 pub returns : goal.returns

@@ -8,6 +8,7 @@ use Rattle.rules.specs.Limits.{max_depth}
 use Rattle.layout.specs.Fit.{all_below}
 use Rattle.desk_fit.specs.Empty.{empty_at}
 use Rattle.layout.proofs.AllBelow.{all_none, all_kept, all_lost}
+use Rattle.desk_fit.proofs.empty_frame_fits.Goals.{else-desk-n-ne0, then-desk-n-ne0}
 use Rattle.desk_fit.proofs.empty_frame_fits.Goals as goal
 
 pub loop-p-init : goal.loop-p-init
@@ -33,3 +34,11 @@ loop-p-smaller c = omega arith
 
 pub returns : goal.returns
 returns c = let e : c.loop-p.p ≡ max_depth = omega arith in rw e at c.loop-p.invariant.1
+
+pub loop-p-preserved : goal.loop-p-preserved
+loop-p-preserved c =
+    let a = c.args in
+    let test = empty_at a.desk.now a.n in (
+      omega arith,
+      elim c.if-desk-n-ne0.branch [ then-desk-n-ne0 w ↦ w.ok-is ∙ all_lost true _ test (ne_eqb _ _ w.if-desk-n-ne0.true) | else-desk-n-ne0 w ↦ w.ok-is ∙ c.loop-p.invariant.1 ∙ all_kept true _ test (eq-eqb _ _ w.if-desk-n-ne0.false) ],
+    )

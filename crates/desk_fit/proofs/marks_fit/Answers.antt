@@ -8,6 +8,7 @@ use Rattle.rules.specs.Limits.{max_classes}
 use Rattle.layout.specs.Fit.{all_below, mark_fits}
 use Rattle.layout.proofs.AllBelow.{all_kept, all_lost}
 use Rattle.desk_fit.proofs.MarkTests.{mark_zero, mark_past}
+use Rattle.desk_fit.proofs.marks_fit.Goals.{else-desk-c-ne0, then-desk-c-ne0}
 use Rattle.desk_fit.proofs.marks_fit.Goals as goal
 
 pub loop-c-init : goal.loop-c-init
@@ -27,3 +28,15 @@ loop-c-smaller c = omega arith
 
 pub returns : goal.returns
 returns c = let e : c.loop-c.c ≡ max_classes = omega arith in rw e at c.loop-c.invariant.1.1
+
+pub loop-c-preserved : goal.loop-c-preserved
+loop-c-preserved c =
+    let a = c.args in
+    let test = mark_fits a.classes a.desk.now in
+    let at = c.loop-c in (
+      omega arith,
+      (
+        omega arith,
+        elim c.if-desk-c-ne0.branch [ then-desk-c-ne0 w ↦ w.ok-is ∙ all_lost true _ test (mark_past a.classes a.desk.now at.c at.invariant.0 w.if-desk-c-ne0.true) | else-desk-c-ne0 w ↦ w.ok-is ∙ at.invariant.1.1 ∙ all_kept true _ test (mark_zero a.classes a.desk.now at.c at.invariant.0 w.if-desk-c-ne0.false) ],
+      ),
+    )

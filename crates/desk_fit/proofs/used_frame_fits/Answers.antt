@@ -11,10 +11,9 @@ use Rattle.rules.specs.Limits.{max_depth}
 use Rattle.layout.specs.Layout.{depths_at, depth_of, held_of}
 use Rattle.layout.specs.Fit.{all_below, held_fits, frame_fits}
 use Rattle.layout.proofs.AllBelow.{all_none, all_kept, all_lost}
+use Rattle.desk_fit.proofs.used_frame_fits.Invariants.{fits_at}
+use Rattle.desk_fit.proofs.used_frame_fits.Goals.{else-not-held_fits, then-not-held_fits}
 use Rattle.desk_fit.proofs.used_frame_fits.Goals as goal
-
-abbrev fits_at : ℕ → List ℕ → ℕ → ℕ → Bool
-fits_at K desk n p = held_fits K (ltb p (depth_of desk n)) (held_of desk n p)
 
 pub overflow_add-depth : goal.overflow_add-depth
 overflow_add-depth c = omega arith
@@ -52,10 +51,8 @@ loop-p-preserved c =
     let test = fits_at a.classes a.desk.now a.n in
     let first = leb (depth_of a.desk.now a.n) max_depth in (
       omega arith,
-      ⊎_elim (λ w. w.1 ∙ all_lost first _ test (sym c.held_fits.ensures ∙ not-true _ w.0.taken))
-          (λ w. w.1 ∙ c.loop-p.invariant.1
-          ∙ all_kept first _ test (sym c.held_fits.ensures ∙ not-false _ w.0.left))
-          c.if-not-held_fits.branch,
+      elim c.if-not-held_fits.branch [ then-not-held_fits w ↦ w.ok-is ∙ all_lost first _ test (sym c.held_fits.ensures ∙ w.if-not-held_fits.true) | else-not-held_fits w ↦ w.ok-is ∙ c.loop-p.invariant.1
+          ∙ all_kept first _ test (sym c.held_fits.ensures ∙ w.if-not-held_fits.false) ],
     )
 
 pub returns : goal.returns

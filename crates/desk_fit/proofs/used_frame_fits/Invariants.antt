@@ -14,6 +14,9 @@ use Rattle.layout.specs.Fit.{all_below, held_fits, frame_fits}
 use Rattle.layout.proofs.AllBelow.{all_none, all_kept, all_lost}
 use Rattle.desk_fit.proofs.used_frame_fits.Given as goal
 
+abbrev pub fits_at : ℕ → List ℕ → ℕ → ℕ → Bool
+fits_at K desk n p = held_fits K (ltb p (depth_of desk n)) (held_of desk n p)
+
 abbrev pub invariant-loop-p : goal.invariant-loop-p
 invariant-loop-p l =
     (l.p ≤ max_depth) × (l.ok ≡ (leb (depth_of l.desk l.n) max_depth && all_below l.p (fits_at l.classes l.desk l.n)))

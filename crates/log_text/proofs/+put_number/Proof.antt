@@ -42,7 +42,7 @@ put_number_slice_write_out : (t : ℕ) → put_number_lts.Need-slice-write-out (
 ) (put_number_at t) put_number.Post
 put_number_slice_write_out t c = let l = ap length (digits_one _ c.before.if1.true) in omega (arith, l)
 
-put_number_add_result : (t : ℕ) → put_number_lts.Need-overflow-add-result (
+put_number_add_result : (t : ℕ) → put_number_lts.Need-overflow_add-result (
   IsNumeral-reads.Asked,
   IsNumeral-reads.Learnt,
   put_number_below t,
@@ -97,7 +97,7 @@ put_number_slice_write_out_2 t c =
     let s = p.before.before.before.before in
     omega (arith, p.put_number.ensures.end_is, p.put_number.auto.0, s.requires.1, length_more s.args.n p.before.before.if1.false)
 
-put_number_add_result_2 : (t : ℕ) → put_number_lts.Need-overflow-add-result-2 (
+put_number_add_result_2 : (t : ℕ) → put_number_lts.Need-overflow_add-result-2 (
   IsNumeral-reads.Asked,
   IsNumeral-reads.Learnt,
   put_number_below t,
@@ -116,7 +116,7 @@ put_number_same_length_2 : (t : ℕ) → put_number_lts.Need-same-length-2 (
 ) (put_number_at t) put_number.Post
 put_number_same_length_2 t c = simp length-set c.before.before.before.put_number.auto.0
 
-put_number_returns_2 : (t : ℕ) → put_number_lts.Need-returns-2 (
+put_number_returns_2 : (t : ℕ) → put_number_lts.Need-returns (
   IsNumeral-reads.Asked,
   IsNumeral-reads.Learnt,
   put_number_below t,

@@ -1,0 +1,16 @@
+-- `log_text::put_cycle` meets its contract. Assumes nothing.
+use mathlib.Core.Path.{◌≡◌, refl, subst}
+use Prim.Native.Nat.{ℕ, ◌+◌, ◌*◌, ◌-◌, ◌≤◌}
+use native.Mathlib.Omega.{arith}
+use lib.ListN.{length, get_or}
+use Rattle.log_text.proofs.Lines.{long, started, turn}
+use Rattle.layout.proofs.Slips.{next_below}
+use Rattle.log_text.specs.Text.{lines_of, Appended}
+use Rattle.layout.specs.Slip.{entries_of}
+use Rattle.log_text.proofs.put_cycle.Given as goal
+
+abbrev pub invariant-loop-i : goal.invariant-loop-i
+invariant-loop-i l = (l.i ≤ l.n) × (length l.out ≡ length l.initial.out) × (l.end ≤ l.at + 16 * l.i) × Appended l.initial.out l.at (lines_of (entries_of l.slip) l.i) l.out l.end
+
+abbrev pub decreases-loop-i : goal.decreases-loop-i
+decreases-loop-i l = l.n - l.i
