@@ -55,14 +55,13 @@ loop-i-smaller c = omega arith
 
 pub loop-i-preserved : goal.loop-i-preserved
 loop-i-preserved c =
-    let l = c in
     let a = c.args in
     let p = c.put_entry-end in (
       omega arith,
-      omega (arith, p.auto.0, l.loop.invariant.1),
-      omega (arith, p.ensures.short, l.loop.invariant.2),
-      turn a.slip.now a.out.now _ _ a.at l.loop.end c.next_entry-to.result _ l.loop.i c.loop-i-test.true
-          c.next_entry-to.ensures l.loop.invariant.3 p.ensures,
+      omega (arith, p.auto.out, c.loop-i.invariant.1),
+      omega (arith, p.ensures.short, c.loop-i.invariant.2),
+      turn a.slip.now a.out.now _ _ a.at c.loop-i.end c.next_entry-to.result _ c.loop-i.i c.loop-i-test.true
+          c.next_entry-to.ensures c.loop-i.invariant.3 p.ensures,
     )
 
 pub shape_of-out : goal.shape_of-out

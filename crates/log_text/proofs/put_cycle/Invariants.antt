@@ -1,4 +1,4 @@
--- `log_text::put_cycle` meets its contract. Assumes nothing.
+-- `log::put_cycle` meets its contract. Assumes nothing.
 use mathlib.Core.Path.{◌≡◌, refl, subst}
 use Prim.Native.Nat.{ℕ, ◌+◌, ◌*◌, ◌-◌, ◌≤◌}
 use native.Mathlib.Omega.{arith}

@@ -1,25 +1,13 @@
--- `log_text::put_kind` meets its contract. Assumes nothing.
+-- `log::put_kind` meets its contract. Assumes nothing.
 use borrow.Author.Rules.{rules}
 use Rattle.log_text.proofs.Lines.{kind_1, kind_4, kind_low, kind_high}
 use Rattle.log_text.proofs.Writing.{as_text}
 use Rattle.log_text.proofs.put_kind.Goals as goal
 
 -- no goal of this name now
-slice_aggregate_put_word : tie.Need-slice-aggregate-put-word
-slice_aggregate_put_word c = search rules
-
 -- no goal of this name now
-slice_aggregate_put_word_2 : tie.Need-slice-aggregate-put-word-2
-slice_aggregate_put_word_2 c = search rules
-
 -- no goal of this name now
-slice_aggregate_put_word_3 : tie.Need-slice-aggregate-put-word-3
-slice_aggregate_put_word_3 c = search rules
-
 -- no goal of this name now
-slice_aggregate_put_word_4 : tie.Need-slice-aggregate-put-word-4
-slice_aggregate_put_word_4 c = search rules
-
 pub returns-then-kind-eq1 : goal.returns-then-kind-eq1
 returns-then-kind-eq1 c = as_text (kind_1 _ c.if-kind-eq1.true) c.put_word.ensures
 
@@ -28,6 +16,3 @@ returns-then-kind-eq4 c = as_text (kind_4 _ c.if-kind-eq4.true) c.put_word-then-
 
 pub returns-then-kind-lt4 : goal.returns-then-kind-lt4
 returns-then-kind-lt4 c = as_text (kind_low _ c.if-kind-eq1.false c.if-kind-lt4.true) c.put_word-then-kind-lt4.ensures
-
-pub returns : goal.returns
-returns c = as_text (kind_high _ c.if-kind-eq4.false c.if-kind-lt4.false) c.put_word-2.ensures

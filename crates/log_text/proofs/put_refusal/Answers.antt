@@ -1,4 +1,4 @@
--- `log_text::put_refusal` meets its contract. Assumes nothing.
+-- `log::put_refusal` meets its contract. Assumes nothing.
 use borrow.Author.Rules.{rules}
 use mathlib.Core.Path.{ap, sym}
 use native.Mathlib.Omega.{arith}
@@ -8,13 +8,7 @@ use Rattle.log_text.proofs.Writing.{appended_both, as_text}
 use Rattle.log_text.proofs.put_refusal.Goals as goal
 
 -- no goal of this name now
-slice_aggregate_put_word : tie.Need-slice-aggregate-put-word
-slice_aggregate_put_word c = search rules
-
 -- no goal of this name now
-slice_aggregate_put_word_2 : tie.Need-slice-aggregate-put-word-2
-slice_aggregate_put_word_2 c = search rules
-
 pub put_number-end-requires : goal.put_number-end-requires
 put_number-end-requires c = omega (arith, places_of_byte c.wide.result (omega arith))
 

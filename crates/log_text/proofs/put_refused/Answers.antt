@@ -1,4 +1,4 @@
--- `log_text::put_refused` meets its contract. Assumes nothing.
+-- `log::put_refused` meets its contract. Assumes nothing.
 use mathlib.Core.Path.{ap, sym}
 use native.Mathlib.Omega.{arith}
 use borrow.Author.Rules.{rules}
@@ -8,17 +8,8 @@ use Rattle.log_text.proofs.Writing.{appended_both, as_text}
 use Rattle.log_text.proofs.put_refused.Goals as goal
 
 -- no goal of this name now
-slice_aggregate_put_word : tie.Need-slice-aggregate-put-word
-slice_aggregate_put_word c = search rules
-
 -- no goal of this name now
-slice_aggregate_put_word_2 : tie.Need-slice-aggregate-put-word-2
-slice_aggregate_put_word_2 c = search rules
-
 -- no goal of this name now
-slice_aggregate_put_word_3 : tie.Need-slice-aggregate-put-word-3
-slice_aggregate_put_word_3 c = search rules
-
 pub put_number-b-requires : goal.put_number-b-requires
 put_number-b-requires c = omega (arith, places_of_byte c.wide.result (omega arith))
 

@@ -7,22 +7,18 @@ use mir.Val.{SFits}
 use mir.ValLaws.{to_z-of_z}
 use Rattle.balance.proofs.Integers.{sum_small}
 use Rattle.balance.proofs.Counting.{bits}
-use Rattle.balance.proofs.sum.Statement.{statement}
-use Rattle.balance.proofs.sum.Tie as tie
+use Rattle.balance.proofs.sum.Goals as goal
 
 -- The machine computes with what it reads back from the bits.
 computed : (a b : ℤ) → SFits w32 a → SFits w32 b → bits a +ℤ bits b ≡ a +ℤ b
 computed a b f g = ap₂ (λ (x y : ℤ). x +ℤ y) (to_z-of_z w32 a f) (to_z-of_z w32 b g)
 
-add_result : tie.Need-overflow-add-result
-add_result c =
+pub overflow_add-result : goal.overflow_add-result
+overflow_add-result c =
     let a = c.args.balance in
     let b = c.args.part in
     subst (λ (x : ℤ). SFits w32 x) (sym (computed a b c.ranges.balance c.ranges.part))
     (record { sfits = omega (arith, sum_small a b, c.requires.0, c.requires.1) })
 
-returns : tie.Need-returns
-returns c = to_z-of_z w32 _ (add_result c) ∙ computed c.args.balance c.args.part c.ranges.balance c.ranges.part
-
-pub sum_spec : {M : Type 1} → statement M
-sum_spec = tie.close (tie.spec add_result returns)
+pub returns : goal.returns
+returns c = to_z-of_z w32 _ (overflow_add-result c) ∙ computed c.args.balance c.args.part c.ranges.balance c.ranges.part

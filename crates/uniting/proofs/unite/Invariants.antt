@@ -1,0 +1,14 @@
+-- The invariant: the bytes passed have both.
+use mathlib.Core.Path.{◌≡◌}
+use Prim.Native.Nat.{◌≤◌, ◌-◌}
+use native.Mathlib.Omega.{arith}
+use borrow.Author.Rules.{rules}
+use Rattle.uniting.specs.United.{United}
+use Rattle.uniting.proofs.Uniting.{united_none, united_more}
+use Rattle.uniting.proofs.unite.Given as goal
+
+abbrev pub invariant-loop-j : goal.invariant-loop-j
+invariant-loop-j l = (l.at ≤ l.j) × (l.j ≤ l.end) × United l.one l.two l.at l.j l.initial.joined l.joined
+
+abbrev pub decreases-loop-j : goal.decreases-loop-j
+decreases-loop-j l = l.end - l.j
