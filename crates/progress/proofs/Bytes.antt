@@ -70,13 +70,11 @@ pub unused_byte : (array : List ℕ) (count i : ℕ) → length array ≡ longes
 unused_byte array count i l h k = past_end (take count array) i (omega (arith, length_loose array count l h))
 
 -- A part copied behind the loose bytes.
-pub part_behind : (array part mid rest : List ℕ) (count : ℕ) → count ≤ length array
-    → take (count + length part) (take count array ++ ((take (length part) part ++ mid) ++ rest)) ≡ take count array ++ part
-part_behind array part mid rest count h =
+pub part_behind : (array part rest : List ℕ) (count : ℕ) → count ≤ length array
+    → take (count + length part) (take count array ++ (part ++ rest)) ≡ take count array ++ part
+part_behind array part rest count h =
     let e : length (take count array) ≡ count = length-take-le count array h in
-    rw (take-length, append_assoc, ← append_assoc) (
-    take_at (take count array ++ part) (mid ++ rest) (count + length part) (omega (arith, length-append (take count array) part))
-    )
+    rw (← append_assoc) (take_at (take count array ++ part) rest (count + length part) (omega (arith, length-append (take count array) part)))
 
 -- The loose bytes of a buffer, copied into an array.
 loose_in : (feed behind : List ℕ) → feed_size ≤ length feed → LooseIn feed (take most_loose (drop loose_at feed) ++ behind)
@@ -88,9 +86,8 @@ loose_in feed behind h =
           take-append-le n (take most_loose (drop loose_at feed)) behind s ∙ take-take n most_loose (drop loose_at feed) m;
     }
 
-pub copied_in : (feed last part mid : List ℕ) → last ≡ take (length part) part ++ mid → part ≡ take most_loose (drop loose_at feed) → feed_size ≤ length feed
-    → LooseIn feed last
-copied_in feed last part mid e q h = rw (e, take-length, q) (loose_in feed mid h)
+pub copied_in : (feed last behind : List ℕ) → last ≡ take most_loose (drop loose_at feed) → feed_size ≤ length feed → LooseIn feed (last ++ behind)
+copied_in feed last behind e h = rw e (loose_in feed behind h)
 
 -- ---- A feed by its parts.
 

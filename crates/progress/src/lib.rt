@@ -41,7 +41,7 @@ const NUMBER_SIZE: usize = 8;
 pub const FEED_SIZE: usize = NUMBER_AT + NUMBER_SIZE;
 
 // A feed by value: the first `count` bytes of the array are the loose ones.
-#[derive(Drop)]
+#[derive(Clone, Copy)]
 pub struct Progress {
     pub answer: u8,
     pub opened: bool,
@@ -87,7 +87,7 @@ pub fn with_part(p: Progress, part: &[u8]) -> Progress
 {
     let count = p.count;
     let mut loose = p.loose;
-    bytes::copy(part, &mut loose[count..]);
+    loose[count..count + part.len()].copy_from_slice(part);
     Progress {
         answer: p.answer,
         opened: p.opened,
@@ -102,7 +102,7 @@ fn loose_of(feed: &[u8]) -> [u8; UNIT_SIZE]
     ensures { LooseIn feed.now result }
 {
     let mut loose = [0; UNIT_SIZE];
-    bytes::copy(&feed[LOOSE_AT..NUMBER_AT], &mut loose);
+    loose[..NUMBER_AT - LOOSE_AT].copy_from_slice(&feed[LOOSE_AT..NUMBER_AT]);
     loose
 }
 

@@ -11,7 +11,7 @@ ghost use Rattle.search.specs.Walk.{arrivals, Words, Settled, Meets, Finished, G
 use words::{both, lowest, with, without};
 
 // A set of arrivals: the classes arrived at by a dependency whose second letter is R, and those by N.
-#[derive(Drop)]
+#[derive(Clone, Copy)]
 pub struct Arrivals {
     pub r: u64,
     pub n: u64,

@@ -165,7 +165,7 @@ pub fn fill(
 
 // The best start so far: a cycle of n dependencies (0: none yet) from class start / 2 as after the letter start % 2. A better one has at most
 // limit dependencies.
-#[derive(Drop)]
+#[derive(Clone, Copy)]
 pub struct Begin {
     pub n: usize,
     pub start: u32,

@@ -1,0 +1,16 @@
+use mathlib.Core.Path.{◌≡◌, sym, ◌∙◌}
+use mathlib.Core.Bool.{false}
+use Prim.Native.Nat.{ℕ, ◌+◌, ◌-◌, ◌<◌, ◌≤◌}
+use borrow.Author.Rules.{rules}
+use borrow.Author.Count.{below_more}
+use native.Mathlib.Omega.{arith}
+use Rattle.layout.specs.Layout.{marks_at, mark_of}
+use Rattle.clash.specs.Clash.{answer_of}
+use Rattle.clash.proofs.Answers.{one_clashes, none_clashes}
+use Rattle.clash.proofs.some_clash.Given as goal
+
+abbrev pub invariant-loop-class : goal.invariant-loop-class
+invariant-loop-class l = (l.class ≤ l.k) × ((c : ℕ) → c < l.class → answer_of (mark_of l.desk c) ≡ false)
+
+abbrev pub decreases-loop-class : goal.decreases-loop-class
+decreases-loop-class l = l.k - l.class

@@ -1,0 +1,15 @@
+-- The invariant: the pairs with the entries passed have their numbers.
+use mathlib.Core.Path.{◌≡◌}
+use Prim.Native.Nat.{suc, ◌+◌, ◌-◌, ◌≤◌}
+use native.Mathlib.Omega.{arith}
+use borrow.Author.Rules.{rules}
+use Rattle.layout.specs.Layout.{accepted_of, since_of}
+use Rattle.history.proofs.Entries.{entries_below}
+use Rattle.history.proofs.Numbering.{Numbering, numbering_start, numbering_step, numbering_done}
+use Rattle.history.proofs.number_commit.Given as goal
+
+abbrev pub invariant-loop-i : goal.invariant-loop-i
+invariant-loop-i l = (since_of l.desk l.class ≤ l.i) × Numbering l.desk l.history l.k l.frame l.class l.initial.seen l.i l.seen
+
+abbrev pub decreases-loop-i : goal.decreases-loop-i
+decreases-loop-i l = l.kept - l.i

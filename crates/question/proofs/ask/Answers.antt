@@ -1,0 +1,34 @@
+use Rattle.question.proofs.Asks.{asked_unfit, asked_no_class, asked_answered}
+use mathlib.Core.Path.{sym, ◌∙◌}
+use native.Mathlib.Omega.{arith}
+use borrow.Author.Tests.{not-true, not-false}
+use Rattle.fit.proofs.Facts.{facts}
+use borrow.Author.Rules.{rules}
+use Rattle.question.proofs.ask.Goals as goal
+
+pub returns-then-not-fits : goal.returns-then-not-fits
+returns-then-not-fits c = asked_unfit _ _ _ _ (sym c.fits.ensures ∙ c.if-not-fits.true)
+
+pub bounds-desk-0 : goal.bounds-desk-0
+bounds-desk-0 c =
+    let f = facts _ _ _ (sym c.fits.ensures ∙ c.if-not-fits.false) in let l = f.long in omega arith
+
+pub overflow_cast-k : goal.overflow_cast-k
+overflow_cast-k c =
+    let f = facts _ _ _ (sym c.fits.ensures ∙ c.if-not-fits.false) in let l = f.few in omega arith
+
+pub returns-then-k-class : goal.returns-then-k-class
+returns-then-k-class c =
+    asked_no_class _ _ _ _ (sym c.fits.ensures ∙ c.if-not-fits.false) c.if-k-class.true
+
+pub overflow_cast-k-2 : goal.overflow_cast-k-2
+overflow_cast-k-2 c =
+    let f = facts _ _ _ (sym c.fits.ensures ∙ c.if-not-fits.false) in let l = f.few in omega arith
+
+pub successors-rows-requires : goal.successors-rows-requires
+successors-rows-requires c =
+    let f = facts _ _ _ (sym c.fits.ensures ∙ c.if-not-fits.false) in record { long = f.long; few = f.few; room = f.square }
+
+pub returns : goal.returns
+returns c =
+    asked_answered _ _ _ _ _ _ _ (λ k l. omega (arith, c.shared_slice_known-1.given k)) (λ k l. omega (arith, c.shared_slice_known-3-1.given k)) (sym c.fits.ensures ∙ c.if-not-fits.false) c.if-k-class.false c.successors-rows.ensures c.reach-word.ensures c.count-count.ensures.0
