@@ -1,14 +1,7 @@
 -- The invariant: the result is the test of the bits passed.
-use mathlib.Core.Path.{◌≡◌, ◌∙◌, sym}
-use mathlib.Core.Bool.{true}
-use mathlib.Core.Logic.{⊎_elim}
+use mathlib.Core.Path.{◌≡◌}
 use Prim.Native.Nat.{◌≤◌, ◌-◌, ◌+◌, ◌*◌}
-use native.Mathlib.Omega.{arith}
-use borrow.Author.Tests.{not-true, not-false}
 use Rattle.layout.specs.Fit.{all_below, origin_fits}
-use Rattle.desk_fit.specs.Empty.{byte_fits}
-use Rattle.layout.proofs.AllBelow.{all_none, all_kept, all_lost}
-use Rattle.desk_fit.proofs.Origins.{byte_none}
 use Rattle.desk_fit.proofs.byte_fits.Given as goal
 
 abbrev pub invariant-loop-j : goal.invariant-loop-j

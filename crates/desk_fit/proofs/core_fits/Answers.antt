@@ -1,7 +1,6 @@
 use mathlib.Core.Path.{sym, ◌∙◌}
 use borrow.Author.Tests.{le-leb, lt-leb}
 use Rattle.layout.specs.Fit.{core_fits}
-use borrow.Author.Rules.{rules}
 use Rattle.desk_fit.proofs.core_fits.Goals as goal
 
 pub returns-then-s : goal.returns-then-s

@@ -1,11 +1,9 @@
 use mathlib.Core.Path.{◌≡◌, ◌∙◌, sym}
 use mathlib.Core.Bool.{true}
-use mathlib.Core.Logic.{⊎_elim}
-use Prim.Native.Nat.{◌≤◌, ◌-◌}
+use Prim.Native.Nat.{◌-◌}
 use native.Mathlib.Omega.{arith}
-use borrow.Author.Tests.{not-true, not-false}
 use Rattle.layout.specs.Layout.{frame_count}
-use Rattle.layout.specs.Fit.{all_below, frame_fits}
+use Rattle.layout.specs.Fit.{frame_fits}
 use Rattle.layout.proofs.AllBelow.{all_none, all_kept, all_lost}
 use Rattle.desk_fit.proofs.frames_fit.Goals.{else-not-frame_fits, then-not-frame_fits}
 use Rattle.desk_fit.proofs.frames_fit.Goals as goal

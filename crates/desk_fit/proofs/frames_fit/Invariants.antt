@@ -1,13 +1,8 @@
 -- The invariant: the result is the test of the frames passed.
-use mathlib.Core.Path.{◌≡◌, ◌∙◌, sym}
-use mathlib.Core.Bool.{true}
-use mathlib.Core.Logic.{⊎_elim}
+use mathlib.Core.Path.{◌≡◌}
 use Prim.Native.Nat.{◌≤◌, ◌-◌}
-use native.Mathlib.Omega.{arith}
-use borrow.Author.Tests.{not-true, not-false}
 use Rattle.layout.specs.Layout.{frame_count}
 use Rattle.layout.specs.Fit.{all_below, frame_fits}
-use Rattle.layout.proofs.AllBelow.{all_none, all_kept, all_lost}
 use Rattle.desk_fit.proofs.frames_fit.Given as goal
 
 abbrev pub invariant-loop-n : goal.invariant-loop-n

@@ -1,11 +1,9 @@
 use mathlib.Core.Path.{◌≡◌, ◌∙◌}
 use mathlib.Core.Bool.{true}
-use mathlib.Core.Logic.{⊎_elim}
-use Prim.Native.Nat.{◌≤◌, ◌-◌}
+use Prim.Native.Nat.{◌-◌}
 use native.Mathlib.Omega.{arith}
-use borrow.Author.Rules.{rules}
 use Rattle.rules.specs.Limits.{max_classes}
-use Rattle.layout.specs.Fit.{all_below, mark_fits}
+use Rattle.layout.specs.Fit.{mark_fits}
 use Rattle.layout.proofs.AllBelow.{all_kept, all_lost}
 use Rattle.desk_fit.proofs.MarkTests.{mark_zero, mark_past}
 use Rattle.desk_fit.proofs.marks_fit.Goals.{else-desk-c-ne0, then-desk-c-ne0}

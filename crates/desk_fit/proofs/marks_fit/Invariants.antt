@@ -1,14 +1,8 @@
 -- The invariant: the result is the test of the classes passed, which are all those below K and some from K on.
-use mathlib.Core.Path.{◌≡◌, ◌∙◌}
-use mathlib.Core.Bool.{true}
-use mathlib.Core.Logic.{⊎_elim}
+use mathlib.Core.Path.{◌≡◌}
 use Prim.Native.Nat.{◌≤◌, ◌-◌}
-use native.Mathlib.Omega.{arith}
-use borrow.Author.Rules.{rules}
 use Rattle.rules.specs.Limits.{max_classes}
 use Rattle.layout.specs.Fit.{all_below, mark_fits}
-use Rattle.layout.proofs.AllBelow.{all_kept, all_lost}
-use Rattle.desk_fit.proofs.MarkTests.{mark_zero, mark_past}
 use Rattle.desk_fit.proofs.marks_fit.Given as goal
 
 abbrev pub invariant-loop-c : goal.invariant-loop-c

@@ -1,14 +1,9 @@
 -- The invariant: the result is the test of the bytes passed.
-use mathlib.Core.Path.{◌≡◌, ◌∙◌, sym}
-use mathlib.Core.Bool.{true}
-use mathlib.Core.Logic.{⊎_elim}
+use mathlib.Core.Path.{◌≡◌}
 use Prim.Native.Nat.{◌≤◌, ◌-◌}
-use native.Mathlib.Omega.{arith}
-use borrow.Author.Tests.{eq-eqb, ne_eqb}
 use Rattle.layout.specs.Layout.{origin_bytes}
 use Rattle.layout.specs.Fit.{all_below}
 use Rattle.desk_fit.specs.Empty.{no_try_in}
-use Rattle.layout.proofs.AllBelow.{all_none, all_kept, all_lost}
 use Rattle.desk_fit.proofs.no_tries.Given as goal
 
 abbrev pub invariant-loop-b : goal.invariant-loop-b

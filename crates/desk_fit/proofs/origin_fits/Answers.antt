@@ -4,7 +4,6 @@ use native.Mathlib.Omega.{arith}
 use Rattle.rules.specs.Limits.{max_depth}
 use Rattle.layout.specs.Layout.{depths_at}
 use Rattle.desk_fit.proofs.Origins.{origin_none, origin_some}
-use borrow.Author.Rules.{rules}
 use Rattle.desk_fit.proofs.origin_fits.Goals as goal
 
 pub returns-then-origin-eq0 : goal.returns-then-origin-eq0

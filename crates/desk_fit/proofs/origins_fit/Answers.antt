@@ -1,5 +1,4 @@
 use mathlib.Core.Path.{sym, ◌∙◌}
-use borrow.Author.Rules.{rules}
 use Rattle.desk_fit.proofs.Origins.{none_at_all, by_bytes}
 use Rattle.desk_fit.proofs.origins_fit.Goals as goal
 

@@ -1,15 +1,11 @@
 use mathlib.Core.Path.{◌≡◌, ◌∙◌, sym}
-use mathlib.Core.Bool.{Bool, ◌&&◌, and-true}
-use mathlib.Core.List.{List}
-use mathlib.Core.Logic.{⊎_elim}
-use Prim.Native.Nat.{ℕ, ◌≤◌, ◌-◌, ◌+◌}
+use mathlib.Core.Bool.{and-true}
+use Prim.Native.Nat.{◌-◌, ◌+◌}
 use native.Mathlib.Omega.{arith}
-use lib.Dec.{ltb, leb}
-use borrow.Author.Rules.{rules}
-use borrow.Author.Tests.{not-true, not-false}
+use lib.Dec.{leb}
 use Rattle.rules.specs.Limits.{max_depth}
-use Rattle.layout.specs.Layout.{depths_at, depth_of, held_of}
-use Rattle.layout.specs.Fit.{all_below, held_fits, frame_fits}
+use Rattle.layout.specs.Layout.{depths_at, depth_of}
+use Rattle.layout.specs.Fit.{held_fits, frame_fits}
 use Rattle.layout.proofs.AllBelow.{all_none, all_kept, all_lost}
 use Rattle.desk_fit.proofs.used_frame_fits.Invariants.{fits_at}
 use Rattle.desk_fit.proofs.used_frame_fits.Goals.{else-not-held_fits, then-not-held_fits}
@@ -51,8 +47,11 @@ loop-p-preserved c =
     let test = fits_at a.classes a.desk.now a.n in
     let first = leb (depth_of a.desk.now a.n) max_depth in (
       omega arith,
-      elim c.if-not-held_fits.branch [ then-not-held_fits w ↦ w.ok-is ∙ all_lost first _ test (sym c.held_fits.ensures ∙ w.if-not-held_fits.true) | else-not-held_fits w ↦ w.ok-is ∙ c.loop-p.invariant.1
-          ∙ all_kept first _ test (sym c.held_fits.ensures ∙ w.if-not-held_fits.false) ],
+      elim c.if-not-held_fits.branch [
+        | then-not-held_fits w ↦ w.ok-is ∙ all_lost first _ test (sym c.held_fits.ensures ∙ w.if-not-held_fits.true)
+        | else-not-held_fits w ↦ w.ok-is ∙ c.loop-p.invariant.1
+            ∙ all_kept first _ test (sym c.held_fits.ensures ∙ w.if-not-held_fits.false)
+      ],
     )
 
 pub returns : goal.returns

@@ -1,17 +1,12 @@
 -- The invariant: the result is the test of the depth and of the bytes passed.
-use mathlib.Core.Path.{◌≡◌, ◌∙◌, sym}
-use mathlib.Core.Bool.{Bool, ◌&&◌, and-true}
+use mathlib.Core.Path.{◌≡◌}
+use mathlib.Core.Bool.{Bool, ◌&&◌}
 use mathlib.Core.List.{List}
-use mathlib.Core.Logic.{⊎_elim}
-use Prim.Native.Nat.{ℕ, ◌≤◌, ◌-◌, ◌+◌}
-use native.Mathlib.Omega.{arith}
+use Prim.Native.Nat.{ℕ, ◌≤◌, ◌-◌}
 use lib.Dec.{ltb, leb}
-use borrow.Author.Rules.{rules}
-use borrow.Author.Tests.{not-true, not-false}
 use Rattle.rules.specs.Limits.{max_depth}
-use Rattle.layout.specs.Layout.{depths_at, depth_of, held_of}
-use Rattle.layout.specs.Fit.{all_below, held_fits, frame_fits}
-use Rattle.layout.proofs.AllBelow.{all_none, all_kept, all_lost}
+use Rattle.layout.specs.Layout.{depth_of, held_of}
+use Rattle.layout.specs.Fit.{all_below, held_fits}
 use Rattle.desk_fit.proofs.used_frame_fits.Given as goal
 
 abbrev pub fits_at : ℕ → List ℕ → ℕ → ℕ → Bool

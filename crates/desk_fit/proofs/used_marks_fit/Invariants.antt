@@ -1,14 +1,7 @@
 -- The invariant: the result is the test of the classes passed.
-use mathlib.Core.Path.{◌≡◌, ◌∙◌, sym}
-use mathlib.Core.Bool.{true}
-use mathlib.Core.Logic.{⊎_elim}
+use mathlib.Core.Path.{◌≡◌}
 use Prim.Native.Nat.{◌≤◌, ◌-◌}
-use native.Mathlib.Omega.{arith}
-use borrow.Author.Rules.{rules}
-use borrow.Author.Tests.{not-true, not-false}
 use Rattle.layout.specs.Fit.{all_below, mark_fits}
-use Rattle.layout.proofs.AllBelow.{all_none, all_kept, all_lost}
-use Rattle.desk_fit.proofs.MarkTests.{mark_used}
 use Rattle.desk_fit.proofs.used_marks_fit.Given as goal
 
 abbrev pub invariant-loop-c : goal.invariant-loop-c
