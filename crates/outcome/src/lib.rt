@@ -7,7 +7,7 @@ ghost use Rattle.outcome.specs.Outcomes.{outcome_of, is_answer};
 use answers::{FAULT, OK};
 
 // What came of a log.
-#[derive(Drop)]
+#[derive(Clone, Copy)]
 pub enum Outcome {
     // So many records, each accepted and clean.
     Clean(u64),
