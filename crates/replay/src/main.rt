@@ -68,5 +68,10 @@ fn main(rt: HostRuntime) {
         &mut out,
     );
     let size = text.size;
-    files::print(&mut rt.stdout(), &mut rt.stderr(), text.answer, &out[..size]);
+    files::print(
+        &mut rt.stdout(),
+        &mut rt.stderr(),
+        text.answer,
+        &out[..size],
+    );
 }

@@ -7,7 +7,7 @@ ghost use Rattle.std.specs.Prelude.{◌≤◌, length};
 
 use balance::MOST_BYTES;
 use balance_text::TEXT_SIZE;
-use std::io::{Read, Write};
+use std::io::Read;
 
 // Room for the longest piece and a byte more: a piece that fills it is too long, and nothing behind it need be read.
 const BUF_SIZE: usize = MOST_BYTES + 1;
@@ -41,12 +41,12 @@ fn main(rt: HostRuntime) {
     let mut out = [0u8; TEXT_SIZE];
     let got = read_piece(&mut rt.stdin(), &mut buf);
     if !got.whole {
-        let _ = Write::write_all(&mut rt.stderr(), b"read failed\n");
+        let _ = rt.stderr().write_all(b"read failed\n");
         return;
     }
     let n = got.size;
     let size = balance_text::put_text(&mut out, &buf[..n]);
-    if Write::write_all(&mut rt.stdout(), &out[..size]).is_err() {
-        let _ = Write::write_all(&mut rt.stderr(), b"write failed\n");
+    if rt.stdout().write_all(&out[..size]).is_err() {
+        let _ = rt.stderr().write_all(b"write failed\n");
     }
 }
