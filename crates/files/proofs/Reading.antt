@@ -1,10 +1,6 @@
 -- What the program's reads and calls come to. Assumes nothing.
-use mathlib.Core.Path.{◌≡◌, refl, ap, subst, ◌∙◌}
-use mathlib.Core.Bool.{Bool, true, cond}
-use mathlib.Core.List.{List, [], ◌∷◌, ◌++◌, append-nil}
-use Prim.Native.Nat.{ℕ, zero, suc, ◌^◌, ◌≤◌, ◌<◌}
-use lib.ListN.{length}
-use borrow.Author.Tests.{le-leb}
+use Rattle.std.proofs.Common.{◌≡◌, refl, ap, subst, ◌∙◌, Bool, true, cond, List, [], ◌∷◌, ◌++◌, ℕ, zero, suc, ◌^◌, ◌≤◌, ◌<◌, length, le-leb}
+use Rattle.std.proofs.lemmas.List.{append-nil}
 use Rattle.rules.specs.Limits.{max_classes}
 use Rattle.rules.specs.Verdict.{bad_opening}
 use Rattle.layout.specs.Layout.{count_of}

@@ -8,8 +8,8 @@ ghost use Rattle.files.specs.Replayed.{Taken, Replayed};
 
 use answers::OK;
 use layout::{ENTRIES_AT, ENTRY_SIZE, MAX_CLASSES, NUMBER_SIZE};
-use libc::{STDERR_FILENO, STDOUT_FILENO};
 use outcome::Outcome;
+use std::io::{Read, Write};
 
 // The buffers of the largest number of classes.
 pub const SHEET_SIZE: usize = MAX_CLASSES * MAX_CLASSES;
@@ -23,8 +23,8 @@ pub const BUF_SIZE: usize = 4096;
 
 // Feeds what the reads give, up to the end of the file or to the first answer but 0, and says whether no read failed. A proved loop has to end, and
 // nothing says that a log does: the reads are counted down from a number that no run uses up.
-fn feed_input(
-    file: i32,
+fn feed_input<R: Read>(
+    file: &mut R,
     feed: &mut [u8],
     desk: &mut [u8],
     sheet: &mut [u8],
@@ -38,11 +38,9 @@ fn feed_input(
     let mut reads = u64::MAX;
     while reads > 0 {
         reads -= 1;
-        let got = libc::read(file, buf);
-        if got < 0 {
+        let Ok(n) = file.read(buf) else {
             return false;
-        }
-        let n = io::count(got, buf);
+        };
         if n == 0 {
             return true;
         }
@@ -55,8 +53,8 @@ fn feed_input(
 }
 
 // Validates the whole log of a file.
-pub fn replay(
-    file: i32,
+pub fn replay<R: Read>(
+    file: &mut R,
     feed: &mut [u8],
     desk: &mut [u8],
     sheet: &mut [u8],
@@ -76,13 +74,13 @@ pub fn replay(
     outcome::outcome_of(said.answer, said.number)
 }
 
-// Writes a text, all at once.
-pub fn print(answer: bool, text: &[u8]) {
+// Writes a text, all at once: an answer to the first writer, a complaint to the second.
+pub fn print<O: Write, E: Write>(out: &mut O, err: &mut E, answer: bool, text: &[u8]) {
     if !answer {
-        io::write_all(STDERR_FILENO, text);
+        let _ = err.write_all(text);
         return;
     }
-    if !io::write_all(STDOUT_FILENO, text) {
-        io::write_all(STDERR_FILENO, b"write failed\n");
+    if out.write_all(text).is_err() {
+        let _ = err.write_all(b"write failed\n");
     }
 }

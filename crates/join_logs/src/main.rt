@@ -7,7 +7,10 @@
 ghost use Rattle.std.specs.Prelude.{◌+◌, ◌≤◌, length};
 ghost use Rattle.rules.specs.Limits.{max_classes};
 ghost use Rattle.layout.specs.Layout.{slip_size};
+ghost use Rattle.progress.specs.Feed.{feed_size};
 ghost use Rattle.log_text.specs.Text.{line_size, cycle_size, Showable};
+ghost use Rattle.validator.specs.Calls.{buffers};
+ghost use Rattle.files.specs.Replayed.{Replayed};
 
 use files::{BUF_SIZE, SEEN_SIZE, SHEET_SIZE, SLIP_SIZE};
 use join_text::is_clean;
@@ -15,26 +18,61 @@ use layout::{DESK_SIZE, HISTORY_SIZE};
 use log_text::TEXT_SIZE;
 use outcome::{Outcome, is_answer};
 use progress::FEED_SIZE;
+use std::env::Env;
+use std::fs::{File, Files};
+use std::io::{Read, Write};
 
 // Room for a log's own text behind its name.
 const OUT_SIZE: usize = 16 + TEXT_SIZE;
 
-// The file that an argument names. Where there is none, no read of it will do.
-fn open_log(argument: usize) -> i32 {
-    let mut path = io::buffer();
-    let n = os::arg(argument, &mut path);
-    os::open_read(&path[..n])
+// The system opens no longer path.
+const PATH_SIZE: usize = 4096;
+
+// The file that an argument names, if it can be opened. A name that is not UTF-8 names none: std opens no such file.
+fn open_log<R: Env + Files>(rt: &R, argument: usize) -> Option<R::File> {
+    let mut path = [0u8; PATH_SIZE];
+    let n = rt.arg(argument, &mut path).ok()?;
+    let path = str::from_utf8(&path[..n]).ok()?;
+    File::open(rt, path).ok()
+}
+
+// Validates the whole log of a file. Where there is none, no read of it will do.
+fn replay_log<R: Read>(
+    file: &mut Option<R>,
+    feed: &mut [u8],
+    desk: &mut [u8],
+    sheet: &mut [u8],
+    seen: &mut [u8],
+    history: &mut [u8],
+    slip: &mut [u8],
+    buf: &mut [u8],
+) -> Outcome
+    requires { feed_size ≤ length feed.old }
+    ensures { Replayed (buffers desk.old sheet.old seen.old history.old slip.old) result (buffers desk.new sheet.new seen.new history.new slip.new) }
+{
+    match file {
+        Some(file) => files::replay(file, feed, desk, sheet, seen, history, slip, buf),
+        None => Outcome::Unread,
+    }
 }
 
 // Writes what a log says by itself, if it is not clean.
-fn tell_own(answer: bool, out: &mut [u8], name: &[u8], outcome: Outcome, slip: &[u8])
+fn tell_own<O: Write, E: Write>(
+    to: &mut O,
+    err: &mut E,
+    answer: bool,
+    out: &mut [u8],
+    name: &[u8],
+    outcome: Outcome,
+    slip: &[u8],
+)
     requires { (length name.now + (line_size + cycle_size) ≤ length out.old) × (slip_size max_classes ≤ length slip.now) × Showable outcome slip.now }
 {
     let size = join_text::put_own(out, name, outcome, slip);
-    files::print(answer, &out[..size]);
+    files::print(to, err, answer, &out[..size]);
 }
 
-fn main() {
+fn main(rt: HostRuntime) {
     let mut feed = [0u8; FEED_SIZE];
     let mut desk1 = [0u8; DESK_SIZE];
     let mut sheet1 = [0u8; SHEET_SIZE];
@@ -51,8 +89,9 @@ fn main() {
     let mut slip = [0u8; SLIP_SIZE];
     let mut buf = [0u8; BUF_SIZE];
     let mut out = [0u8; OUT_SIZE];
-    let one = files::replay(
-        open_log(1),
+    let mut log1 = open_log(&rt, 1);
+    let one = replay_log(
+        &mut log1,
         &mut feed,
         &mut desk1,
         &mut sheet1,
@@ -61,8 +100,9 @@ fn main() {
         &mut slip1,
         &mut buf,
     );
-    let two = files::replay(
-        open_log(2),
+    let mut log2 = open_log(&rt, 2);
+    let two = replay_log(
+        &mut log2,
         &mut feed,
         &mut desk2,
         &mut sheet2,
@@ -76,10 +116,11 @@ fn main() {
             &desk1, &sheet1, &seen1, &desk2, &sheet2, &seen2, &mut desk, &mut sheet, &mut seen,
             &mut slip, &mut out,
         );
-        files::print(true, &out[..size]);
+        files::print(&mut rt.stdout(), &mut rt.stderr(), true, &out[..size]);
         return;
     }
     let answer = is_answer(one) & is_answer(two);
-    tell_own(answer, &mut out, b"log 1: ", one, &slip1);
-    tell_own(answer, &mut out, b"log 2: ", two, &slip2);
+    let (mut to, mut err) = (rt.stdout(), rt.stderr());
+    tell_own(&mut to, &mut err, answer, &mut out, b"log 1: ", one, &slip1);
+    tell_own(&mut to, &mut err, answer, &mut out, b"log 2: ", two, &slip2);
 }

@@ -13,9 +13,9 @@ ghost use Rattle.replay.specs.Texts.{TextOfInput};
 
 use files::{BUF_SIZE, SEEN_SIZE, SHEET_SIZE, SLIP_SIZE};
 use layout::{DESK_SIZE, HISTORY_SIZE};
-use libc::STDIN_FILENO;
 use log_text::TEXT_SIZE;
 use progress::FEED_SIZE;
+use std::io::Read;
 
 // A text, and whether it is an answer or a complaint.
 #[derive(Drop)]
@@ -25,7 +25,8 @@ struct Text {
 }
 
 // Validates the whole log, and makes the text of what came of it.
-fn text_of_input(
+fn text_of_input<R: Read>(
+    input: &mut R,
     feed: &mut [u8],
     desk: &mut [u8],
     sheet: &mut [u8],
@@ -38,7 +39,7 @@ fn text_of_input(
     requires { (feed_size ≤ length feed.old) × (slip_size max_classes ≤ length slip.old) × (line_size + cycle_size ≤ length out.old) }
     ensures { TextOfInput (buffers desk.old sheet.old seen.old history.old slip.old) out.old result.answer out.new result.size (buffers desk.new sheet.new seen.new history.new slip.new) }
 {
-    let outcome = files::replay(STDIN_FILENO, feed, desk, sheet, seen, history, slip, buf);
+    let outcome = files::replay(input, feed, desk, sheet, seen, history, slip, buf);
     let size = log_text::put_text(out, 0, outcome, slip);
     Text {
         answer: outcome::is_answer(outcome),
@@ -46,7 +47,7 @@ fn text_of_input(
     }
 }
 
-fn main() {
+fn main(rt: HostRuntime) {
     let mut feed = [0u8; FEED_SIZE];
     let mut desk = [0u8; DESK_SIZE];
     let mut sheet = [0u8; SHEET_SIZE];
@@ -56,6 +57,7 @@ fn main() {
     let mut buf = [0u8; BUF_SIZE];
     let mut out = [0u8; TEXT_SIZE];
     let text = text_of_input(
+        &mut rt.stdin(),
         &mut feed,
         &mut desk,
         &mut sheet,
@@ -66,5 +68,10 @@ fn main() {
         &mut out,
     );
     let size = text.size;
-    files::print(text.answer, &out[..size]);
+    files::print(
+        &mut rt.stdout(),
+        &mut rt.stderr(),
+        text.answer,
+        &out[..size],
+    );
 }

@@ -7,7 +7,7 @@ ghost use Rattle.std.specs.Prelude.{◌≤◌, length};
 
 use balance::MOST_BYTES;
 use balance_text::TEXT_SIZE;
-use libc::{STDERR_FILENO, STDIN_FILENO, STDOUT_FILENO};
+use std::io::Read;
 
 // Room for the longest piece and a byte more: a piece that fills it is too long, and nothing behind it need be read.
 const BUF_SIZE: usize = MOST_BYTES + 1;
@@ -20,16 +20,14 @@ struct Got {
 }
 
 // Reads up to the end of the input, or until the buffer is full.
-fn read_piece(buf: &mut [u8]) -> Got
+fn read_piece<R: Read>(input: &mut R, buf: &mut [u8]) -> Got
     ensures { result.size ≤ length buf.new }
 {
     let mut size = 0;
     while size < buf.len() {
-        let got = libc::read(STDIN_FILENO, &mut buf[size..]);
-        if got < 0 {
+        let Ok(n) = input.read(&mut buf[size..]) else {
             return Got { whole: false, size };
-        }
-        let n = io::count(got, &buf[size..]);
+        };
         if n == 0 {
             return Got { whole: true, size };
         }
@@ -38,17 +36,17 @@ fn read_piece(buf: &mut [u8]) -> Got
     Got { whole: true, size }
 }
 
-fn main() {
+fn main(rt: HostRuntime) {
     let mut buf = [0u8; BUF_SIZE];
     let mut out = [0u8; TEXT_SIZE];
-    let got = read_piece(&mut buf);
+    let got = read_piece(&mut rt.stdin(), &mut buf);
     if !got.whole {
-        io::write_all(STDERR_FILENO, b"read failed\n");
+        let _ = rt.stderr().write_all(b"read failed\n");
         return;
     }
     let n = got.size;
     let size = balance_text::put_text(&mut out, &buf[..n]);
-    if !io::write_all(STDOUT_FILENO, &out[..size]) {
-        io::write_all(STDERR_FILENO, b"write failed\n");
+    if rt.stdout().write_all(&out[..size]).is_err() {
+        let _ = rt.stderr().write_all(b"write failed\n");
     }
 }
