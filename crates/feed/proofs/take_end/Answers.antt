@@ -12,11 +12,11 @@ returns-then-p-ne-OK c = (stands c.if-p-ne-OK.true, c.requires.1)
 
 pub returns-then-not-p : goal.returns-then-not-p
 returns-then-not-p c =
-    (end_in_header c.args.p _ c.if-p-ne-OK.false c.if-not-p.true c.between_units.ensures.0, omega (arith, c.between_units.ensures.1))
+    (end_in_header c.args.p _ c.if-p-ne-OK.false (not-true _ c.if-not-p.true) c.between_units.ensures.0, omega (arith, c.between_units.ensures.1))
 
 pub returns-then-count-eq0 : goal.returns-then-count-eq0
 returns-then-count-eq0 c =
-    (end_between c.args.p _ c.if-p-ne-OK.false c.if-not-p.false c.if-count-eq0.true, c.requires.1)
+    (end_between c.args.p _ c.if-p-ne-OK.false (not-false _ c.if-not-p.false) c.if-count-eq0.true, c.requires.1)
 
 pub slice_bounds-unit-end : goal.slice_bounds-unit-end
 slice_bounds-unit-end c =
@@ -29,4 +29,4 @@ slice_bounds-validate_unit-end c =
 pub returns : goal.returns
 returns c =
     let j = c.validate_unit.ensures in
-    (end_in_record c.args.p _ c.if-p-ne-OK.false c.if-not-p.false c.requires.0 c.if-count-eq0.false j.0, omega (arith, j.1))
+    (end_in_record c.args.p _ c.if-p-ne-OK.false (not-false _ c.if-not-p.false) c.requires.0 c.if-count-eq0.false j.0, omega (arith, j.1))
