@@ -46,7 +46,7 @@ class Suite:
     def __init__(self, name, crate, planted, examiner, tasks, lacks, tell):
         self.name, self.crate, self.planted, self.examiner = name, crate, root / "tests" / planted, examiner
         self.tasks, self.lacks, self.tell = tasks, lacks, tell
-        self.program = root / "target/bin" / crate
+        self.program = root / "crates" / crate / "out" / crate  # as `rt ci` and `rt run` leave it
         self.notes = self.planted / "caught.txt"
 
     @functools.cache
@@ -95,7 +95,9 @@ class Suite:
         if options.program:
             self.program = options.program.resolve()
         elif options.planted is None and not self.program.exists():
-            subprocess.run(["rt", "check", self.crate], cwd=root, check=True)
+            subprocess.run(["rt", "run"], cwd=root / "crates" / self.crate, stdin=subprocess.DEVNULL, stdout=subprocess.DEVNULL)
+            if not self.program.exists():
+                sys.exit(f"tests/{self.name}: rt run built no program")
         with tempfile.TemporaryDirectory() as folder:
             shim = build_shim(folder)
             if options.quick:
@@ -131,7 +133,10 @@ class Suite:
                             return 1
                 for lack in self.lacks(met, by):
                     wrong(lack)
-            for edit, difference, trouble, seconds in workers.imap_unordered(try_planted, [] if right else [(planter, edit, shim, edit and before.get(edit.stem)) for edit in [None, *edits]]):
+            programs = {}
+            for made in workers.imap_unordered(build_planted, [] if right else [(planter, batch) for batch in planter.batches([None, *edits])]):
+                programs |= made
+            for edit, difference, trouble, seconds in workers.imap_unordered(try_planted, [(edit, program, shim, edit and before.get(edit.stem)) for edit, program in programs.items()]):
                 name = f"planted {edit.stem}" if edit else "the program built without an edit"
                 if trouble or (difference is None) != (edit is None):
                     wrong(f"{name}: {trouble or (difference and difference[1]) or 'not caught'}")
@@ -164,11 +169,18 @@ def do_task(task):
         return f"{name}: {difference}", method, Counter(examiner.met)
 
 
+def build_planted(job):
+    planter, edits = job
+    return planter.build(edits)
+
+
 def try_planted(job):
-    """Builds and examines one wrong program, or with no edit the right one: (edit, the first difference or None, what hindered or None, seconds)."""
-    planter, edit, shim, before = job
+    """Examines one wrong program, or with no edit the right one: (edit, the first difference or None, what hindered or None, seconds)."""
+    edit, program, shim, before = job
     began = time.monotonic()
     try:
-        return edit, suite.first_difference(planter.build(edit), shim, edit and likely_tests(edit), before), None, time.monotonic() - began
+        if isinstance(program, ValueError):
+            raise program
+        return edit, suite.first_difference(program, shim, edit and likely_tests(edit), before), None, time.monotonic() - began
     except ValueError as trouble:
         return edit, None, str(trouble), time.monotonic() - began
