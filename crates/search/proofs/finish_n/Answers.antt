@@ -1,4 +1,3 @@
-use borrow.Author.Rules.{rules}
 use native.Mathlib.Omega.{arith}
 use Rattle.search.proofs.Sets.{finished_n}
 use Rattle.search.proofs.finish_n.Goals as goal

@@ -1,11 +1,9 @@
 use mathlib.Core.Path.{refl}
-use Prim.Native.Nat.{ℕ, ◌-◌, ◌<◌, ◌≤◌}
+use Prim.Native.Nat.{◌-◌}
 use borrow.Author.Rules.{rules}
 use borrow.Author.Count.{below_more}
 use native.Mathlib.Omega.{arith}
 use Rattle.rules.specs.HeldLocks.{N}
-use Rattle.search.specs.Arrivals.{In}
-use Rattle.search.specs.Walk.{done_of, Settled}
 use Rattle.search.proofs.Visits.{none_done, cyclic_law, acyclic_law}
 use Rattle.search.proofs.is_cyclic.Goals as goal
 

@@ -1,13 +1,8 @@
 -- `search::is_cyclic` meets its contract. The loop's invariant: the classes below are done as after N, and the strong paths of all that is done end. Assumes nothing.
-use mathlib.Core.Path.{refl}
 use Prim.Native.Nat.{ℕ, ◌-◌, ◌<◌, ◌≤◌}
-use borrow.Author.Rules.{rules}
-use borrow.Author.Count.{below_more}
-use native.Mathlib.Omega.{arith}
 use Rattle.rules.specs.HeldLocks.{N}
 use Rattle.search.specs.Arrivals.{In}
 use Rattle.search.specs.Walk.{done_of, Settled}
-use Rattle.search.proofs.Visits.{none_done, cyclic_law, acyclic_law}
 use Rattle.search.proofs.is_cyclic.Given as goal
 
 abbrev pub invariant-loop-class : goal.invariant-loop-class

@@ -1,4 +1,3 @@
-use borrow.Author.Rules.{rules}
 use native.Mathlib.Omega.{arith}
 use Rattle.search.proofs.Sets.{first_small, onward_law}
 use Rattle.search.proofs.onward.Goals as goal

@@ -1,10 +1,8 @@
 use mathlib.Core.Path.{refl}
 use Prim.Native.Nat.{◌-◌}
-use borrow.Author.Rules.{rules}
 use native.Mathlib.Omega.{arith}
 use Rattle.rules.specs.HeldLocks.{R, N}
-use Rattle.search.specs.Arrivals.{size}
-use Rattle.search.proofs.Paths.{after_r, after_n, Progress, progress_none, progress_more, progress_less, reached_law}
+use Rattle.search.proofs.Paths.{after_r, after_n, progress_none, progress_more, progress_less, reached_law}
 use Rattle.search.proofs.reach.Goals as goal
 
 pub after_n-reached-requires : goal.after_n-reached-requires

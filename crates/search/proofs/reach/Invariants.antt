@@ -1,11 +1,7 @@
 -- `search::reach` meets its contract. The loop's invariant is Progress, and its measure counts the arrivals that are not expanded. Assumes nothing.
-use mathlib.Core.Path.{refl}
 use Prim.Native.Nat.{◌-◌}
-use borrow.Author.Rules.{rules}
-use native.Mathlib.Omega.{arith}
-use Rattle.rules.specs.HeldLocks.{R, N}
 use Rattle.search.specs.Arrivals.{size}
-use Rattle.search.proofs.Paths.{after_r, after_n, Progress, progress_none, progress_more, progress_less, reached_law}
+use Rattle.search.proofs.Paths.{Progress}
 use Rattle.search.proofs.reach.Given as goal
 
 abbrev pub invariant-loop-c : goal.invariant-loop-c

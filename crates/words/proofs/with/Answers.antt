@@ -1,4 +1,3 @@
-use borrow.Author.Rules.{rules}
 use Rattle.words.proofs.Words.{with_law}
 use Rattle.words.proofs.with.Goals as goal
 
