@@ -2,7 +2,6 @@
 use mathlib.Core.Path.{ap}
 use lib.Dec.{leb}
 use Rattle.rules.specs.Limits.{max_accepted}
-use borrow.Author.Rules.{rules}
 use Rattle.acting.proofs.is_full.Goals as goal
 
 pub returns : goal.returns

@@ -9,7 +9,6 @@ use Rattle.layout.specs.Layout.{depths_at, accepted_of}
 use Rattle.cores.proofs.Bytes.{state_less, number_less, held_in}
 use Rattle.acting.proofs.Common.{frame_past}
 use Rattle.action.proofs.Outcomes.{kept_room, acquire_no_class, acquire_wrong_sort, acquire_too_deep, acquire_history_full, acquire_count_full, acquire_accepts}
-use borrow.Author.Rules.{rules}
 use Rattle.action.proofs.acquire.Goals as goal
 
 pub returns-then-k-class : goal.returns-then-k-class

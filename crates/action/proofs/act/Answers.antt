@@ -1,5 +1,4 @@
 -- `action::act` meets its contract. Assumes nothing.
-use borrow.Author.Rules.{rules}
 use Rattle.action.proofs.act.Goals as goal
 
 pub returns-then-kind-eq-RELEASE : goal.returns-then-kind-eq-RELEASE

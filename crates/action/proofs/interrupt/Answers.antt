@@ -7,7 +7,6 @@ use Rattle.rules.specs.Record.{core_of}
 use Rattle.layout.specs.Layout.{states_at}
 use Rattle.cores.proofs.Bytes.{state_less}
 use Rattle.action.proofs.Outcomes.{interrupt_no_transition, interrupt_count_full, interrupt_accepts}
-use borrow.Author.Rules.{rules}
 use Rattle.action.proofs.interrupt.Goals as goal
 
 pub overflow_cast-desk : goal.overflow_cast-desk

@@ -6,7 +6,6 @@ use Rattle.rules.specs.Record.{core_of}
 use Rattle.layout.proofs.Cross.{kept_is}
 use Rattle.cores.proofs.Bytes.{state_less, number_less}
 use Rattle.action.proofs.Outcomes.{interrupt_still_held, interrupt_count_full, interrupt_accepts}
-use borrow.Author.Rules.{rules}
 use Rattle.action.proofs.leave.Goals as goal
 
 pub frame_of-frame-requires : goal.frame_of-frame-requires

@@ -1,7 +1,6 @@
 -- `action::no_room` meets its contract. Assumes nothing.
 use mathlib.Core.Path.{sym, ◌∙◌}
 use Rattle.action.proofs.Outcomes.{room_for_try, room_when_idle, room_by_count}
-use borrow.Author.Rules.{rules}
 use Rattle.action.proofs.no_room.Goals as goal
 
 pub returns-then-mode-ge-HELD_MODES : goal.returns-then-mode-ge-HELD_MODES

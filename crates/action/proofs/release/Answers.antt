@@ -4,7 +4,6 @@ use native.Mathlib.Omega.{arith}
 use Rattle.rules.specs.Record.{core_of}
 use Rattle.cores.proofs.Bytes.{state_less, held_in, fitting_inside}
 use Rattle.action.proofs.Outcomes.{release_no_class, release_wrong_sort, release_not_held, release_count_full, release_accepts}
-use borrow.Author.Rules.{rules}
 use Rattle.action.proofs.release.Goals as goal
 
 pub returns-then-desk-class : goal.returns-then-desk-class

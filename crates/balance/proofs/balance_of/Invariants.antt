@@ -1,19 +1,10 @@
 -- The invariant: the balances are those of the records passed. Assumes nothing.
-use mathlib.Core.Path.{◌≡◌, refl, sym, ap, ◌∙◌}
-use mathlib.Core.Bool.{Bool, false}
-use mathlib.Core.List.{List}
-use Prim.Native.Nat.{ℕ, ◌+◌, ◌-◌, ◌%◌, ◌<◌, ◌≤◌}
-use native.Mathlib.Omega.{arith}
-use borrow.Author.Rules.{rules}
-use lib.IntN.{ℤ, pos}
-use lib.ListN.{length, take, drop, replicate}
-use lib.Seq.{length-take-le}
-use Rattle.rules.specs.Limits.{max_classes}
+use mathlib.Core.Path.{◌≡◌}
+use Prim.Native.Nat.{◌-◌, ◌%◌, ◌≤◌}
+use lib.ListN.{length}
 use Rattle.rules.specs.Record.{record_size}
-use Rattle.balance.specs.Piece.{most_bytes, is_refused, for_each_class, balances_of}
-use Rattle.balance.specs.Code.{counted}
-use Rattle.balance.proofs.Adding.{passes}
-use Rattle.balance.proofs.Walking.{before, none_before, all_before, counted_more, room_of}
+use Rattle.balance.specs.Piece.{balances_of}
+use Rattle.balance.proofs.Walking.{before}
 use Rattle.balance.proofs.balance_of.Given as goal
 
 abbrev pub invariant-loop-at : goal.invariant-loop-at

@@ -2,7 +2,6 @@
 use mathlib.Core.Path.{ap}
 use native.Mathlib.Omega.{arith}
 use lib.IntN.{nat_abs}
-use borrow.Author.Rules.{rules}
 use Rattle.balance_text.proofs.Signs.{Below, below, not_below}
 use Rattle.balance_text.proofs.magnitude.Goals as goal
 

@@ -1,12 +1,12 @@
 use mathlib.Core.Path.{◌≡◌, refl, subst}
-use Prim.Native.Nat.{ℕ, ◌*◌, ◌-◌, ◌≤◌}
+use Prim.Native.Nat.{ℕ, ◌-◌}
 use native.Mathlib.Omega.{arith}
 use lib.IntN.{pos}
-use lib.ListN.{length, get_or}
+use lib.ListN.{get_or}
 use Rattle.rules.specs.Limits.{max_classes}
 use Rattle.log_text.specs.Text.{Appended}
 use Rattle.balance.proofs.Counting.{reads_back}
-use Rattle.balance_text.specs.Text.{lines_below, line_room}
+use Rattle.balance_text.specs.Text.{lines_below}
 use Rattle.balance_text.proofs.Balances.{begun, line_more}
 use Rattle.balance_text.proofs.put_balances.Goals as goal
 

@@ -1,14 +1,11 @@
 -- The invariant: the lines of the classes passed stand in the buffer. Assumes nothing.
-use mathlib.Core.Path.{◌≡◌, refl, subst}
-use Prim.Native.Nat.{ℕ, ◌*◌, ◌-◌, ◌≤◌}
-use native.Mathlib.Omega.{arith}
+use mathlib.Core.Path.{◌≡◌}
+use Prim.Native.Nat.{◌*◌, ◌-◌, ◌≤◌}
 use lib.IntN.{pos}
 use lib.ListN.{length, get_or}
 use Rattle.rules.specs.Limits.{max_classes}
 use Rattle.log_text.specs.Text.{Appended}
-use Rattle.balance.proofs.Counting.{reads_back}
 use Rattle.balance_text.specs.Text.{lines_below, line_room}
-use Rattle.balance_text.proofs.Balances.{begun, line_more}
 use Rattle.balance_text.proofs.put_balances.Given as goal
 
 abbrev pub invariant-loop-class : goal.invariant-loop-class

@@ -1,5 +1,4 @@
 -- `balance_text::put_line` meets its contract. Assumes nothing.
-use borrow.Author.Rules.{rules}
 use native.Mathlib.Omega.{arith}
 use Rattle.log_text.proofs.Digits.{places_of_byte}
 use Rattle.balance_text.proofs.Balances.{signed_short, line_put, nothing_put}

@@ -1,5 +1,4 @@
 -- `balance_text::put_signed` meets its contract. Assumes nothing.
-use borrow.Author.Rules.{rules}
 use native.Mathlib.Omega.{arith}
 use Rattle.log_text.proofs.Digits.{places_of_word}
 use Rattle.balance_text.proofs.Signs.{put_below, put_not_below}

@@ -1,5 +1,4 @@
 -- `balance_text::put_text` meets its contract. Assumes nothing.
-use borrow.Author.Rules.{rules}
 use Rattle.log_text.proofs.Writing.{as_text}
 use Rattle.balance_text.proofs.Balances.{text_refused, text_balances, room_given}
 use Rattle.balance_text.proofs.put_text.Goals as goal

@@ -8,7 +8,6 @@ use lib.Dec.{leb}
 use borrow.Author.Tests.{le-leb, lt-leb}
 use Rattle.layout.specs.Layout.{desk_size, sheet_size, seen_size, slip_size}
 use Rattle.benches.specs.Benches.{has_room}
-use borrow.Author.Rules.{rules}
 use Rattle.benches.proofs.has_room.Goals as goal
 
 module _ (K desk sheet seen slip : ℕ) where

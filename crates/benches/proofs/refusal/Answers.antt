@@ -1,11 +1,9 @@
 -- The code's tests are those of the definition, in its order: a law for each exit.
 use mathlib.Core.Path.{sym, ◌∙◌}
 use native.Mathlib.Omega.{arith}
-use borrow.Author.Tests.{not-true, not-false}
 use Rattle.layout.specs.Layout.{classes_at}
 use Rattle.fit.proofs.Facts.{facts}
 use Rattle.benches.proofs.Refusals.{larger_few, first_unfit, second_unfit, no_room, other_classes_lem, first_closed, second_closed, not_refused}
-use borrow.Author.Rules.{rules}
 use Rattle.benches.proofs.refusal.Goals as goal
 
 pub returns-then-not-fits : goal.returns-then-not-fits

@@ -2,7 +2,6 @@
 use mathlib.Core.Path.{ap₂}
 use lib.Dec.{eqb}
 use Rattle.benches.proofs.Refusals.{classes_differ, words_decide}
-use borrow.Author.Rules.{rules}
 use Rattle.benches.proofs.same_classes.Goals as goal
 
 -- src/lib.rt:55:9

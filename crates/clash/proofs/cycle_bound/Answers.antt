@@ -1,4 +1,3 @@
-use borrow.Author.Rules.{rules}
 use Rattle.clash.proofs.Answers.{clash_bound, walk_bound, no_bound}
 use Rattle.clash.proofs.cycle_bound.Goals as goal
 

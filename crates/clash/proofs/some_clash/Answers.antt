@@ -1,11 +1,9 @@
-use mathlib.Core.Path.{◌≡◌, sym, ◌∙◌}
+use mathlib.Core.Path.{sym, ◌∙◌}
 use mathlib.Core.Bool.{false}
-use Prim.Native.Nat.{ℕ, ◌+◌, ◌-◌, ◌<◌, ◌≤◌}
-use borrow.Author.Rules.{rules}
+use Prim.Native.Nat.{◌+◌, ◌-◌}
 use borrow.Author.Count.{below_more}
 use native.Mathlib.Omega.{arith}
-use Rattle.layout.specs.Layout.{marks_at, mark_of}
-use Rattle.clash.specs.Clash.{answer_of}
+use Rattle.layout.specs.Layout.{marks_at}
 use Rattle.clash.proofs.Answers.{one_clashes, none_clashes}
 use Rattle.clash.proofs.some_clash.Goals as goal
 

@@ -1,12 +1,8 @@
-use mathlib.Core.Path.{◌≡◌, sym, ◌∙◌}
+use mathlib.Core.Path.{◌≡◌}
 use mathlib.Core.Bool.{false}
-use Prim.Native.Nat.{ℕ, ◌+◌, ◌-◌, ◌<◌, ◌≤◌}
-use borrow.Author.Rules.{rules}
-use borrow.Author.Count.{below_more}
-use native.Mathlib.Omega.{arith}
-use Rattle.layout.specs.Layout.{marks_at, mark_of}
+use Prim.Native.Nat.{ℕ, ◌-◌, ◌<◌, ◌≤◌}
+use Rattle.layout.specs.Layout.{mark_of}
 use Rattle.clash.specs.Clash.{answer_of}
-use Rattle.clash.proofs.Answers.{one_clashes, none_clashes}
 use Rattle.clash.proofs.some_clash.Given as goal
 
 abbrev pub invariant-loop-class : goal.invariant-loop-class

@@ -3,7 +3,6 @@ use native.Mathlib.Omega.{arith}
 use Rattle.layout.specs.Layout.{states_at}
 use Rattle.cores.proofs.Bytes.{state_less, held_in}
 use Rattle.conclusion.proofs.Conclusions.{found_ranged, conclude_clean, conclude_fault}
-use borrow.Author.Rules.{rules}
 use Rattle.conclusion.proofs.conclude.Goals as goal
 
 pub frame_of-frame-requires : goal.frame_of-frame-requires

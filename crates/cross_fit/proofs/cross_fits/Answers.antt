@@ -1,10 +1,8 @@
 use mathlib.Core.Path.{refl, sym, ap, ◌∙◌}
 use Prim.Native.Nat.{ℕ}
 use lib.Dec.{leb}
-use borrow.Author.Tests.{not-true, not-false}
 use Rattle.rules.specs.Limits.{max_kept}
 use Rattle.cross_fit.proofs.Tests.{by_declared, by_progress, by_many, by_kept}
-use borrow.Author.Rules.{rules}
 use Rattle.cross_fit.proofs.cross_fits.Goals as goal
 
 pub returns-then-without-ne0 : goal.returns-then-without-ne0

@@ -1,5 +1,4 @@
 use Rattle.cross_fit.proofs.Tests.{all_below_lem, shift_fits}
-use borrow.Author.Rules.{rules}
 use Rattle.cross_fit.proofs.declares_below.Goals as goal
 
 pub returns-then-k-ge-MAX_CLASSES : goal.returns-then-k-ge-MAX_CLASSES

@@ -1,12 +1,6 @@
-use mathlib.Core.Path.{◌≡◌, sym, ◌∙◌}
+use mathlib.Core.Path.{sym, ◌∙◌}
 use mathlib.Core.Bool.{true}
-use mathlib.Core.Logic.{⊎_elim}
-use Prim.Native.Nat.{◌≤◌, ◌-◌}
 use native.Mathlib.Omega.{arith}
-use borrow.Author.Rules.{rules}
-use borrow.Author.Tests.{not-true, not-false}
-use Rattle.layout.specs.Layout.{place_of, lock_of}
-use Rattle.layout.specs.Fit.{all_below, entry_fits}
 use Rattle.layout.proofs.AllBelow.{all_none, all_kept, all_lost}
 use Rattle.cross_fit.proofs.Tests.{all_kept_fit}
 use Rattle.cross_fit.proofs.entries_fit.Goals.{else-not-entry_fits, then-not-entry_fits}

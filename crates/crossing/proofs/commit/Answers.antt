@@ -1,14 +1,13 @@
 -- `crossing::commit` meets its contract. Assumes nothing.
 use mathlib.Core.Path.{◌≡◌, sym, ◌∙◌}
 use native.Mathlib.Omega.{arith}
-use borrow.Author.Tests.{leb-false, not-true, not-false}
+use borrow.Author.Tests.{leb-false}
 use Rattle.rules.specs.Limits.{max_accepted}
 use Rattle.rules.specs.Record.{core_of, class_of}
 use Rattle.layout.specs.Layout.{accepted_of}
 use Rattle.cores.proofs.Bytes.{state_less}
 use Rattle.acting.specs.Action.{not_crosslock}
 use Rattle.crossing.proofs.Outcomes.{is_crosslock, ready, commits, not_crosslock_lem, not_in_progress_lem, asks_commit, count_full, commit_accepts}
-use borrow.Author.Rules.{rules}
 use Rattle.crossing.proofs.commit.Goals as goal
 
 pub returns-then-refused-ne-OK : goal.returns-then-refused-ne-OK

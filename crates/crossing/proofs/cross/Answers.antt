@@ -1,5 +1,4 @@
 -- `crossing::cross` meets its contract. Assumes nothing.
-use borrow.Author.Rules.{rules}
 use Rattle.crossing.proofs.cross.Goals as goal
 
 pub returns-then-kind-eq-CROSS_ACQUIRE : goal.returns-then-kind-eq-CROSS_ACQUIRE

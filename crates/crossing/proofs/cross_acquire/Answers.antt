@@ -8,7 +8,6 @@ use Rattle.layout.specs.Layout.{accepted_of}
 use Rattle.cores.proofs.Bytes.{state_less, held_in}
 use Rattle.acting.specs.Action.{not_crosslock}
 use Rattle.crossing.proofs.Outcomes.{is_crosslock, acquires, not_crosslock_lem, acquire_in_progress, acquire_list_full, acquire_count_full, acquire_accepts}
-use borrow.Author.Rules.{rules}
 use Rattle.crossing.proofs.cross_acquire.Goals as goal
 
 pub returns-then-refused-ne-OK : goal.returns-then-refused-ne-OK

@@ -1,11 +1,9 @@
 -- `crossing::cross_release` meets its contract. Assumes nothing.
 use mathlib.Core.Path.{◌≡◌, sym, ◌∙◌}
 use native.Mathlib.Omega.{arith}
-use borrow.Author.Tests.{not-true, not-false}
 use Rattle.rules.specs.Record.{class_of}
 use Rattle.acting.specs.Action.{not_crosslock}
 use Rattle.crossing.proofs.Outcomes.{is_crosslock, releases, not_crosslock_lem, not_in_progress_lem, asks_release, count_full, release_accepts}
-use borrow.Author.Rules.{rules}
 use Rattle.crossing.proofs.cross_release.Goals as goal
 
 pub returns-then-refused-ne-OK : goal.returns-then-refused-ne-OK

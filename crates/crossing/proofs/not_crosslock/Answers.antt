@@ -1,9 +1,7 @@
 -- `crossing::not_crosslock` meets its contract. Assumes nothing.
 use mathlib.Core.Path.{sym, ◌∙◌}
 use native.Mathlib.Omega.{arith}
-use borrow.Author.Tests.{not-true, not-false}
 use Rattle.crossing.proofs.Outcomes.{no_class_is, wrong_sort_is, crosslock_is}
-use borrow.Author.Rules.{rules}
 use Rattle.crossing.proofs.not_crosslock.Goals as goal
 
 pub returns-then-desk-class : goal.returns-then-desk-class

@@ -1,6 +1,5 @@
 use mathlib.Core.Path.{sym, ◌∙◌}
 use Rattle.crosslocks.proofs.Putting.{ends_some, ends_last}
-use borrow.Author.Rules.{rules}
 use Rattle.crosslocks.proofs.end.Goals as goal
 
 pub returns-then-is_idle : goal.returns-then-is_idle

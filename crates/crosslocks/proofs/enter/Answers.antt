@@ -1,5 +1,4 @@
 use Rattle.crosslocks.proofs.Putting.{enters}
-use borrow.Author.Rules.{rules}
 use Rattle.crosslocks.proofs.enter.Goals as goal
 
 pub returns : goal.returns

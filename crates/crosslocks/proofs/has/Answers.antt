@@ -2,7 +2,6 @@ use mathlib.Core.Path.{ap}
 use Prim.Native.Nat.{ℕ}
 use lib.Dec.{eqb}
 use Rattle.words.proofs.Words.{bit_shift}
-use borrow.Author.Rules.{rules}
 use Rattle.crosslocks.proofs.has.Goals as goal
 
 pub returns : goal.returns

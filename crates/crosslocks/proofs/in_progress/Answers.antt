@@ -3,7 +3,6 @@ use Prim.Native.Nat.{ℕ}
 use Rattle.rules.specs.Crosslocks.{size_of}
 use Rattle.layout.specs.Layout.{member_of}
 use Rattle.layout.proofs.Cross.{size_ones}
-use borrow.Author.Rules.{rules}
 use Rattle.crosslocks.proofs.in_progress.Goals as goal
 
 pub returns : goal.returns

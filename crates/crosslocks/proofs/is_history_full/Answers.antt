@@ -2,7 +2,6 @@ use mathlib.Core.Path.{ap}
 use Prim.Native.Nat.{ℕ}
 use lib.Dec.{leb}
 use Rattle.rules.specs.Limits.{max_kept}
-use borrow.Author.Rules.{rules}
 use Rattle.crosslocks.proofs.is_history_full.Goals as goal
 
 pub returns : goal.returns

@@ -1,7 +1,6 @@
 use mathlib.Core.Path.{ap, ◌∙◌}
 use Prim.Native.Nat.{ℕ}
 use Rattle.layout.specs.Layout.{member_of}
-use borrow.Author.Rules.{rules}
 use Rattle.crosslocks.proofs.is_in_progress.Goals as goal
 
 pub returns : goal.returns

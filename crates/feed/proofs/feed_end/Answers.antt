@@ -8,7 +8,6 @@ use Rattle.progress.specs.Code.{feed_of}
 use Rattle.progress.proofs.Fitness.{fit_facts}
 use Rattle.feed.specs.Fed.{Ended}
 use Rattle.feed.proofs.Turns.{found_fit, found_unfit, call_unfit, call_fit}
-use borrow.Author.Rules.{rules}
 use Rattle.feed.proofs.feed_end.Goals as goal
 
 pub returns-then-not-fits_feed : goal.returns-then-not-fits_feed

@@ -8,7 +8,6 @@ use Rattle.progress.specs.Code.{feed_of}
 use Rattle.progress.proofs.Fitness.{fit_facts}
 use Rattle.feed.specs.Fed.{Fed}
 use Rattle.feed.proofs.Turns.{few_loose, found_fit, found_unfit, call_unfit, call_fit}
-use borrow.Author.Rules.{rules}
 use Rattle.feed.proofs.feed_piece.Goals as goal
 
 pub returns-then-not-fits_feed : goal.returns-then-not-fits_feed

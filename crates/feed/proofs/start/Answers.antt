@@ -1,6 +1,5 @@
 -- `feed::start` meets its contract. Assumes nothing.
 use Rattle.feed.proofs.Turns.{no_room, started}
-use borrow.Author.Rules.{rules}
 use Rattle.feed.proofs.start.Goals as goal
 
 pub returns-then-feed-lt-FEED_SIZE : goal.returns-then-feed-lt-FEED_SIZE

@@ -4,7 +4,6 @@ use borrow.Author.Tests.{not-true, not-false}
 use Rattle.feed.specs.Fed.{stands}
 use Rattle.unit.proofs.Units.{counted_within}
 use Rattle.feed.proofs.Turns.{end_in_header, end_between, end_in_record}
-use borrow.Author.Rules.{rules}
 use Rattle.feed.proofs.take_end.Goals as goal
 
 pub returns-then-p-ne-OK : goal.returns-then-p-ne-OK

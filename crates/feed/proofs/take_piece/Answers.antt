@@ -1,17 +1,16 @@
 use mathlib.Core.Path.{◌≡◌, refl, subst}
 use mathlib.Core.List.{List}
-use Prim.Native.Nat.{ℕ, ◌-◌, ◌≤◌, ◌<◌}
+use Prim.Native.Nat.{ℕ, ◌-◌, ◌<◌}
 use native.Mathlib.Omega.{arith}
-use lib.ListN.{length, take, take-append-drop}
+use lib.ListN.{take, take-append-drop}
 use lib.Seq.{take_all}
 use Rattle.rules.specs.Log.{unit_size}
 use Rattle.validator.specs.Calls.{buffers}
-use Rattle.progress.specs.Code.{feed_of, Counted}
+use Rattle.progress.specs.Code.{feed_of}
 use Rattle.feed.specs.Fed.{Fed, stopped}
 use Rattle.feed.proofs.Cuts.{fed_none, fed_append, part_length, part_some, fed_part, part_loose}
 use Rattle.progress.proofs.UnitSizes.{unit_most}
 use Rattle.feed.proofs.Turns.{counted_few}
-use borrow.Author.Rules.{rules}
 use Rattle.feed.proofs.take_piece.Goals as goal
 
 pub loop-at-init : goal.loop-at-init

@@ -1,18 +1,11 @@
 -- The invariant: the bytes passed were taken. Assumes nothing.
-use mathlib.Core.Path.{◌≡◌, refl, subst}
-use mathlib.Core.List.{List}
-use Prim.Native.Nat.{ℕ, ◌-◌, ◌≤◌, ◌<◌}
-use native.Mathlib.Omega.{arith}
-use lib.ListN.{length, take, take-append-drop}
-use lib.Seq.{take_all}
+use mathlib.Core.Path.{◌≡◌}
+use Prim.Native.Nat.{◌-◌, ◌≤◌, ◌<◌}
+use lib.ListN.{length, take}
 use Rattle.rules.specs.Log.{unit_size}
 use Rattle.validator.specs.Calls.{buffers}
 use Rattle.progress.specs.Code.{feed_of, Counted}
-use Rattle.feed.specs.Fed.{Fed, stopped}
-use Rattle.feed.proofs.Cuts.{fed_none, fed_append, part_length, part_some, fed_part, part_loose}
-use Rattle.progress.proofs.UnitSizes.{unit_most}
-use Rattle.feed.proofs.Turns.{counted_few}
-use borrow.Author.Rules.{rules}
+use Rattle.feed.specs.Fed.{Fed}
 use Rattle.feed.proofs.take_piece.Given as goal
 
 abbrev pub invariant-loop-at : goal.invariant-loop-at

@@ -6,7 +6,7 @@ use Prim.Native.Nat.{ℕ, ◌≤◌, ◌<◌}
 use native.Mathlib.Nat.{mul-le-mul}
 use native.Mathlib.Omega.{arith}
 use lib.ListN.{length}
-use borrow.Author.Tests.{le-leb, lt-leb, not-true, not-false}
+use borrow.Author.Tests.{le-leb, lt-leb}
 use Rattle.layout.specs.Layout.{classes_at, sheet_size, seen_size, classes_of}
 use Rattle.layout.specs.Fit.{all_below, graph_fits, number_fits, numbers_fit, cross_fits, fits}
 use Rattle.fit.proofs.Facts.{graph_facts}

@@ -6,8 +6,7 @@ use Prim.Native.Nat.{ℕ, ◌≤◌, ◌<◌}
 use native.Mathlib.Nat.{mul-le-mul}
 use native.Mathlib.Omega.{arith}
 use lib.ListN.{length}
-use borrow.Author.Rules.{rules}
-use borrow.Author.Tests.{le-leb, lt-leb, not-true, not-false}
+use borrow.Author.Tests.{le-leb, lt-leb}
 use Rattle.rules.specs.Limits.{core_count, max_classes}
 use Rattle.layout.specs.Layout.{frame_count, place_count, desk_size, sheet_size, classes_at, classes_of, closed_of}
 use Rattle.layout.specs.Fit.{all_below, core_fits, frame_fits, origin_fits, mark_fits, kinds_fit, graph_fits}

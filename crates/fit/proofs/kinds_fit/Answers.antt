@@ -1,10 +1,9 @@
 use mathlib.Core.Path.{◌≡◌, ◌∙◌, sym}
 use mathlib.Core.Bool.{true}
-use mathlib.Core.Logic.{⊎_elim}
-use Prim.Native.Nat.{◌≤◌, ◌-◌}
+use Prim.Native.Nat.{◌-◌}
 use native.Mathlib.Omega.{arith}
 use borrow.Author.Tests.{le-leb, lt-leb}
-use Rattle.layout.specs.Fit.{all_below, kinds_fit}
+use Rattle.layout.specs.Fit.{kinds_fit}
 use Rattle.layout.proofs.AllBelow.{all_none, all_kept, all_lost}
 use Rattle.fit.proofs.kinds_fit.Goals.{else-sheet-j-gt-ALL_KINDS, then-sheet-j-gt-ALL_KINDS}
 use Rattle.fit.proofs.kinds_fit.Goals as goal

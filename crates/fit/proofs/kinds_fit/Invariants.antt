@@ -1,12 +1,7 @@
 -- The invariant: the result is the test of the bytes passed.
-use mathlib.Core.Path.{◌≡◌, ◌∙◌, sym}
-use mathlib.Core.Bool.{true}
-use mathlib.Core.Logic.{⊎_elim}
+use mathlib.Core.Path.{◌≡◌}
 use Prim.Native.Nat.{◌≤◌, ◌-◌}
-use native.Mathlib.Omega.{arith}
-use borrow.Author.Tests.{le-leb, lt-leb}
 use Rattle.layout.specs.Fit.{all_below, kinds_fit}
-use Rattle.layout.proofs.AllBelow.{all_none, all_kept, all_lost}
 use Rattle.fit.proofs.kinds_fit.Given as goal
 
 abbrev pub invariant-loop-j : goal.invariant-loop-j

@@ -1,14 +1,8 @@
 -- The invariant: whether some pair passed is bad.
-use mathlib.Core.Path.{◌≡◌, refl, sym, ap, ◌∙◌}
-use mathlib.Core.Bool.{Bool, true, false, not, ◌&&◌, ◌||◌, beq, not-not}
-use mathlib.Core.List.{List}
-use Prim.Native.Nat.{ℕ, ◌+◌, ◌≤◌, ◌-◌}
-use native.Mathlib.Omega.{arith}
-use lib.Dec.{eqb}
-use lib.ListN.{get_or}
-use Rattle.layout.specs.Layout.{pair_number}
+use mathlib.Core.Path.{◌≡◌}
+use mathlib.Core.Bool.{not}
+use Prim.Native.Nat.{◌≤◌, ◌-◌}
 use Rattle.layout.specs.Fit.{all_below, number_fits}
-use Rattle.layout.proofs.AllBelow.{all_none, all_step}
 use Rattle.fit.proofs.numbers_fit.Given as goal
 
 abbrev pub invariant-loop-j : goal.invariant-loop-j

@@ -1,6 +1,5 @@
 use Prim.Native.Nat.{◌+◌, ◌*◌, ◌-◌}
 use native.Mathlib.Omega.{arith}
-use borrow.Author.Rules.{rules}
 use Rattle.held.proofs.Last.{newest_most, fitting_none, fitting_hit, fitting_miss}
 use Rattle.held.proofs.fitting.Goals as goal
 

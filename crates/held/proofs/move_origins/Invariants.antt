@@ -1,7 +1,5 @@
-use Prim.Native.Nat.{ℕ, ◌≤◌, ◌-◌}
-use native.Mathlib.Omega.{arith}
-use mathlib.Core.Path.{◌≡◌, ◌∙◌, subst}
-use Rattle.held.proofs.Frames.{OriginsMoving, origins_start, origins_step, origins_done}
+use Prim.Native.Nat.{◌≤◌, ◌-◌}
+use Rattle.held.proofs.Frames.{OriginsMoving}
 use Rattle.held.proofs.move_origins.Given as goal
 
 abbrev pub invariant-loop-p : goal.invariant-loop-p

@@ -1,11 +1,10 @@
 use mathlib.Core.Path.{◌≡◌, refl, ◌∙◌, sym}
-use Prim.Native.Nat.{◌≤◌, ◌+◌, ◌%◌}
+use Prim.Native.Nat.{◌+◌, ◌%◌}
 use native.Mathlib.Omega.{arith}
 use lib.Dec.{eqb}
 use borrow.Author.Tests.{eq-eqb, ne_eqb}
-use Rattle.rules.specs.Limits.{max_depth}
 use Rattle.layout.specs.Layout.{held_of}
-use Rattle.held.specs.Frames.{last_below, newest_of}
+use Rattle.held.specs.Frames.{newest_of}
 use Rattle.held.proofs.Last.{last_hit, last_miss, last_none}
 use Rattle.held.proofs.newest.Goals as goal
 

@@ -1,6 +1,5 @@
 use native.Mathlib.Omega.{arith}
 use lib.ListN.{length-set}
-use borrow.Author.Rules.{rules}
 use Rattle.held.proofs.Frames.{push_law}
 use Rattle.held.proofs.push.Goals as goal
 

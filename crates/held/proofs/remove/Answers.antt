@@ -1,10 +1,9 @@
-use Prim.Native.Nat.{◌≤◌, ◌<◌, ◌-◌}
+use Prim.Native.Nat.{◌-◌}
 use native.Mathlib.Omega.{arith}
 use lib.ListN.{length-set}
 use mathlib.Core.Path.{◌≡◌, ◌∙◌}
-use Rattle.rules.specs.Limits.{max_depth}
 use Rattle.layout.specs.Layout.{depth_of}
-use Rattle.held.proofs.Frames.{Moving, moving_start, moving_step, remove_law}
+use Rattle.held.proofs.Frames.{moving_start, moving_step, remove_law}
 use Rattle.held.proofs.remove.Goals as goal
 
 pub overflow_add-last : goal.overflow_add-last

@@ -1,9 +1,7 @@
-use Prim.Native.Nat.{◌-◌, ◌≤◌}
+use Prim.Native.Nat.{◌-◌}
 use native.Mathlib.Omega.{arith}
-use borrow.Author.Rules.{rules}
-use Rattle.layout.specs.Layout.{since_of}
 use Rattle.history.proofs.Entries.{entries_below}
-use Rattle.history.proofs.Committing.{Committing, committing_start, committing_step, committing_done}
+use Rattle.history.proofs.Committing.{committing_start, committing_step, committing_done}
 use Rattle.history.proofs.draw_commit.Goals as goal
 
 pub since_of-i-requires : goal.since_of-i-requires

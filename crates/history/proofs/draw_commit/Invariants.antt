@@ -1,10 +1,7 @@
 -- The invariant: what the entries passed draw is drawn.
 use Prim.Native.Nat.{◌-◌, ◌≤◌}
-use native.Mathlib.Omega.{arith}
-use borrow.Author.Rules.{rules}
 use Rattle.layout.specs.Layout.{since_of}
-use Rattle.history.proofs.Entries.{entries_below}
-use Rattle.history.proofs.Committing.{Committing, committing_start, committing_step, committing_done}
+use Rattle.history.proofs.Committing.{Committing}
 use Rattle.history.proofs.draw_commit.Given as goal
 
 abbrev pub invariant-loop-i : goal.invariant-loop-i

@@ -5,7 +5,6 @@ use native.Mathlib.Omega.{arith}
 use Rattle.layout.specs.Layout.{kept_size, lock_of}
 use Rattle.layout.proofs.Buffers.{cell_inside}
 use Rattle.history.proofs.Committing.{entry_draws, entry_passed}
-use borrow.Author.Rules.{rules}
 use Rattle.history.proofs.draw_entry.Goals as goal
 
 pub overflow_cast-history : goal.overflow_cast-history

@@ -2,10 +2,8 @@ use mathlib.Core.Path.{refl, sym, ◌∙◌}
 use Prim.Native.Nat.{◌<◌}
 use native.Mathlib.Omega.{arith}
 use native.Mathlib.Numerals.{add-one}
-use lib.ListN.{length-set}
 use Rattle.rules.specs.Limits.{max_kept}
 use Rattle.history.proofs.Keeping.{kept_try, kept_idle, room_is, kept_now}
-use borrow.Author.Rules.{rules}
 use Rattle.history.proofs.keep.Goals as goal
 
 -- There is room for an entry more.

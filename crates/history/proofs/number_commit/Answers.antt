@@ -1,10 +1,9 @@
 use mathlib.Core.Path.{◌≡◌}
-use Prim.Native.Nat.{suc, ◌+◌, ◌-◌, ◌≤◌}
+use Prim.Native.Nat.{suc, ◌+◌, ◌-◌}
 use native.Mathlib.Omega.{arith}
-use borrow.Author.Rules.{rules}
-use Rattle.layout.specs.Layout.{accepted_of, since_of}
+use Rattle.layout.specs.Layout.{accepted_of}
 use Rattle.history.proofs.Entries.{entries_below}
-use Rattle.history.proofs.Numbering.{Numbering, numbering_start, numbering_step, numbering_done}
+use Rattle.history.proofs.Numbering.{numbering_start, numbering_step, numbering_done}
 use Rattle.history.proofs.number_commit.Goals as goal
 
 pub number_at-number-requires : goal.number_at-number-requires

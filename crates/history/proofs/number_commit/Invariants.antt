@@ -1,11 +1,7 @@
 -- The invariant: the pairs with the entries passed have their numbers.
-use mathlib.Core.Path.{◌≡◌}
-use Prim.Native.Nat.{suc, ◌+◌, ◌-◌, ◌≤◌}
-use native.Mathlib.Omega.{arith}
-use borrow.Author.Rules.{rules}
-use Rattle.layout.specs.Layout.{accepted_of, since_of}
-use Rattle.history.proofs.Entries.{entries_below}
-use Rattle.history.proofs.Numbering.{Numbering, numbering_start, numbering_step, numbering_done}
+use Prim.Native.Nat.{◌-◌, ◌≤◌}
+use Rattle.layout.specs.Layout.{since_of}
+use Rattle.history.proofs.Numbering.{Numbering}
 use Rattle.history.proofs.number_commit.Given as goal
 
 abbrev pub invariant-loop-i : goal.invariant-loop-i

@@ -1,7 +1,6 @@
-use Prim.Native.Nat.{◌-◌, ◌≤◌}
+use Prim.Native.Nat.{◌-◌}
 use native.Mathlib.Omega.{arith}
-use borrow.Author.Rules.{rules}
-use Rattle.history.proofs.Striking.{Striking, striking_start, striking_step, striking_done}
+use Rattle.history.proofs.Striking.{striking_start, striking_step, striking_done}
 use Rattle.history.proofs.strike.Goals as goal
 
 pub loop-i-init : goal.loop-i-init

@@ -1,8 +1,6 @@
 -- The invariant: the entries passed are done.
 use Prim.Native.Nat.{◌-◌, ◌≤◌}
-use native.Mathlib.Omega.{arith}
-use borrow.Author.Rules.{rules}
-use Rattle.history.proofs.Striking.{Striking, striking_start, striking_step, striking_done}
+use Rattle.history.proofs.Striking.{Striking}
 use Rattle.history.proofs.strike.Given as goal
 
 abbrev pub invariant-loop-i : goal.invariant-loop-i

@@ -5,7 +5,6 @@ use native.Mathlib.Omega.{arith}
 use lib.ListN.{length-set}
 use Rattle.layout.specs.Layout.{kept_size}
 use Rattle.history.proofs.Striking.{entry_left, entry_struck}
-use borrow.Author.Rules.{rules}
 use Rattle.history.proofs.strike_entry.Goals as goal
 
 pub overflow_cast-history : goal.overflow_cast-history

@@ -1,5 +1,4 @@
 use Rattle.log_text.proofs.Writing.{appended_both}
-use borrow.Author.Rules.{rules}
 use Rattle.join_text.proofs.put_fault.Goals as goal
 
 pub returns : goal.returns

@@ -4,7 +4,6 @@ use Prim.Native.Nat.{ℕ, zero, suc}
 use Rattle.log_text.specs.Text.{refused_line}
 use Rattle.log_text.proofs.Writing.{as_text}
 use Rattle.join_text.specs.JoinText.{joined_text}
-use borrow.Author.Rules.{rules}
 use Rattle.join_text.proofs.put_joined.Goals as goal
 
 other : (a : ℕ) (slip : List ℕ) → (a ≡ 0 → ⊥) → (a ≡ 1 → ⊥) → joined_text a slip ≡ refused_line a

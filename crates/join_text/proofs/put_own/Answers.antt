@@ -7,7 +7,6 @@ use Rattle.outcome.specs.declared.Outcome.{Outcome}
 use Rattle.log_text.specs.Text.{Appended, text_of}
 use Rattle.log_text.proofs.Writing.{appended_both, as_text}
 use Rattle.join_text.specs.JoinText.{is_clean, own_text}
-use borrow.Author.Rules.{rules}
 use Rattle.join_text.proofs.put_own.Goals as goal
 
 nothing : (out : List ℕ) → Appended out 0 [] out 0

@@ -1,6 +1,5 @@
 use native.Mathlib.Omega.{arith}
 use Rattle.joiner.proofs.Joins.{joined_count}
-use borrow.Author.Rules.{rules}
 use Rattle.join_text.proofs.tell_join.Goals as goal
 
 pub put_joined-requires : goal.put_joined-requires

@@ -1,5 +1,4 @@
 use native.Mathlib.Nat.{mul-le-mul}
-use borrow.Author.Rules.{rules}
 use Rattle.joiner.proofs.draw.Goals as goal
 
 pub join_numbers-requires : goal.join_numbers-requires

@@ -1,7 +1,6 @@
 use mathlib.Core.Path.{sym, ◌∙◌}
 use native.Mathlib.Omega.{arith}
 use Rattle.joiner.proofs.Joins.{refused, passed, ready, conclude_ready, joined}
-use borrow.Author.Rules.{rules}
 use Rattle.joiner.proofs.join.Goals as goal
 
 pub returns-then-refused-ne-OK : goal.returns-then-refused-ne-OK

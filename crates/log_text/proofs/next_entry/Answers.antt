@@ -1,7 +1,6 @@
 -- `log_text::next_entry` meets its contract. Assumes nothing.
 use mathlib.Core.Path.{ap, sym}
 use Prim.Native.Nat.{ℕ, ◌+◌, ◌*◌}
-use borrow.Author.Rules.{rules}
 use Rattle.layout.specs.Layout.{entries_at, entry_size}
 use Rattle.layout.proofs.Slips.{next_more, next_last}
 use Rattle.log_text.proofs.next_entry.Goals as goal

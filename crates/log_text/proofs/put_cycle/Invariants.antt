@@ -1,10 +1,7 @@
 -- `log::put_cycle` meets its contract. Assumes nothing.
-use mathlib.Core.Path.{◌≡◌, refl, subst}
-use Prim.Native.Nat.{ℕ, ◌+◌, ◌*◌, ◌-◌, ◌≤◌}
-use native.Mathlib.Omega.{arith}
-use lib.ListN.{length, get_or}
-use Rattle.log_text.proofs.Lines.{long, started, turn}
-use Rattle.layout.proofs.Slips.{next_below}
+use mathlib.Core.Path.{◌≡◌}
+use Prim.Native.Nat.{◌+◌, ◌*◌, ◌-◌, ◌≤◌}
+use lib.ListN.{length}
 use Rattle.log_text.specs.Text.{lines_of, Appended}
 use Rattle.layout.specs.Slip.{entries_of}
 use Rattle.log_text.proofs.put_cycle.Given as goal

@@ -1,7 +1,6 @@
 -- `log_text::put_entry` meets its contract. Assumes nothing.
 use mathlib.Core.Path.{ap, sym}
 use native.Mathlib.Omega.{arith}
-use borrow.Author.Rules.{rules}
 use Rattle.log_text.proofs.Lines.{length_kind, entry_put}
 use Rattle.log_text.specs.Text.{digits}
 use Rattle.log_text.proofs.Digits.{places_of_byte}

@@ -1,6 +1,5 @@
 -- `log::put_fault` meets its contract. Assumes nothing.
 use native.Mathlib.Omega.{arith}
-use borrow.Author.Rules.{rules}
 use Rattle.log_text.specs.Text.{fault_text}
 use Rattle.log_text.proofs.Digits.{places_of_word}
 use Rattle.log_text.proofs.Writing.{appended_both}

@@ -1,6 +1,5 @@
 -- `log::put_fault_cycle` meets its contract. Assumes nothing.
 use native.Mathlib.Omega.{arith}
-use borrow.Author.Rules.{rules}
 use Rattle.log_text.proofs.Lines.{fault_short}
 use Rattle.log_text.proofs.Writing.{appended_both}
 use Rattle.log_text.proofs.put_fault_cycle.Goals as goal

@@ -1,6 +1,5 @@
 -- `log::put_kind` meets its contract. Assumes nothing.
-use borrow.Author.Rules.{rules}
-use Rattle.log_text.proofs.Lines.{kind_1, kind_4, kind_low, kind_high}
+use Rattle.log_text.proofs.Lines.{kind_1, kind_4, kind_low}
 use Rattle.log_text.proofs.Writing.{as_text}
 use Rattle.log_text.proofs.put_kind.Goals as goal
 

@@ -1,5 +1,4 @@
 -- `log::put_refusal` meets its contract. Assumes nothing.
-use borrow.Author.Rules.{rules}
 use mathlib.Core.Path.{ap, sym}
 use native.Mathlib.Omega.{arith}
 use Rattle.log_text.specs.Text.{digits, refused_line}

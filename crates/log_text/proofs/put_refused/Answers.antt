@@ -1,7 +1,6 @@
 -- `log::put_refused` meets its contract. Assumes nothing.
 use mathlib.Core.Path.{ap, sym}
 use native.Mathlib.Omega.{arith}
-use borrow.Author.Rules.{rules}
 use Rattle.log_text.specs.Text.{refused_text, digits}
 use Rattle.log_text.proofs.Digits.{places_of_word, places_of_byte}
 use Rattle.log_text.proofs.Writing.{appended_both, as_text}

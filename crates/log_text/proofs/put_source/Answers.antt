@@ -1,6 +1,5 @@
 -- `log::put_source` meets its contract. Assumes nothing.
-use borrow.Author.Rules.{rules}
-use Rattle.log_text.proofs.Lines.{source_0, source_1, source_more}
+use Rattle.log_text.proofs.Lines.{source_0, source_1}
 use Rattle.log_text.proofs.Writing.{as_text}
 use Rattle.log_text.proofs.put_source.Goals as goal
 

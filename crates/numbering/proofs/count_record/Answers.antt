@@ -4,7 +4,6 @@ use Prim.Native.Nat.{suc, ◌+◌}
 use native.Mathlib.Omega.{arith}
 use Rattle.numbering.proofs.Numbering.{put_as}
 use Rattle.layout.specs.Layout.{accepted_of}
-use borrow.Author.Rules.{rules}
 use Rattle.numbering.proofs.count_record.Goals as goal
 
 pub returns : goal.returns

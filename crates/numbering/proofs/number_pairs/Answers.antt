@@ -1,11 +1,10 @@
 use mathlib.Core.Path.{◌≡◌, ◌∙◌, sym}
-use mathlib.Core.Logic.{⊎_elim}
-use Prim.Native.Nat.{suc, ◌+◌, ◌*◌, ◌%◌, ◌≤◌, ◌-◌}
+use Prim.Native.Nat.{suc, ◌+◌, ◌*◌, ◌%◌, ◌-◌}
 use native.Mathlib.Omega.{arith}
 use Rattle.rules.specs.Limits.{max_depth}
 use Rattle.layout.specs.Layout.{held_at, held_of, accepted_of}
 use Rattle.layout.proofs.Buffers.{cell_inside}
-use Rattle.numbering.proofs.Numbering.{put_as, Numbering, numbered_none, numbering_start, numbering_put, numbering_kept, numbering_done}
+use Rattle.numbering.proofs.Numbering.{put_as, numbered_none, numbering_start, numbering_put, numbering_kept, numbering_done}
 use Rattle.numbering.proofs.number_pairs.Goals.{else-number_at-eq0, then-number_at-eq0}
 use Rattle.numbering.proofs.number_pairs.Goals as goal
 
@@ -98,4 +97,3 @@ loop-p-preserved c =
       omega arith,
       elim c.if-number_at-eq0.branch [ then-number_at-eq0 w ↦ rw w.seen-is (numbering_put d _ _ _ _ c.loop-p.p s D (omega arith) (omega (arith, c.requires.0.depth)) c.requires.3 lh c.requires.4 _ (sym c.number_at.ensures ∙ w.if-number_at-eq0.true) (put_as n w.put_number.ensures)) | else-number_at-eq0 w ↦ rw w.seen-is (numbering_kept d _ _ _ _ c.loop-p.p s D (omega arith) (omega (arith, c.requires.0.depth)) c.requires.3 lh c.requires.4 (λ e. w.if-number_at-eq0.false (c.number_at.ensures ∙ e))) ],
     )
-

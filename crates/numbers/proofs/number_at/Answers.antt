@@ -1,6 +1,5 @@
 -- `numbers::number_at` meets its contract. Assumes nothing.
 use Rattle.numbers.proofs.Writing.{four}
-use borrow.Author.Rules.{rules}
 use Rattle.numbers.proofs.number_at.Goals as goal
 
 pub returns : goal.returns

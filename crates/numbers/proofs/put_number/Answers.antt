@@ -2,7 +2,6 @@
 use native.Mathlib.Omega.{arith}
 use lib.ListN.{length-set}
 use Rattle.numbers.proofs.Writing.{written}
-use borrow.Author.Rules.{rules}
 use Rattle.numbers.proofs.put_number.Goals as goal
 
 pub bounds-buffer-at-2 : goal.bounds-buffer-at-2

@@ -1,5 +1,4 @@
 use Rattle.numbers.proofs.Writing.{both_written}
-use borrow.Author.Rules.{rules}
 use Rattle.numbers.proofs.put_word.Goals as goal
 
 pub returns : goal.returns

@@ -1,6 +1,5 @@
 use native.Mathlib.Omega.{arith}
 use Rattle.numbers.proofs.Writing.{eight}
-use borrow.Author.Rules.{rules}
 use Rattle.numbers.proofs.word_at.Goals as goal
 
 pub returns : goal.returns

@@ -6,7 +6,6 @@ use native.Mathlib.Omega.{arith}
 use lib.ListN.{length, get_or}
 use Rattle.layout.specs.Layout.{states_at, desk_size}
 use Rattle.opening.proofs.Opens.{zeroed_length, zeroed_below, zeroed_front, desk_length, word_room, desk_opened}
-use borrow.Author.Rules.{rules}
 use Rattle.opening.proofs.fresh_desk.Goals as goal
 
 pub seat_cores-requires : goal.seat_cores-requires

@@ -6,13 +6,12 @@ use Prim.Native.Nat.{ℕ, ◌≤◌, ◌<◌}
 use native.Mathlib.Nat.{mul-le-mul, sub-zero}
 use native.Mathlib.Omega.{arith}
 use lib.ListN.{length}
-use borrow.Author.Tests.{lt-leb, le-leb, not-true, not-false}
+use borrow.Author.Tests.{lt-leb, le-leb}
 use Rattle.rules.specs.Limits.{max_classes}
 use Rattle.layout.specs.Layout.{desk_size, sheet_size, seen_size, history_size}
 use Rattle.layout.specs.Fit.{word_fits}
 use Rattle.opening.specs.Open.{Opened, opens, opened_desk, opened_sheet, opened_seen, opened_history}
 use Rattle.opening.proofs.Opens.{zeroed_front, desk_length}
-use borrow.Author.Rules.{rules}
 use Rattle.opening.proofs.open.Goals as goal
 
 module _ (K declared : ℕ) (desk sheet seen history : List ℕ) where

@@ -1,10 +1,8 @@
 use mathlib.Core.Path.{◌≡◌, refl, sym, ap, ◌∙◌}
-use Prim.Native.Nat.{◌≤◌, ◌-◌, ◌+◌}
+use Prim.Native.Nat.{◌-◌, ◌+◌}
 use native.Mathlib.Omega.{arith}
 use lib.ListN.{length, get_or}
 use lib.Seq.{set-get_or}
-use borrow.Author.Rules.{rules}
-use Rattle.rules.specs.Limits.{core_count}
 use Rattle.layout.specs.Layout.{states_at}
 use Rattle.context.specs.declared.CoreState.{CoreState}
 use Rattle.opening.proofs.seat_cores.Goals as goal

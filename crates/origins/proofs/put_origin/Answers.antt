@@ -1,4 +1,3 @@
-use borrow.Author.Rules.{rules}
 use Rattle.origins.proofs.Digits.{origin_put}
 use Rattle.origins.proofs.put_origin.Goals as goal
 

@@ -1,4 +1,3 @@
-use borrow.Author.Rules.{rules}
 use Rattle.origins.proofs.Digits.{digit_put}
 use Rattle.origins.proofs.with_digit.Goals as goal
 

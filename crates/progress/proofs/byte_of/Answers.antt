@@ -4,8 +4,7 @@ use Prim.Native.Nat.{◌-◌}
 use lib.Seq.{get_or-take}
 use Rattle.progress.specs.Feed.{loose_at}
 use Rattle.progress.specs.Code.{feed_of}
-use Rattle.progress.proofs.Bytes.{twelve, length_loose, answer_byte, opened_byte, count_byte, loose_byte, unused_byte, number_byte}
-use borrow.Author.Rules.{rules}
+use Rattle.progress.proofs.Bytes.{length_loose, answer_byte, opened_byte, count_byte, loose_byte, unused_byte, number_byte}
 use Rattle.progress.proofs.byte_of.Goals as goal
 
 pub returns-then-i-eq-ANSWER_AT : goal.returns-then-i-eq-ANSWER_AT

@@ -1,9 +1,7 @@
 -- `progress::fits_feed` meets its contract: a law for each exit. Assumes nothing.
 use mathlib.Core.Path.{sym, ap, ◌∙◌}
-use borrow.Author.Tests.{not-true, not-false}
 use Rattle.progress.specs.Feed.{well_formed}
 use Rattle.progress.proofs.Fitness.{too_short, odd_opened, odd_count, odd_unused, fits_by}
-use borrow.Author.Rules.{rules}
 use Rattle.progress.proofs.fits_feed.Goals as goal
 
 pub returns-then-feed-lt-FEED_SIZE : goal.returns-then-feed-lt-FEED_SIZE

@@ -4,7 +4,6 @@ use native.Mathlib.Omega.{arith}
 use lib.ListN.{drop, length-drop}
 use lib.Seq.{length-take-le}
 use Rattle.progress.proofs.Bytes.{copied_in}
-use borrow.Author.Rules.{rules}
 use Rattle.progress.proofs.loose_of.Goals as goal
 
 pub copy_from_slice-requires : goal.copy_from_slice-requires

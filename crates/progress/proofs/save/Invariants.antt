@@ -1,13 +1,11 @@
 -- The invariant: the bytes passed are the feed's, and the others as they were. Assumes nothing.
-use mathlib.Core.Path.{◌≡◌, refl, ap, ◌∙◌}
+use mathlib.Core.Path.{◌≡◌}
 use mathlib.Core.List.{◌++◌}
-use Prim.Native.Nat.{ℕ, ◌-◌, ◌≤◌}
-use native.Mathlib.Omega.{arith}
-use lib.ListN.{length, drop, length-set}
+use Prim.Native.Nat.{◌-◌, ◌≤◌}
+use lib.ListN.{length, drop}
 use Rattle.rules.specs.Decision.{tabulate}
 use Rattle.progress.specs.Feed.{feed_size, byte_of}
 use Rattle.progress.specs.Code.{feed_of}
-use Rattle.progress.proofs.Bytes.{tab_more}
 use Rattle.progress.proofs.save.Given as goal
 
 abbrev pub invariant-loop-i : goal.invariant-loop-i

@@ -1,8 +1,6 @@
 -- `progress::stands_with` meets its contract. Assumes nothing.
 use mathlib.Core.Path.{◌∙◌}
 use Rattle.progress.proofs.Fitness.{clean_stands, stands_without, stands_at, header_numbered, header_waits, header_refused}
-use native.Mathlib.Omega.{arith}
-use borrow.Author.Rules.{rules}
 use Rattle.progress.proofs.stands_with.Goals as goal
 
 pub returns-then-answer-eq-OK : goal.returns-then-answer-eq-OK

@@ -1,5 +1,4 @@
 -- `progress::unit_size` meets its contract: a law for each exit. Assumes nothing.
-use borrow.Author.Rules.{rules}
 use Rattle.progress.proofs.UnitSizes.{before_third, third_declares, third_plain}
 use Rattle.progress.proofs.unit_size.Goals as goal
 

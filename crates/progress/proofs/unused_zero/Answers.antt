@@ -1,9 +1,7 @@
-use mathlib.Core.Path.{◌≡◌, sym}
+use mathlib.Core.Path.{sym}
 use mathlib.Core.Bool.{true}
-use Prim.Native.Nat.{ℕ, ◌-◌, ◌≤◌, ◌<◌}
+use Prim.Native.Nat.{◌-◌}
 use native.Mathlib.Omega.{arith}
-use lib.ListN.{get_or}
-use borrow.Author.Rules.{rules}
 use Rattle.layout.proofs.AllBelow.{all_of}
 use Rattle.progress.specs.Feed.{most_loose, count_at, unused_zero}
 use Rattle.progress.proofs.Fitness.{used_zero, one_zero_more, not_zero}

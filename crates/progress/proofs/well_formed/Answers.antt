@@ -1,9 +1,8 @@
 -- `progress::well_formed` meets its contract. Assumes nothing.
 use mathlib.Core.Path.{◌∙◌}
 use Rattle.progress.specs.Code.{feed_of}
-use Rattle.progress.proofs.Bytes.{twelve, length_loose}
+use Rattle.progress.proofs.Bytes.{length_loose}
 use Rattle.progress.proofs.Fitness.{too_many, going_on, loose_with_answer, at_unit}
-use borrow.Author.Rules.{rules}
 use Rattle.progress.proofs.well_formed.Goals as goal
 
 pub returns-then-unit_size-p : goal.returns-then-unit_size-p

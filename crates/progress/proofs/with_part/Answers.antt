@@ -1,10 +1,7 @@
 use Rattle.progress.specs.Code.{feed_of}
-use Rattle.progress.proofs.Bytes.{twelve, part_behind, with_loose}
-use mathlib.Core.Path.{◌≡◌, refl, sym, ap, ◌∙◌}
-use Prim.Native.Nat.{◌+◌, ◌≤◌}
+use Rattle.progress.proofs.Bytes.{part_behind, with_loose}
+use mathlib.Core.Path.{refl}
 use native.Mathlib.Omega.{arith}
-use lib.ListN.{length, length-map}
-use borrow.Author.Rules.{rules}
 use Rattle.progress.proofs.with_part.Goals as goal
 
 pub returns : goal.returns

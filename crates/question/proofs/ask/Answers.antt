@@ -1,9 +1,7 @@
 use Rattle.question.proofs.Asks.{asked_unfit, asked_no_class, asked_answered}
 use mathlib.Core.Path.{sym, ◌∙◌}
 use native.Mathlib.Omega.{arith}
-use borrow.Author.Tests.{not-true, not-false}
 use Rattle.fit.proofs.Facts.{facts}
-use borrow.Author.Rules.{rules}
 use Rattle.question.proofs.ask.Goals as goal
 
 pub returns-then-not-fits : goal.returns-then-not-fits

@@ -1,6 +1,5 @@
 use mathlib.Core.Path.{◌∙◌}
 use Rattle.record.proofs.Conditions.{by_length, by_mark_0, by_mark_1, by_core, by_kind, by_mode, by_stray}
-use borrow.Author.Rules.{rules}
 use Rattle.record.proofs.is_malformed.Goals as goal
 
 pub returns-then-bytes-ne-SIZE : goal.returns-then-bytes-ne-SIZE

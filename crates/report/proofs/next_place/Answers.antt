@@ -1,7 +1,6 @@
 -- `report::next_place` meets its contract. Assumes nothing.
 use mathlib.Core.Path.{sym}
 use Rattle.layout.proofs.Slips.{next_more, next_last}
-use borrow.Author.Rules.{rules}
 use Rattle.report.proofs.next_place.Goals as goal
 
 pub returns-then-i-n : goal.returns-then-i-n

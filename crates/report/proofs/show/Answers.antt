@@ -1,12 +1,12 @@
 use mathlib.Core.Path.{◌≡◌, ◌∙◌, ap₂}
-use Prim.Native.Nat.{ℕ, ◌≤◌, ◌-◌}
+use Prim.Native.Nat.{ℕ, ◌-◌}
 use native.Mathlib.Omega.{arith}
 use lib.ListN.{get_or, length-set}
 use lib.Seq.{get_or-set_same}
 use Rattle.layout.specs.Layout.{number_of}
 use Rattle.layout.specs.Decoding.{number_by}
 use Rattle.layout.proofs.Slips.{next_below}
-use Rattle.report.proofs.Writing.{Writing, writing_start, writing_step, first_byte, shown}
+use Rattle.report.proofs.Writing.{writing_start, writing_step, first_byte, shown}
 use Rattle.report.proofs.show.Goals as goal
 
 pub count_byte-requires : goal.count_byte-requires

@@ -2,7 +2,6 @@
 use native.Mathlib.Omega.{arith}
 use lib.ListN.{length-set}
 use Rattle.report.proofs.Writing.{entry_written}
-use borrow.Author.Rules.{rules}
 use Rattle.report.proofs.write_entry.Goals as goal
 
 pub bounds-slip-at-2 : goal.bounds-slip-at-2

@@ -1,5 +1,4 @@
 use mathlib.Core.Path.{refl}
-use Prim.Native.Nat.{◌-◌}
 use native.Mathlib.Omega.{arith}
 use Rattle.rules.specs.HeldLocks.{R, N}
 use Rattle.search.proofs.Paths.{after_r, after_n, progress_none, progress_more, progress_less, reached_law}

@@ -1,9 +1,7 @@
 use mathlib.Core.Path.{◌≡◌, refl}
-use Prim.Native.Nat.{◌-◌, ◌≤◌}
-use borrow.Author.Rules.{rules}
+use Prim.Native.Nat.{◌-◌}
 use native.Mathlib.Omega.{arith}
-use Rattle.successors.specs.Successors.{Ready, SafeColumns}
-use Rattle.shortest.proofs.Chains.{Going, going_none, going_more, chained}
+use Rattle.shortest.proofs.Chains.{going_none, going_more, chained}
 use Rattle.shortest.proofs.chain.Goals as goal
 
 pub safe_words-hard-requires : goal.safe_words-hard-requires

@@ -1,9 +1,6 @@
-use mathlib.Core.Path.{◌≡◌, refl}
 use Prim.Native.Nat.{◌-◌, ◌≤◌}
-use borrow.Author.Rules.{rules}
-use native.Mathlib.Omega.{arith}
 use Rattle.successors.specs.Successors.{Ready, SafeColumns}
-use Rattle.shortest.proofs.Chains.{Going, going_none, going_more, chained}
+use Rattle.shortest.proofs.Chains.{Going}
 use Rattle.shortest.proofs.chain.Given as goal
 
 abbrev pub invariant-loop-i : goal.invariant-loop-i

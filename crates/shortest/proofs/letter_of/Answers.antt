@@ -1,5 +1,4 @@
 use Prim.Native.Nat.{◌/◌}
-use borrow.Author.Rules.{rules}
 use native.Mathlib.Omega.{arith}
 use Rattle.shortest.proofs.Words.{letter_law}
 use Rattle.shortest.proofs.letter_of.Goals as goal

@@ -1,10 +1,10 @@
 use mathlib.Core.Path.{◌≡◌}
-use Prim.Native.Nat.{◌-◌, ◌≤◌}
+use Prim.Native.Nat.{◌-◌}
 use borrow.Author.Rules.{rules}
 use native.Mathlib.Omega.{arith}
 use Rattle.starts.specs.Levels.{letter_at}
 use Rattle.shortest.specs.Shortest.{ranks_after}
-use Rattle.shortest.proofs.Picks.{ranks_few, Passed, passed_none, passed_more, picked_some, picked_none}
+use Rattle.shortest.proofs.Picks.{ranks_few, passed_none, passed_more, picked_some, picked_none}
 use Rattle.shortest.proofs.pick.Goals as goal
 
 pub loop-rank-init : goal.loop-rank-init

@@ -1,10 +1,8 @@
 use mathlib.Core.Path.{◌≡◌}
 use Prim.Native.Nat.{◌-◌, ◌≤◌}
-use borrow.Author.Rules.{rules}
-use native.Mathlib.Omega.{arith}
 use Rattle.starts.specs.Levels.{letter_at}
 use Rattle.shortest.specs.Shortest.{ranks_after}
-use Rattle.shortest.proofs.Picks.{ranks_few, Passed, passed_none, passed_more, picked_some, picked_none}
+use Rattle.shortest.proofs.Picks.{Passed}
 use Rattle.shortest.proofs.pick.Given as goal
 
 abbrev pub invariant-loop-rank : goal.invariant-loop-rank

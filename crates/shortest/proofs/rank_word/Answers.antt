@@ -1,5 +1,4 @@
 use Prim.Native.Nat.{◌/◌}
-use borrow.Author.Rules.{rules}
 use native.Mathlib.Omega.{arith}
 use Rattle.shortest.proofs.Words.{unsafe_small, rank_lock, rank_hard, rank_soft}
 use Rattle.shortest.proofs.rank_word.Goals as goal

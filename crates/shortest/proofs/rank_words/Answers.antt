@@ -1,9 +1,8 @@
 use mathlib.Core.Path.{◌≡◌, refl}
-use Prim.Native.Nat.{◌-◌, ◌≤◌}
-use borrow.Author.Rules.{rules}
+use Prim.Native.Nat.{◌-◌}
 use native.Mathlib.Omega.{arith}
 use Rattle.successors.proofs.Classes.{row_inside}
-use Rattle.shortest.proofs.Words.{Worded, worded_none, worded_more, rank_words_law}
+use Rattle.shortest.proofs.Words.{worded_none, worded_more, rank_words_law}
 use Rattle.shortest.proofs.rank_words.Goals as goal
 
 pub overflow_add-mark : goal.overflow_add-mark

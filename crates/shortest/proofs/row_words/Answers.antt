@@ -1,4 +1,3 @@
-use borrow.Author.Rules.{rules}
 use Rattle.shortest.proofs.row_words.Goals as goal
 
 pub returns : goal.returns

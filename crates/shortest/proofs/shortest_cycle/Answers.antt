@@ -1,5 +1,4 @@
 use mathlib.Core.Path.{refl}
-use borrow.Author.Rules.{rules}
 use native.Mathlib.Omega.{arith}
 use Rattle.shortest.proofs.Chains.{positive, none_found, some_found}
 use Rattle.shortest.proofs.shortest_cycle.Goals as goal

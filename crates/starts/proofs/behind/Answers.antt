@@ -1,8 +1,7 @@
 use mathlib.Core.Path.{◌≡◌}
-use Prim.Native.Nat.{◌-◌, ◌≤◌}
+use Prim.Native.Nat.{◌-◌}
 use borrow.Author.Rules.{rules}
 use native.Mathlib.Omega.{arith}
-use Rattle.starts.specs.Levels.{Behind}
 use Rattle.starts.proofs.Levels.{behind_none, behind_more}
 use Rattle.starts.proofs.behind.Goals as goal
 

@@ -1,9 +1,5 @@
-use mathlib.Core.Path.{◌≡◌}
 use Prim.Native.Nat.{◌-◌, ◌≤◌}
-use borrow.Author.Rules.{rules}
-use native.Mathlib.Omega.{arith}
 use Rattle.starts.specs.Levels.{Behind}
-use Rattle.starts.proofs.Levels.{behind_none, behind_more}
 use Rattle.starts.proofs.behind.Given as goal
 
 abbrev pub invariant-loop-class : goal.invariant-loop-class

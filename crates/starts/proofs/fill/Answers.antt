@@ -1,10 +1,7 @@
 use mathlib.Core.Path.{◌≡◌}
-use Prim.Native.Nat.{◌-◌, ◌<◌, ◌≤◌}
-use borrow.Author.Rules.{rules}
+use Prim.Native.Nat.{◌-◌}
 use native.Mathlib.Omega.{arith}
-use lib.ListN.{length}
-use Rattle.starts.specs.Levels.{letter_at}
-use Rattle.starts.proofs.Levels.{Filling, filling_none, filling_more, filled_some, filled_empty, filled_none, stored_long}
+use Rattle.starts.proofs.Levels.{filling_none, filling_more, filled_some, filled_empty, filled_none, stored_long}
 use Rattle.starts.proofs.fill.Goals as goal
 
 pub loop-m-init : goal.loop-m-init

@@ -1,9 +1,6 @@
 use mathlib.Core.Path.{◌≡◌}
-use Prim.Native.Nat.{◌-◌, ◌*◌, ◌≤◌}
-use borrow.Author.Rules.{rules}
+use Prim.Native.Nat.{◌-◌, ◌*◌}
 use native.Mathlib.Omega.{arith}
-use lib.ListN.{length}
-use Rattle.starts.specs.Starts.{Begun}
 use Rattle.starts.proofs.Starts.{begun_none, begun_more}
 use Rattle.starts.proofs.first_start.Goals as goal
 

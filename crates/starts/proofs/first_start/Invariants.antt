@@ -1,10 +1,7 @@
 use mathlib.Core.Path.{◌≡◌}
 use Prim.Native.Nat.{◌-◌, ◌*◌, ◌≤◌}
-use borrow.Author.Rules.{rules}
-use native.Mathlib.Omega.{arith}
 use lib.ListN.{length}
 use Rattle.starts.specs.Starts.{Begun}
-use Rattle.starts.proofs.Starts.{begun_none, begun_more}
 use Rattle.starts.proofs.first_start.Given as goal
 
 abbrev pub invariant-loop-start : goal.invariant-loop-start

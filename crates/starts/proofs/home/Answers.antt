@@ -1,4 +1,3 @@
-use borrow.Author.Rules.{rules}
 use Rattle.starts.proofs.Levels.{home_r, home_n}
 use Rattle.starts.proofs.home.Goals as goal
 

@@ -1,4 +1,3 @@
-use borrow.Author.Rules.{rules}
 use Rattle.starts.proofs.Levels.{in_r, not_in_r, in_n, not_in_n}
 use Rattle.starts.proofs.is_in.Goals as goal
 

@@ -1,4 +1,3 @@
-use borrow.Author.Rules.{rules}
 use Rattle.starts.proofs.Levels.{widened_e, widened_s, widened_none}
 use Rattle.starts.proofs.widened.Goals as goal
 

@@ -1,8 +1,6 @@
-use Prim.Native.Nat.{◌+◌, ◌-◌, ◌≤◌}
+use Prim.Native.Nat.{◌-◌}
 use mathlib.Core.Path.{◌≡◌}
-use borrow.Author.Rules.{rules}
 use native.Mathlib.Omega.{arith}
-use Rattle.successors.specs.Column as col
 use Rattle.successors.proofs.Digits.{column_none, lanes_step, lanes_split}
 use Rattle.successors.proofs.block.Goals as goal
 

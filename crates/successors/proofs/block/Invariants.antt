@@ -1,10 +1,7 @@
 -- The invariant: the lanes are the columns of the bytes from t on.
 use Prim.Native.Nat.{◌+◌, ◌-◌, ◌≤◌}
 use mathlib.Core.Path.{◌≡◌}
-use borrow.Author.Rules.{rules}
-use native.Mathlib.Omega.{arith}
 use Rattle.successors.specs.Column as col
-use Rattle.successors.proofs.Digits.{column_none, lanes_step, lanes_split}
 use Rattle.successors.proofs.block.Given as goal
 
 abbrev pub invariant-loop-t : goal.invariant-loop-t

@@ -1,4 +1,3 @@
-use borrow.Author.Rules.{rules}
 use native.Mathlib.Omega.{arith}
 use Rattle.successors.proofs.Classes.{row_inside, class_law}
 use Rattle.successors.proofs.class_words.Goals as goal

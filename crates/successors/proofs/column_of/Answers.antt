@@ -1,8 +1,6 @@
-use Prim.Native.Nat.{◌+◌, ◌-◌, ◌≤◌}
+use Prim.Native.Nat.{◌+◌, ◌-◌}
 use mathlib.Core.Path.{◌≡◌, sym}
-use borrow.Author.Rules.{rules}
 use native.Mathlib.Omega.{arith}
-use Rattle.successors.specs.Column.{column}
 use Rattle.successors.proofs.Digits.{column_none, column_step, column_bound}
 use Rattle.successors.proofs.column_of.Goals as goal
 

@@ -1,10 +1,7 @@
 -- The invariant: the word is the column of the bytes from c on.
 use Prim.Native.Nat.{◌+◌, ◌-◌, ◌≤◌}
-use mathlib.Core.Path.{◌≡◌, sym}
-use borrow.Author.Rules.{rules}
-use native.Mathlib.Omega.{arith}
+use mathlib.Core.Path.{◌≡◌}
 use Rattle.successors.specs.Column.{column}
-use Rattle.successors.proofs.Digits.{column_none, column_step, column_bound}
 use Rattle.successors.proofs.column_of.Given as goal
 
 abbrev pub invariant-loop-c : goal.invariant-loop-c

@@ -1,4 +1,3 @@
-use borrow.Author.Rules.{rules}
 use Rattle.words.proofs.Words.{bit_shift}
 use Rattle.successors.proofs.digit.Goals as goal
 

@@ -1,6 +1,5 @@
 use mathlib.Core.Path.{ap₂, ◌∙◌}
 use Prim.Native.Nat.{max}
-use borrow.Author.Rules.{rules}
 use Rattle.words.proofs.Words.{bit_or_lem}
 use Rattle.successors.proofs.irq_word.Goals as goal
 

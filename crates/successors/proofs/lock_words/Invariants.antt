@@ -1,10 +1,6 @@
 -- The invariant: the words are the columns of the bytes from the block on.
-use Prim.Native.Nat.{◌+◌, ◌-◌, ◌*◌, ◌≤◌, ◌/◌, ◌%◌}
-use mathlib.Core.Path.{◌≡◌}
-use borrow.Author.Rules.{rules}
-use native.Mathlib.Omega.{arith}
+use Prim.Native.Nat.{◌+◌, ◌-◌, ◌*◌, ◌≤◌}
 use Rattle.successors.specs.Column.{Columns}
-use Rattle.successors.proofs.Digits.{columns_narrow, columns_join}
 use Rattle.successors.proofs.lock_words.Given as goal
 
 abbrev pub invariant-loop-blocks : goal.invariant-loop-blocks

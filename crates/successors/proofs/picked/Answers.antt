@@ -1,4 +1,3 @@
-use borrow.Author.Rules.{rules}
 use native.Mathlib.Omega.{arith}
 use Rattle.words.proofs.Words.{bit_two, bit_zero}
 use Rattle.successors.proofs.picked.Goals as goal

@@ -1,4 +1,3 @@
-use borrow.Author.Rules.{rules}
 use native.Mathlib.Omega.{arith}
 use Rattle.successors.proofs.Digits.{spread_law}
 use Rattle.successors.proofs.spread.Goals as goal

@@ -1,6 +1,5 @@
 use mathlib.Core.Path.{◌≡◌, ap, ◌∙◌}
 use Prim.Native.Nat.{ℕ, max}
-use borrow.Author.Rules.{rules}
 use lib.Bits.{bit_or}
 use Rattle.rules.specs.HeldLocks.{E, S, R, N}
 use Rattle.words.specs.Bits.{bit}

@@ -1,8 +1,6 @@
 -- `unit::header_classes` meets its contract. Assumes nothing.
 use mathlib.Core.Path.{sym, ◌∙◌}
 use native.Mathlib.Omega.{arith}
-use borrow.Author.Rules.{rules}
-use borrow.Author.Tests.{not-true, not-false}
 use Rattle.unit.proofs.Header.{header_long, no_classes, has_classes}
 use Rattle.unit.proofs.header_classes.Goals as goal
 

@@ -1,8 +1,6 @@
 -- `unit::header_word` meets its contract. Assumes nothing.
 use mathlib.Core.Path.{sym, ◌∙◌}
 use native.Mathlib.Omega.{arith}
-use borrow.Author.Rules.{rules}
-use borrow.Author.Tests.{not-true, not-false}
 use Rattle.unit.proofs.Header.{header_long, word_long, no_header, no_word, has_word}
 use Rattle.unit.proofs.header_word.Goals as goal
 

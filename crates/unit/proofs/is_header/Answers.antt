@@ -1,5 +1,4 @@
 -- `unit::is_header` meets its contract: a law for each exit. Assumes nothing.
-use borrow.Author.Rules.{rules}
 use Rattle.unit.proofs.Header.{by_length, by_mark_0, by_mark_1, by_none, by_classes, by_word, by_version, by_plain}
 use Rattle.unit.proofs.is_header.Goals as goal
 

@@ -1,6 +1,5 @@
 -- `unit::one_more` meets its contract. Assumes nothing.
 use Rattle.unit.proofs.Units.{one_counted, stays_counted}
-use borrow.Author.Rules.{rules}
 use Rattle.unit.proofs.one_more.Goals as goal
 
 pub returns-then-number-lt18446744073709551615 : goal.returns-then-number-lt18446744073709551615

@@ -3,7 +3,6 @@ use native.Mathlib.Omega.{arith}
 use Rattle.progress.specs.Code.{feed_of}
 use Rattle.progress.proofs.UnitSizes.{unit_most}
 use Rattle.unit.proofs.Units.{counted_none, counted_within, whole_part, at_most, counted_part, part_kept, part_completes}
-use borrow.Author.Rules.{rules}
 use Rattle.unit.proofs.take_part.Goals as goal
 
 pub returns-then-p-part : goal.returns-then-p-part

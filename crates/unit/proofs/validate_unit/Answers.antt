@@ -1,7 +1,6 @@
 -- `unit::validate_unit` meets its contract: a record, or the header. Assumes nothing.
 use mathlib.Core.Path.{refl}
 use Rattle.unit.proofs.Units.{is_record, is_header_lem}
-use borrow.Author.Rules.{rules}
 use Rattle.unit.proofs.validate_unit.Goals as goal
 
 pub returns-then-opened : goal.returns-then-opened

@@ -1,11 +1,6 @@
 -- The invariant: the pairs passed have their numbers.
 use Prim.Native.Nat.{◌≤◌, ◌-◌}
-use mathlib.Core.Path.{◌≡◌, ◌∙◌, ap₂}
-use native.Mathlib.Omega.{arith}
-use borrow.Author.Rules.{rules}
-use Rattle.rules.specs.Join.{first_or}
 use Rattle.uniting.specs.United.{NumbersJoined}
-use Rattle.uniting.proofs.Uniting.{numbers_none, numbers_more}
 use Rattle.uniting.proofs.join_numbers.Given as goal
 
 abbrev pub invariant-loop-j : goal.invariant-loop-j

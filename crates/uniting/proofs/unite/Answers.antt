@@ -1,8 +1,6 @@
 use mathlib.Core.Path.{◌≡◌}
-use Prim.Native.Nat.{◌≤◌, ◌-◌}
+use Prim.Native.Nat.{◌-◌}
 use native.Mathlib.Omega.{arith}
-use borrow.Author.Rules.{rules}
-use Rattle.uniting.specs.United.{United}
 use Rattle.uniting.proofs.Uniting.{united_none, united_more}
 use Rattle.uniting.proofs.unite.Goals as goal
 

@@ -1,10 +1,6 @@
 -- The invariant: the bytes passed have both.
-use mathlib.Core.Path.{◌≡◌}
 use Prim.Native.Nat.{◌≤◌, ◌-◌}
-use native.Mathlib.Omega.{arith}
-use borrow.Author.Rules.{rules}
 use Rattle.uniting.specs.United.{United}
-use Rattle.uniting.proofs.Uniting.{united_none, united_more}
 use Rattle.uniting.proofs.unite.Given as goal
 
 abbrev pub invariant-loop-j : goal.invariant-loop-j

@@ -1,12 +1,12 @@
-use mathlib.Core.Logic.{inl, inr, ⊎_elim}
+use mathlib.Core.Logic.{inl, inr}
 use Prim.Native.Nat.{◌+◌, ◌*◌, ◌%◌}
 use Rattle.rules.specs.Limits.{max_depth}
 use Rattle.layout.specs.Layout.{held_at, held_of}
-use Prim.Native.Nat.{◌≤◌, ◌-◌}
+use Prim.Native.Nat.{◌-◌}
 use native.Mathlib.Omega.{arith}
 use Rattle.layout.proofs.Buffers.{cell_inside}
-use Rattle.update.proofs.Drawing.{Drawing, drawn_none_lem, drawing_start, drawing_step, drawing_done}
-use Rattle.update.proofs.Notes.{Noting, noting_start, noting_step, noting_done, noted_none}
+use Rattle.update.proofs.Drawing.{drawn_none_lem, drawing_start, drawing_step, drawing_done}
+use Rattle.update.proofs.Notes.{noting_start, noting_step, noting_done, noted_none}
 use Rattle.update.proofs.draw.Goals.{else-kinds-seen, then-kinds-seen}
 use Rattle.update.proofs.draw.Goals as goal
 
@@ -101,6 +101,6 @@ loop-p-preserved c =
 
 pub shape_of-sheet : goal.shape_of-sheet
 shape_of-sheet c = c.loop-p.invariant.1.keeps.long
+
 pub returns : goal.returns
 returns c = (drawing_done _ _ _ _ _ _ c.if-mode-ge-TRY.false _ _ c.loop-p.invariant.1 (omega arith), noting_done c.loop-p.invariant.2)
-

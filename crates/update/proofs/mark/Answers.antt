@@ -1,10 +1,10 @@
-use mathlib.Core.Logic.{inl, inr, ⊎_elim}
-use Prim.Native.Nat.{◌≤◌, ◌-◌, ◌+◌, ◌*◌}
+use mathlib.Core.Logic.{inl, inr}
+use Prim.Native.Nat.{◌-◌, ◌+◌, ◌*◌}
 use native.Mathlib.Omega.{arith}
 use Rattle.rules.specs.Limits.{max_depth}
 use Rattle.layout.specs.Layout.{held_at}
-use Rattle.update.proofs.Marking.{Marking, mode_small, marking_start, marking_step, marking_done}
-use Rattle.update.proofs.Notes.{Noting, noting_start, noting_step, noting_done}
+use Rattle.update.proofs.Marking.{mode_small, marking_start, marking_step, marking_done}
+use Rattle.update.proofs.Notes.{noting_start, noting_step, noting_done}
 use Rattle.update.proofs.mark.Goals.{else-marks-seen, then-marks-seen}
 use Rattle.update.proofs.mark.Goals as goal
 

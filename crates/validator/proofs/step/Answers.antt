@@ -1,12 +1,10 @@
 -- `validator::step` meets its contract. Assumes nothing.
 use mathlib.Core.Path.{sym, ◌∙◌}
 use native.Mathlib.Omega.{arith}
-use borrow.Author.Tests.{not-true, not-false}
 use Rattle.fit.proofs.Facts.{facts, cross_facts, number_facts}
 use Rattle.rules.proofs.Formed.{well_formed}
 use Rattle.validator.proofs.Fitness.{fit_cored, fit_crossed}
 use Rattle.validator.proofs.Outcomes.{unfit_buffers, unfit_history, unfit_entries, unfit_slip, is_closed, is_malformed_lem, is_refused, count_ready, conclude_ready, is_validated}
-use borrow.Author.Rules.{rules}
 use Rattle.validator.proofs.step.Goals as goal
 
 pub returns-then-not-fits : goal.returns-then-not-fits
