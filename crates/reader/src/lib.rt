@@ -1,5 +1,4 @@
-// A reader of a piece of a log. The borrow checker covers no function over a struct that holds a reference, so those are thin
-// and proved by hand; the work is in `part_at`, and other crates call `next_part`.
+// A reader of a piece of a log: the functions over the struct are thin; the work is in `part_at`, and other crates call `next_part`.
 #![tactic(auto)]
 
 ghost use Rattle.std.specs.Prelude.{◌≡◌, take, drop};
