@@ -217,12 +217,12 @@ run_fed : {f : Feed} {feed feed' : List ℕ} {b b' : Buffers} {ps : List (List �
 run_fed {f} {b = b} i no_piece = record { after = f; fed = fed_none f b (formed_loose f i.proper.formed); kept_as = i }
 run_fed {f} {b = b} i (piece {p = p} t w) =
     let c = told (λ x y z. Fed x b p y z) i (λ g n. proper_fed i.proper n) t in
-    let r = run_fed c.kept_as w in
+    let r = run_fed {f = c.after} c.kept_as w in
     record { after = r.after; fed = fed_append c.next r.fed; kept_as = r.kept_as }
 run_fed {f} {b = b} {b' = b'} {ps = ps} i (end_between t w) =
     let c = told (λ x y z. Ended x b y z) i (λ g n. proper_ended i.proper n) t in
     let s = nothing_ended i.proper c.next (sym c.answer_is) in
-    let r = run_fed c.kept_as w in
+    let r = run_fed {f = c.after} c.kept_as w in
     record { after = r.after; fed = subst₂ (λ (x : Feed) (y : Buffers). Fed x y (joined ps) r.after b') s.0 s.1 r.fed; kept_as = r.kept_as }
 
 proper_fresh : Proper fresh

@@ -169,14 +169,14 @@ pub records_fed : {K : ℕ} {s : State} {f f' : Feed} {b b' : Buffers} {bytes : 
     → f.loose ≡ [] → f.number ≡ n → n + length bytes < 2 ^ 64 → Fed f b bytes f' b' → After K (validate K s n (records_of bytes)) bytes f' b b'
 records_fed n H e o i m h (stopped x) = absurd (x e)
 records_fed {bytes = bytes} n H e o i m h (kept y k) = after_none n H e o i m bytes k
-records_fed {f = f} {bytes = bytes} n H e o i m h (completed {f₁ = f₁} {b₁ = b₁} unit rest y q l j r) =
+records_fed {K} {s} {f = f} {bytes = bytes} n H e o i m h (completed {f₁ = f₁} {b₁ = b₁} unit rest y q l j r) =
     let w : bytes ≡ unit ++ rest = ap (λ (x : List ℕ). x ++ bytes) (sym i) ∙ q in
     let d : length unit ≡ record_size = l ∙ ap (λ (t : Bool). unit_size t unit) o in
     let z = room_for n unit rest bytes w d h in
     let c : more f.number ≡ suc n = counted_one n m z.0 in
     let g = record_validated o j in
     after_record n f.number unit rest bytes H w d c g
-    (λ x. records_fed (suc n) (step_holds H (validated_by H {b' = b₁} g.called))
+    (λ x. records_fed {s = (step K s unit).state} (suc n) (step_holds H (validated_by H {b' = b₁} g.called))
     (ap (λ (v : Feed). v.answer) g.is ∙ x) (ap (λ (v : Feed). v.opened) g.is) (ap (λ (v : Feed). v.loose) g.is)
     (ap (λ (v : Feed). v.number) g.is ∙ c) z.1 r)
     r

@@ -98,7 +98,7 @@ history_stays {K} {s} o w = by (start_holds o) (start_cross o) w
     by {s} {d} {b} h z (call {b' = c} {r = r} t w) o =
         let j = validated_by h t in
         let e : (step K s r).state.cross ≡ declaring d = step_cross K d s r z (o.each r (Memᴰ.head refl)) in
-        by (step_holds h j) e w (record { each = λ y m. o.each y (Memᴰ.tail m) })
+        by {s = (step K s r).state} (step_holds h j) e w (record { each = λ y m. o.each y (Memᴰ.tail m) })
         ∙ ext_get_or 0 c.history b.history j.keeps_history.long (λ i l. j.keeps_history.past i (rw e zero-le))
 
 -- ---- Document 002's rules.

@@ -16,7 +16,7 @@ use Rattle.rules.specs.Verdict.{bad_opening}
 use Rattle.rules.specs.Graph.{Graph}
 use Rattle.rules.specs.Crosslocks.{Crosslocks}
 use Rattle.rules.specs.Decision.{cyclic}
-use Rattle.rules.specs.Run.{Journal, State, Result, start, starting_from, decided, answers, run}
+use Rattle.rules.specs.Run.{Journal, State, Result, start, step, starting_from, decided, answers, run}
 use Rattle.rules.specs.Join.{joined_graph, joined_journal, joined_state, join}
 use Rattle.rules.specs.TwoRuns.{Interleaved, Never, MoreEvidence}
 use Rattle.rules.proofs.Booleans.{and_cases, and_both}
@@ -87,13 +87,13 @@ step_holds h j =
 
 pub run_holds : {K : ℕ} {s : State} {b b' : Buffers} {rs : List Bytes} {given : List ℕ} → Holds K s b → Ran b rs given b' → Holds K (run K s rs) b'
 run_holds h no_call = h
-run_holds h (call t w) = run_holds (step_holds h (validated_by h t)) w
+run_holds {K} {s} h (call {r = r} t w) = run_holds {s = (step K s r).state} (step_holds h (validated_by h t)) w
 
 pub run_answers : {K : ℕ} {s : State} {b b' : Buffers} {rs : List Bytes} {given : List ℕ} → Holds K s b → Ran b rs given b' → given ≡ answers K s rs
 run_answers h no_call = refl
-run_answers h (call t w) =
+run_answers {K} {s} h (call {r = r} t w) =
     let j = validated_by h t in
-    ap₂ {C = List ℕ} ◌∷◌ j.number_is (run_answers (step_holds h j) w)
+    ap₂ {C = List ℕ} ◌∷◌ j.number_is (run_answers {s = (step K s r).state} (step_holds h j) w)
 
 pub opened_true : {K declared : ℕ} {desk sheet seen history desk' sheet' seen' history' : List ℕ}
     → Opened K declared desk sheet seen history 0 desk' sheet' seen' history' → opens K declared desk sheet seen history ≡ true

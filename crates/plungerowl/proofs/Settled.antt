@@ -225,7 +225,8 @@ whole_settles (by_rules o h e q w) (short_header k) = absurd (omega arith)
 whole_settles (by_rules o h e q w) (bad_header k d) = absurd (false≢true (sym d ∙ e))
 whole_settles {b} {b₁} {b₂} {log} (by_rules o h e q w) (by_rules o' k d r x) =
     let s : o' ≡ o = r ∙ sym q in
-    rw s (left_settles (classes_in log) o w (subst (λ (y : Outcome). LeftBy (classes_in log) y b b₂) s x), refl)
+    subst (λ (y : Outcome). SameLeft o.answer y.answer b₁ b₂ × (o.at ≡ y.at)) (sym s)
+    (left_settles (classes_in log) o w (subst (λ (y : Outcome). LeftBy (classes_in log) y b b₂) s x), refl)
 
 -- The calls settle more.
 fed_runs : {b b₁ b₂ : Buffers} {log log' : List ℕ} {a n a' n' : ℕ} → log ≡ log' → FedRun b log a n b₁ → FedRun b log' a' n' b₂ → SameStep a a' b₁ b₂ × (n ≡ n')
