@@ -31,7 +31,7 @@ const ANY_CASES: u64 = 3;
 const CASES_WITH: usize = 8;
 /// Other cases for a planted judge in every place, then pairs of lists, logs in pieces, or ties, at most, and how many of
 /// them are to show it.
-const OTHERS: u64 = 60;
+const OTHERS: u64 = 120;
 const PAIRS: u64 = 1000;
 const SHOWN: usize = 3;
 
