@@ -51,7 +51,11 @@ struct Hint {
 /// One line for each judge, as --hints prints them.
 const HINTS: &str = include_str!("../hints.txt");
 
+/// None with COMPARE_WITHOUT_HINTS in the environment: then every case that a judge gets is gone through, up to the one that shows it.
 fn hint_of(plant: &Plant) -> Hint {
+    if std::env::var_os("COMPARE_WITHOUT_HINTS").is_some() {
+        return Hint::default();
+    }
     let line = HINTS.lines().find(|line| line.split(' ').next() == Some(plant.name));
     let words: Vec<&str> = line.unwrap_or("").split(' ').collect();
     let number = |at: usize| words.get(at).and_then(|word| word.parse().ok());
