@@ -25,12 +25,12 @@ pub fn conclude(desk: &mut [u8], sheet: &[u8], seen: &[u8], slip: &mut [u8], cor
     let frame = frame_of(desk, core);
     let context = desk[STATES_AT + core] as usize;
     mark(desk, frame, k, context);
-    let rows = successors(desk, sheet, k);
-    let bound = cycle_bound(desk, &rows, k);
+    let rows = &successors(desk, sheet, k);
+    let bound = cycle_bound(desk, rows, k);
     if bound == 0 {
         return OK;
     }
-    show(slip, seen, k, shortest_cycle(desk, sheet, &rows, k, bound));
+    show(slip, seen, k, shortest_cycle(desk, sheet, rows, k, bound));
     desk[CLOSED_AT] = 1;
     FAULT
 }

@@ -36,8 +36,8 @@ pub fn ask(desk: &[u8], sheet: &[u8], seen: &[u8], class: u64) -> Reach
             count: 0,
         };
     }
-    let rows = successors(desk, sheet, k as usize);
-    let word = reach(&rows, k as u32, class as u32);
+    let rows = &successors(desk, sheet, k as usize);
+    let word = reach(rows, k as u32, class as u32);
     let count = count(word);
     Reach {
         answer: OK,
