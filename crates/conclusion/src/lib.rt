@@ -13,7 +13,7 @@ use cores::frame_of;
 use layout::{CLASSES_AT, CLOSED_AT, STATES_AT};
 use report::show;
 use shortest::shortest_cycle;
-use successors::successors;
+use successors::{ROWS, put_successors};
 use update::mark;
 
 // After an accepted record of a core: its held locks are marked, and the graph is searched.
@@ -25,12 +25,13 @@ pub fn conclude(desk: &mut [u8], sheet: &[u8], seen: &[u8], slip: &mut [u8], cor
     let frame = frame_of(desk, core);
     let context = desk[STATES_AT + core] as usize;
     mark(desk, frame, k, context);
-    let rows = &successors(desk, sheet, k);
-    let bound = cycle_bound(desk, rows, k);
+    let mut rows = [0; ROWS];
+    put_successors(desk, sheet, k, &mut rows);
+    let bound = cycle_bound(desk, &rows, k);
     if bound == 0 {
         return OK;
     }
-    show(slip, seen, k, shortest_cycle(desk, sheet, rows, k, bound));
+    show(slip, seen, k, shortest_cycle(desk, sheet, &rows, k, bound));
     desk[CLOSED_AT] = 1;
     FAULT
 }

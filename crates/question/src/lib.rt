@@ -7,7 +7,7 @@ use answers::{NO_CLASS, OK, UNFIT};
 use fit::fits;
 use layout::CLASSES_AT;
 use search::reach;
-use successors::successors;
+use successors::{ROWS, put_successors};
 use words::count;
 
 #[derive(Drop)]
@@ -36,8 +36,9 @@ pub fn ask(desk: &[u8], sheet: &[u8], seen: &[u8], class: u64) -> Reach
             count: 0,
         };
     }
-    let rows = &successors(desk, sheet, k as usize);
-    let word = reach(rows, k as u32, class as u32);
+    let mut rows = [0; ROWS];
+    put_successors(desk, sheet, k as usize, &mut rows);
+    let word = reach(&rows, k as u32, class as u32);
     let count = count(word);
     Reach {
         answer: OK,

@@ -201,22 +201,27 @@ fn store(rows: &mut [u64; ROWS], class: usize, words: KindWords)
     rows[DEPENDENCY_KINDS * class + 3] = words.sn;
 }
 
-// The successor words of the classes below k; those of the others are 0.
+// Puts the successor words of the classes below k; those of the others are 0. A caller that lends the place has the words once in its stack.
+pub fn put_successors(desk: &[u8], sheet: &[u8], k: usize, rows: &mut [u64; ROWS])
+    requires { Ready desk.now sheet.now k }
+    ensures { Successors desk.now sheet.now k rows.new }
+{
+    let hard = safe_words(desk, k, HARD_DIGITS);
+    let soft = safe_words(desk, k, SOFT_DIGITS);
+    *rows = [0; ROWS];
+    let mut class = 0;
+    while class < k {
+        store(rows, class, class_words(desk, sheet, k, class, hard, soft));
+        class += 1;
+    }
+}
+
+// The same by value.
 pub fn successors(desk: &[u8], sheet: &[u8], k: usize) -> [u64; ROWS]
     requires { Ready desk.now sheet.now k }
     ensures { Successors desk.now sheet.now k result }
 {
-    let hard = safe_words(desk, k, HARD_DIGITS);
-    let soft = safe_words(desk, k, SOFT_DIGITS);
     let mut rows = [0; ROWS];
-    let mut class = 0;
-    while class < k {
-        store(
-            &mut rows,
-            class,
-            class_words(desk, sheet, k, class, hard, soft),
-        );
-        class += 1;
-    }
+    put_successors(desk, sheet, k, &mut rows);
     rows
 }

@@ -23,10 +23,10 @@ pub overflow_cast-k-2 : goal.overflow_cast-k-2
 overflow_cast-k-2 c =
     let f = facts _ _ _ (sym c.fits.ensures ∙ c.if-not-fits.false) in let l = f.few in omega arith
 
-pub successors-requires : goal.successors-requires
-successors-requires c =
+pub put_successors-requires : goal.put_successors-requires
+put_successors-requires c =
     let f = facts _ _ _ (sym c.fits.ensures ∙ c.if-not-fits.false) in record { long = f.long; few = f.few; room = f.square }
 
 pub returns : goal.returns
 returns c =
-    asked_answered _ _ _ _ _ _ _ (λ k l. omega (arith, c.shared_slice_known-1.given k)) (λ k l. omega (arith, c.shared_slice_known-3-1.given k)) (sym c.fits.ensures ∙ c.if-not-fits.false) c.if-k-class.false c.successors.ensures c.reach-word.ensures c.count-count.ensures.0
+    asked_answered _ _ _ _ _ _ _ (λ k l. omega (arith, c.shared_slice_known-1.given k)) (λ k l. omega (arith, c.shared_slice_known-3-1.given k)) (sym c.fits.ensures ∙ c.if-not-fits.false) c.if-k-class.false c.put_successors.ensures c.reach-word.ensures c.count-count.ensures.0

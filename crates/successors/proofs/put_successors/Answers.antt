@@ -5,7 +5,7 @@ use native.Mathlib.Omega.{arith}
 use Rattle.successors.specs.Successors.{Filled}
 use Rattle.successors.proofs.Classes.{filled_none, filled_more}
 use Rattle.successors.proofs.Encoded.{successors_law}
-use Rattle.successors.proofs.successors.Goals as goal
+use Rattle.successors.proofs.put_successors.Goals as goal
 
 pub loop-class-init : goal.loop-class-init
 loop-class-init c =
