@@ -4,7 +4,6 @@ use Rattle.rules.specs.Context.{no_state}
 use Rattle.context.specs.declared.CoreState.{CoreState}
 use Rattle.context.specs.declared.CoreState.TheVariants.{TaskBothOn, TaskSoftOff, TaskHardOff, TaskBothOff, SoftHardOn, SoftHardOff, HardOverBothOn, HardOverSoftOff, HardOverSoft}
 use Rattle.context.specs.declared.NoState.{NoState}
-use Rattle.context.specs.declared.NoEvent.{NoEvent}
 use Rattle.context.specs.declared.Frame.{Frame}
 use Rattle.context.specs.declared.Frame.TheVariants.{Task, Soft, Hard}
 use Rattle.context.specs.declared.Interrupt.{Interrupt}
@@ -40,9 +39,6 @@ event_number ExitSoft = 5
 event_number EnterHard = 6
 event_number ExitHard = 7
 
--- The state, or the event, with a number; or that none has it.
+-- The state with a number, or that none has it.
 abbrev pub StateBy : ℕ → Result CoreState NoState → Type 0
 StateBy n r = MatchResult r (λ s. state_number s ≡ n) (λ _. 9 ≤ n)
-
-abbrev pub EventBy : ℕ → Result Interrupt NoEvent → Type 0
-EventBy n r = MatchResult r (λ e. event_number e ≡ n) (λ _. 8 ≤ n)

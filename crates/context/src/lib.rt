@@ -5,7 +5,7 @@ ghost use Rattle.std.specs.Prelude.{◌≡◌, ◌<◌};
 ghost use Rattle.rules.specs.Limits.{held_modes, mode_count};
 ghost use Rattle.rules.specs.Context.{next_state, frame_of, leaves_handler};
 ghost use Rattle.context.specs.Bits.{mark_bits, kind_bits, fresh};
-ghost use Rattle.context.specs.States.{state_number, next_number, number_of_frame, event_number, StateBy, EventBy};
+ghost use Rattle.context.specs.States.{state_number, next_number, number_of_frame, event_number, StateBy};
 
 // A core's frames.
 #[derive(Clone, Copy, PartialEq, Eq)]
@@ -102,30 +102,6 @@ impl Interrupt {
         ensures { result ≡ leaves_handler (event_number self) }
     {
         matches!(self, Self::ExitSoft | Self::ExitHard)
-    }
-}
-
-// A number that is no event's.
-#[derive(Clone, Copy)]
-pub struct NoEvent;
-
-impl TryFrom<u8> for Interrupt {
-    type Error = NoEvent;
-
-    ghost try_from_gives = { EventBy };
-
-    fn try_from(number: u8) -> Result<Self, NoEvent> {
-        match number {
-            0 => Ok(Self::HardOn),
-            1 => Ok(Self::HardOff),
-            2 => Ok(Self::SoftOn),
-            3 => Ok(Self::SoftOff),
-            4 => Ok(Self::EnterSoft),
-            5 => Ok(Self::ExitSoft),
-            6 => Ok(Self::EnterHard),
-            7 => Ok(Self::ExitHard),
-            _ => Err(NoEvent),
-        }
     }
 }
 
