@@ -32,7 +32,7 @@ fn seat_cores(desk: &mut [u8])
 {
     let mut i: usize = 0;
     while i < CORES {
-        desk[STATES_AT + i] = CoreState::fresh().0;
+        desk[STATES_AT + i] = u8::from(CoreState::fresh());
         i += 1;
     }
 }
