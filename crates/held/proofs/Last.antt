@@ -2,22 +2,20 @@
 use mathlib.Core.Path.{◌≡◌, refl, sym, ap, ◌∙◌}
 use mathlib.Core.Bool.{Bool, true, false, cond, false≢true}
 use mathlib.Core.List.{List}
-use Prim.Native.Nat.{ℕ, zero, suc, ◌<◌, ◌≤◌, ◌-◌, ◌+◌, ◌*◌, ◌%◌, zero-le}
+use Prim.Native.Nat.{ℕ, zero, suc, ◌<◌, ◌≤◌, ◌-◌, ◌+◌, ◌%◌, zero-le}
 use native.Mathlib.Nat.{not-suc-le-zero, le_refl}
 use native.Mathlib.Numerals.{sub-one}
 use native.Mathlib.Omega.{arith}
 use native.Mathlib.Decide.{ℕ_discrete, dec_lt}
 use denote.Ref.{Bor}
 use denote.Param.Members.{Mut}
-use lib.ListN.{length, get_or, take, drop, length-take, length-drop}
-use Rattle.std.proofs.Common.{get_or-take, get_or-drop}
+use lib.ListN.{length, get_or}
 use Rattle.std.specs.Prelude.{Option, None, Some, IfSome, IsSomeAnd, MatchOption, IsTrue, option_map}
 use Rattle.std.specs.Fn.{Called}
 use Rattle.std.specs.Iterator.Runs.{Run, AllItemsGive, IsFirstToGive, CallKeepsClosure, ItemsMapToReversed}
 use lib.Dec.{eqb}
 use borrow.Author.Tests.{eq-eqb, ne_eqb}
-use Rattle.rules.specs.Limits.{max_depth}
-use Rattle.layout.specs.Layout.{frame_count, desk_size, held_at, depth_of, held_of}
+use Rattle.layout.specs.Layout.{depth_of, held_of}
 use Rattle.held.specs.Frames.{HeldBytes, place_number, last_below, newest_of, taken_in, fitting_of}
 
 -- What `last_below` finds.
