@@ -24,7 +24,7 @@ pub const UNIT_SIZE: usize = PLAIN_SIZE + 8;
 const MOST_LOOSE: usize = UNIT_SIZE - 1;
 
 // Answers as a feed keeps them.
-const CLEAN: u8 = Verdict::Clean as u8;
+pub const CLEAN: u8 = Verdict::Clean as u8;
 
 const FAULT: u8 = Verdict::Fault as u8;
 
