@@ -10,7 +10,7 @@ use native.Mathlib.Omega.{arith}
 use lib.Bits.{bit_or}
 use lib.Count.{ones-le}
 use lib.ListN.{get_or}
-use Rattle.words.specs.Bits.{bit, With, Both}
+use Rattle.words.specs.Bits.{bit, Both}
 use Rattle.words.proofs.Words.{bit_zero, bit_cases, bit_two, bit_or_lem, some_bit, ones_mono, ones_more}
 use Rattle.rules.specs.HeldLocks.{First, Second, R, N}
 use Rattle.search.specs.Rows.{first_index, first_at, row_at}
@@ -34,26 +34,6 @@ no_member (suc w) l n = let m = some_bit 64 (suc w) (omega arith) l in absurd (n
 pub no_arrival : (j : ℕ) (b : Second) → In none j b → ⊥
 no_arrival j R h = empty j refl h
 no_arrival j N h = empty j refl h
-
-pub put_r : {s : Arrivals} {c x : ℕ} → Fits s → c < 64 → With s.r c x → Put c R s (record { r = x; n = s.n })
-put_r f l w =
-    record {
-      there = w.there;
-      kept = λ j. elim [ R ↦ λ h. w.kept j h | N ↦ λ h. h ];
-      only = λ j. elim [ R ↦ λ h. ⊎_elim (λ y. inl y) (λ e. inr (e, refl)) (w.only j h) | N ↦ λ h. inl h ];
-      more = λ z. let e = w.more z in omega arith;
-      fits = record { r = w.within 64 f.r l; n = f.n };
-    }
-
-pub put_n : {s : Arrivals} {c x : ℕ} → Fits s → c < 64 → With s.n c x → Put c N s (record { r = s.r; n = x })
-put_n f l w =
-    record {
-      there = w.there;
-      kept = λ j. elim [ N ↦ λ h. w.kept j h | R ↦ λ h. h ];
-      only = λ j. elim [ N ↦ λ h. ⊎_elim (λ y. inl y) (λ e. inr (e, refl)) (w.only j h) | R ↦ λ h. inl h ];
-      more = λ z. let e = w.more z in omega arith;
-      fits = record { r = f.r; n = w.within 64 f.n l };
-    }
 
 pub size_bound : {s : Arrivals} → Fits s → size s ≤ 128
 size_bound {s} f = omega (arith, ones-le 64 s.r f.r, ones-le 64 s.n f.n)
