@@ -6,9 +6,10 @@ ghost use Rattle.rules.specs.Limits.{core_count, max_classes, max_depth};
 ghost use Rattle.rules.specs.Context.{may_hold_soft, may_hold_hard};
 ghost use Rattle.layout.specs.Layout.{frame_count, place_count, origin_bytes, desk_size};
 ghost use Rattle.layout.specs.Fit.{all_below, core_fits, held_fits, frame_fits, origin_fits, mark_fits};
+ghost use Rattle.context.specs.States.{state_number};
 ghost use Rattle.desk_fit.specs.Empty.{empty_at, no_try_in, byte_fits};
 
-use context::{CoreState, HARD, SOFT};
+use context::{CoreState, Frame};
 use layout::{
     CORES, DEPTHS_AT, FRAMES, FRAMES_PER_CORE, HELD_AT, HELD_MODES, MARKS_AT, MAX_CLASSES,
     MAX_DEPTH, ORIGIN_BYTES, ORIGINS_AT, STATES_AT,
@@ -16,43 +17,30 @@ use layout::{
 use origins::origin;
 
 // The soft frame is empty, or the core's state is one in which it may hold locks.
-fn soft_fits(depth: u8, state: u8) -> bool
-    ensures { result ≡ (eqb depth 0 || may_hold_soft state) }
+fn soft_fits(depth: u8, state: CoreState) -> bool
+    ensures { result ≡ (eqb depth 0 || may_hold_soft (state_number state)) }
 {
-    if depth == 0 {
-        return true;
-    }
-    if state == CoreState::SOFT_HARD_ON.0 {
-        return true;
-    }
-    if state == CoreState::SOFT_HARD_OFF.0 {
-        return true;
-    }
-    state == CoreState::HARD_OVER_SOFT.0
+    depth == 0
+        || matches!(state, CoreState::SoftHardOn | CoreState::SoftHardOff | CoreState::HardOverSoft)
 }
 
 // The same of the hard frame.
-fn hard_fits(depth: u8, state: u8) -> bool
-    ensures { result ≡ (eqb depth 0 || may_hold_hard state) }
+fn hard_fits(depth: u8, state: CoreState) -> bool
+    ensures { result ≡ (eqb depth 0 || may_hold_hard (state_number state)) }
 {
-    if depth == 0 {
-        return true;
-    }
-    CoreState::HARD_OVER_BOTH_ON.0 <= state
+    depth == 0 || state.frame() == Frame::Hard
 }
 
 fn core_fits(desk: &[u8], i: usize) -> bool
     requires { (i < core_count) × (desk_size ≤ length desk.now) }
     ensures { result ≡ core_fits desk.now i }
 {
-    let s = desk[STATES_AT + i];
-    if CoreState::HARD_OVER_SOFT.0 < s {
-        return false;
-    }
-    if soft_fits(desk[DEPTHS_AT + (FRAMES_PER_CORE * i + SOFT as usize)], s) {
-        hard_fits(desk[DEPTHS_AT + (FRAMES_PER_CORE * i + HARD as usize)], s)
-    } else {
-        false
+    match CoreState::try_from(desk[STATES_AT + i]) {
+        Ok(state) => {
+            soft_fits(desk[DEPTHS_AT + (FRAMES_PER_CORE * i + Frame::Soft as usize)], state)
+                && hard_fits(desk[DEPTHS_AT + (FRAMES_PER_CORE * i + Frame::Hard as usize)], state)
+        }
+        Err(_) => false,
     }
 }
 

@@ -2,12 +2,13 @@
 use mathlib.Core.Path.{◌≡◌, refl, sym, ap, ◌∙◌}
 use mathlib.Core.List.{List, [], ◌∷◌, ◌++◌, map}
 use mathlib.Core.Logic.{◌⊎◌, inl, inr, ⊎_elim}
-use Prim.Native.Nat.{ℕ, zero, suc, ◌+◌, ◌*◌, ◌/◌, ◌%◌, ◌<◌, ◌≤◌}
+use Prim.Native.Nat.{ℕ, zero, suc, ◌+◌, ◌-◌, ◌*◌, ◌/◌, ◌%◌, ◌<◌, ◌≤◌}
 use native.Mathlib.Nat.{le_of_suc-le-suc, not-suc-le-zero}
 use native.Mathlib.Decide.{ℕ_discrete, dec_lt}
 use native.Mathlib.Omega.{arith}
 use lib.ListN.{length, get_or, set, length-set, length-append}
 use lib.Seq.{get_or-set_same, get_or-set_other}
+use Rattle.std.specs.List.{CopiedTo, SameBelow, SameFrom}
 use Rattle.rules.specs.Limits.{max_depth, held_modes, mode_count}
 use Rattle.rules.specs.HeldLocks.{HeldLock}
 use Rattle.layout.specs.Layout.{frame_count, origins_at, accepted_at, desk_size, depths_at, held_at, depth_of, held_of, origin_bit, origin_of}
@@ -203,25 +204,17 @@ pub record Moving (before : List ℕ) (n q p : ℕ) (now : List ℕ) : Type 0 wh
   pub moved : (j : ℕ) → held_at + max_depth * n + q ≤ j → j < held_at + max_depth * n + p → get_or now j 0 ≡ get_or before (j + 1) 0
   pub else : (j : ℕ) → (j < held_at + max_depth * n + q) ⊎ (held_at + max_depth * n + p ≤ j) → get_or now j 0 ≡ get_or before j 0
 
-pub moving_start : (before : List ℕ) (n q : ℕ) → Moving before n q q before
-moving_start before n q = record { long = refl; from = omega arith; moved = λ j l m. absurd (omega arith); else = λ j o. refl }
-
-pub moving_step : (before now : List ℕ) (n q p : ℕ) → Moving before n q p now → held_at + max_depth * n + p + 1 < length now
-    → Moving before n q (p + 1) (set now (held_at + max_depth * n + p) (get_or now (held_at + max_depth * n + p + 1) 0))
-moving_step before now n q p m l =
-    let a = held_at + max_depth * n + p in
-    let f = m.from in
+pub moving_copied : {before now : List ℕ} (n q last : ℕ) → q ≤ last → length now ≡ length before
+    → CopiedTo before now (held_at + max_depth * n + q + 1) (held_at + max_depth * n + q) (held_at + max_depth * n + last + 1 - (held_at + max_depth * n + q + 1))
+    → SameBelow before now (held_at + max_depth * n + q)
+    → SameFrom before now (held_at + max_depth * n + q + (held_at + max_depth * n + last + 1 - (held_at + max_depth * n + q + 1)))
+    → Moving before n q last now
+moving_copied {before} n q last f long copied below from =
     record {
-      long = simp length-set m.long;
-      from = omega arith;
-      moved = λ j lo hi.
-          elim (ℕ_discrete j a) [
-            | yes e ↦ rw e (get_or-set_same now a (get_or now (a + 1) 0) 0 (omega arith) ∙ m.else (a + 1) (inr (omega arith)))
-            | no ne ↦ get_or-set_other now a j (get_or now (a + 1) 0) 0 ne ∙ m.moved j lo (omega arith)
-          ];
-      else = λ j o.
-          get_or-set_other now a j (get_or now (a + 1) 0) 0 (⊎_elim (λ l e. omega arith) (λ l e. omega arith) o)
-          ∙ m.else j (⊎_elim (λ l. inl l) (λ l. inr (omega arith)) o);
+      long = long;
+      from = f;
+      moved = λ j lo hi. copied j 0 lo (omega arith) ∙ ap (λ (k : ℕ). get_or before k 0) (omega arith);
+      else = λ j o. ⊎_elim (λ l. below j 0 l) (λ l. from j 0 (omega arith)) o;
     }
 
 module _ (before : List ℕ) (n q : ℕ) (long : desk_size ≤ length before) (inside : n < frame_count) (few : depth_of before n ≤ max_depth) (there : q < depth_of before n) where

@@ -1,5 +1,5 @@
 -- The held locks of a frame in the bytes of the desk, and what the calls over them do.
-use Rattle.std.specs.Prelude.{◌≡◌, Bool, cond, List, [], ◌∷◌, ◌++◌, ◌⊎◌, ℕ, zero, suc, ◌+◌, ◌-◌, ◌*◌, ◌%◌, ◌/◌, ◌<◌, ◌≤◌, eqb, length, get_or}
+use Rattle.std.specs.Prelude.{◌≡◌, Bool, cond, List, [], ◌∷◌, ◌++◌, ◌⊎◌, ℕ, zero, suc, ◌+◌, ◌-◌, ◌*◌, ◌%◌, ◌/◌, ◌<◌, ◌≤◌, eqb, length, get_or, Option, None, Some}
 use Rattle.rules.specs.Limits.{max_depth, held_modes, mode_count}
 use Rattle.rules.specs.HeldLocks.{HeldLock}
 use Rattle.layout.specs.Layout.{frame_count, depths_at, held_at, origins_at, accepted_at, desk_size, depth_of, held_of, origin_bit, origin_of}
@@ -30,6 +30,11 @@ pub record KeepsElse (n : ℕ) (before after : List ℕ) : Type 0 where
 pub record Pushed (before : List ℕ) (n class mode : ℕ) (after : List ℕ) : Type 0 where
   pub keeps : KeepsElse n before after
   pub frame : (hs : List HeldLock) → FrameBytes before n hs → FrameBytes after n (hs ++ (record { class = class; mode = mode } ∷ []))
+
+-- The number of a place that may be missing, in the words of what follows: one more than the place, or 0.
+abbrev pub place_number : Option ℕ → ℕ
+place_number None = 0
+place_number (Some p) = suc p
 
 -- One more than the last place below d at which the test holds, or 0.
 unfoldable pub last_below : (ℕ → Bool) → ℕ → ℕ

@@ -3,10 +3,11 @@
 
 ghost use Rattle.std.specs.Prelude.{◌*◌, ◌<◌, ◌≤◌, length};
 ghost use Rattle.rules.specs.Limits.{mode_count};
+ghost use Rattle.context.specs.States.{state_number};
 ghost use Rattle.held.specs.Frames.{HeldIn};
 ghost use Rattle.update.specs.Update.{Noted, Drawn, Marked};
 
-use context::{kind_bit, mark_bits};
+use context::{CoreState, kind_bit, mark_bits};
 use layout::{DEPTHS_AT, HELD_AT, HELD_MODES, MARKS_AT, MAX_DEPTH};
 use origins::origin;
 
@@ -46,9 +47,9 @@ pub fn draw(
 }
 
 // Every lock held in the frame is marked by the core's state. Says whether a mark is new.
-pub fn mark(desk: &mut [u8], frame: usize, k: usize, context: usize) -> bool
-    requires { HeldIn desk.old frame k × (k ≤ 64) × (context < 9) }
-    ensures { Marked desk.old frame context desk.new × Noted desk.old desk.new result }
+pub fn mark(desk: &mut [u8], frame: usize, k: usize, context: CoreState) -> bool
+    requires { HeldIn desk.old frame k × (k ≤ 64) }
+    ensures { Marked desk.old frame (state_number context) desk.new × Noted desk.old desk.new result }
 {
     let mut changed = false;
     let d = desk[DEPTHS_AT + frame] as usize;

@@ -70,7 +70,7 @@ pub mark_bits-requires : goal.mark_bits-requires
 mark_bits-requires c =
     let l = c.loop-p in
     let p = c.requires in
-    (p.2, rw c.origin-tried.ensures (mode_small _ _ _ l.invariant.1 l.p (p.0.mode l.p (omega arith))))
+    rw c.origin-tried.ensures (mode_small _ _ _ l.invariant.1 l.p (p.0.mode l.p (omega arith)))
 
 pub bounds-desk-at-in-loop-p : goal.bounds-desk-at-in-loop-p
 bounds-desk-at-in-loop-p c = omega arith
