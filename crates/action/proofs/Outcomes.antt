@@ -1,17 +1,17 @@
 -- What each event of a core comes to, from what the functions of `held`, `update` and `history` leave. Assumes nothing.
 use mathlib.Core.Path.{◌≡◌, refl, sym, ap, ◌∙◌, subst}
-use mathlib.Core.Bool.{Bool, true, false, cond, not, ◌&&◌, ◌||◌, or-true, and-false, false≢true}
+use mathlib.Core.Bool.{Bool, true, false, cond, not, ◌&&◌, ◌||◌, or-true, and-false}
 use mathlib.Core.List.{List, [], ◌∷◌, ◌++◌, map}
 use mathlib.Core.Logic.{◌⊎◌, inl, inr}
 use mathlib.Core.Option.{none, some}
 use Prim.Native.Nat.{ℕ, suc, ◌+◌, ◌*◌, ◌-◌, ◌<◌, ◌≤◌}
 use native.Mathlib.Omega.{arith}
-use lib.Dec.{leb, ltb, eqb}
-use lib.ListN.{length, get_or, set, length-set, length-map}
+use lib.Dec.{leb}
+use lib.ListN.{length, set, length-set, length-map}
 use lib.Seq.{get_or-set_other}
 use borrow.Author.Tests.{le-leb, lt-leb, lt-ltb, leb-false, eq-eqb, ne_eqb}
 use Rattle.rules.specs.Limits.{max_depth, max_accepted, max_classes, max_kept, held_modes, interrupt_kinds}
-use Rattle.rules.specs.Record.{Event, acquire, release, interrupt, cross_event_by, event_by, event_of, core_of, kind_of, class_of, mode_of}
+use Rattle.rules.specs.Record.{acquire, release, interrupt, cross_event_by, event_by, event_of, core_of, kind_of, class_of, mode_of}
 use Rattle.rules.specs.WellFormed.{WellFormed}
 use Rattle.rules.specs.Context.{frame_of, no_state, next_state, leaves_handler}
 use Rattle.rules.specs.HeldLocks.{HeldLock, is_try, current, release_newest, with_state}
@@ -19,7 +19,7 @@ use Rattle.rules.specs.Crosslocks.{is_idle, is_kept, strike, with_history}
 use Rattle.rules.specs.Verdict.{no_class, wrong_sort, no_transition, still_held, not_held, too_deep, history_full, some_lock}
 use Rattle.rules.specs.Run.{State}
 use Rattle.validity.specs.Valid.{Valid}
-use Rattle.layout.specs.Layout.{accepted_at, declared_at, desk_size, sheet_size, seen_size, kept_size, states_at, progress_at, kept_at, number_size, classes_of, state_of, depth_of, accepted_of, declared_of, progress_of, kept_of, member_of, KeepsPast}
+use Rattle.layout.specs.Layout.{accepted_at, sheet_size, seen_size, kept_size, states_at, progress_at, kept_at, number_size, classes_of, state_of, depth_of, accepted_of, declared_of, progress_of, kept_of, member_of, KeepsPast}
 use Rattle.rules.specs.Log.{word_size}
 use Rattle.layout.specs.Encoding.{DeskBytes, NumberBytes, CrossBytes, Encodes}
 use Rattle.layout.proofs.Buffers.{keeps_self, keeps_both, keeps_more}

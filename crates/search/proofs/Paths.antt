@@ -5,14 +5,15 @@ use mathlib.Core.Logic.{inl, inr, ⊎_elim}
 use mathlib.Core.List.{List}
 use Prim.Native.Nat.{ℕ, ◌-◌, ◌<◌}
 use native.Mathlib.Omega.{arith}
-use Rattle.words.specs.Bits.{bit, Without}
+use Rattle.words.specs.Bits.{bit}
 use Rattle.rules.specs.HeldLocks.{First, Second, E, S, R, N}
 use Rattle.rules.specs.Graph.{Kind, Graph}
 use Rattle.rules.specs.StrongPath.{strong_joint, StrongPath, one, more, Reaches}
 use Rattle.search.specs.Rows.{Successor, Rows, Ranged, Reached}
-use Rattle.search.specs.Arrivals.{word_by, none, In, size, Fits, Put, kind_by, Union, Onward, After}
+use Rattle.search.specs.Arrivals.{word_by, none, In, size, Fits, Put, kind_by, Union, Onward, After, Next}
+use Rattle.search.specs.Letters.{Successors, Joined, Less, HasNone}
 use Rattle.search.specs.declared.Arrivals.{Arrivals}
-use Rattle.search.proofs.Sets.{no_arrival, size_bound, none_left}
+use Rattle.search.proofs.Sets.{no_arrival, size_bound, none_left, first_onward, onward_law}
 use Rattle.search.proofs.Visits.{after_N, snoc}
 
 -- Class t ends a strong path from class c, and is arrived at by a.
@@ -36,6 +37,20 @@ after_n o p =
       kept = λ j b h. p.kept j b (o.kept j b h);
       all = λ j. elim [ E ↦ λ b _ h. p.kept j b (o.all j b h) | S ↦ λ b _. p.all j b ];
       only = λ j b h. ⊎_elim (λ y. ⊎_elim (λ z. inl z) (λ m. inr (E, refl, m)) (o.only j b y)) (λ m. inr (S, refl, m)) (p.only j b h);
+    }
+
+pub next_r : {rows : List ℕ} {x : ℕ} {t : Arrivals} → Successors rows x E t → Fits t → Next rows x R t
+next_r e f = record { after = after_r (first_onward e); fits = f }
+
+pub next_n : {rows : List ℕ} {x : ℕ} {t u v : Arrivals} → Successors rows x E t → Successors rows x S u → Joined t u v → Fits v → Next rows x N v
+next_n e s h f = record { after = after_n (first_onward e) (onward_law s h); fits = f }
+
+pub after_joined : {rows : List ℕ} {x : ℕ} {a : Second} {s t u : Arrivals} → Next rows x a t → Joined s t u → After rows x a s u
+after_joined o h =
+    record {
+      kept = λ j b. (h b).left j;
+      all = λ j f b z m. (h b).right j (o.after.all j f b z m);
+      only = λ j b m. ⊎_elim (λ y. inl y) (λ y. ⊎_elim (λ z. absurd (no_arrival j b z)) (λ n. inr n) (o.after.only j b y)) ((h b).only j m);
     }
 
 -- What is reached from class c so far, and what of it is expanded.
@@ -84,17 +99,15 @@ module _ {rows : List ℕ} {K c : ℕ} (ranged : Ranged K rows) (less : c < K) w
       }
 
 module _ {rows : List ℕ} {K c : ℕ} where
-  pub reached_law : {s e : Arrivals} {w r n : ℕ} → Ranged K rows → Progress rows K c s e → Without s.r e.r r → r ≡ 0 → Without s.n e.n n → n ≡ 0
-      → Union s.r s.n w → Reached K rows c w
-  reached_law {s} {e} {w} ranged p wr zr wn zn u =
+  pub reached_law : {s e d : Arrivals} {w : ℕ} → Ranged K rows → Progress rows K c s e → Less s e d → HasNone d → Union s.r s.n w → Reached K rows c w
+  reached_law {s} {e} {w = w} ranged p h z u =
       record {
         sound = λ g r t h. ⊎_elim (λ m. reaches g r t R m) (λ m. reaches g r t N m) (u.only t h);
         complete = λ g r t q. in_word t q.ends.second (along g r q.path (λ j b. p.first j q.begins.first b));
       }
     where
       all : (j : ℕ) (b : Second) → In s j b → In e j b
-      all j R m = none_left wr zr j (omega (arith, p.inside j R m, ranged.few)) m
-      all j N m = none_left wn zn j (omega (arith, p.inside j N m, ranged.few)) m
+      all j b m = none_left h z j b (omega (arith, p.inside j b m, ranged.few)) m
 
       reaches : (g : Graph) → Rows K g rows → (t : ℕ) (b : Second) → In s t b → Reaches K g c t
       reaches g r t b m = let a = p.sound g r t b m in record { begins = a.begins; ends = a.ends_by; path = a.path }

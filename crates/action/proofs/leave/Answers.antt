@@ -29,4 +29,4 @@ strike-requires c = let p = c.requires in let st = c.args.desk.now in let by = c
 
 pub returns : goal.returns
 returns c = let p = c.requires in let st = c.args.desk.now in let by = c.args.bytes.now in let L = p.3 in let e = c.frame_of-frame.ensures in
-    λ sheet seen. rw L.is (interrupt_accepts _ sheet seen _ _ p.2 p.0.few L.first L.last (λ z. L.allowed (L.is ∙ z)) (inr (rw e at c.if-desk-frame-ne0.false)) (sym c.is_full.ensures ∙ c.if-is_full.false) (inl (L.leaves, rw e at c.strike.ensures)))
+    λ sheet seen. rw (c.from.ensures, L.is) (interrupt_accepts _ sheet seen _ _ p.2 p.0.few L.first L.last (λ z. L.allowed (L.is ∙ z)) (inr (rw e at c.if-desk-frame-ne0.false)) (sym c.is_full.ensures ∙ c.if-is_full.false) (inl (L.leaves, rw e at c.strike.ensures)))
