@@ -3,11 +3,12 @@
 
 ghost use Rattle.std.specs.Prelude.{◌≡◌, ◌≤◌, ◌+ℤ◌};
 ghost use Rattle.std.specs.Int.Signed.{mag};
+ghost use Rattle.answers.specs.Numbers.{refused_number};
 ghost use Rattle.record.specs.Kinds.{kind_number};
 ghost use Rattle.balance.specs.Code.{Room, part_of, counted};
 ghost use Rattle.balance.specs.Piece.{most_records, is_refused, zeros, PieceBalanced};
 
-use answers::{BAD_PIECE, OK};
+use answers::Refusal;
 use layout::MAX_CLASSES;
 use record::{CLASS_AT, Kind, SIZE};
 
@@ -51,15 +52,15 @@ fn count_record(balances: &mut [i32; MAX_CLASSES], bytes: &[u8])
 }
 
 // The balances of a piece, or 14 and zeros.
-pub fn balance_of(piece: &[u8], balances: &mut [i32; MAX_CLASSES]) -> u8
-    ensures { PieceBalanced piece.now result balances.new }
+pub fn balance_of(piece: &[u8], balances: &mut [i32; MAX_CLASSES]) -> Result<(), Refusal>
+    ensures { PieceBalanced piece.now (refused_number result) balances.new }
 {
     *balances = [0; MAX_CLASSES];
     if is_refused(piece) {
-        return BAD_PIECE;
+        return Err(Refusal::BadPiece);
     }
     for bytes in piece.chunks_exact(SIZE) {
         count_record(balances, bytes);
     }
-    OK
+    Ok(())
 }
