@@ -46,6 +46,7 @@ impl Arrivals {
     }
 
     // The set with class put in under the letter.
+    // Kept: a class is a number with its clause, as words::with and the loops to k have it; a type of class and letter would be made anew at each call.
     pub fn with(self, class: u32, letter: SecondLetter) -> Arrivals
         requires { class < 64 }
         ensures { Put class (second_letter letter) self result }
