@@ -1,38 +1,45 @@
 -- `action::release` meets its contract. Assumes nothing.
 use mathlib.Core.Path.{sym, ◌∙◌}
-use native.Mathlib.Omega.{arith}
-use Rattle.rules.specs.Record.{core_of}
-use Rattle.cores.proofs.Bytes.{state_less, held_in, fitting_inside}
-use Rattle.action.proofs.Outcomes.{release_no_class, release_wrong_sort, release_not_held, release_count_full, release_accepts}
+use Rattle.std.proofs.lemmas.Result.{err_from_is_err_and}
+use Rattle.answers.proofs.Numbers.{refusal_some}
+use Rattle.rules.specs.Record.{core_of, class_of}
+use Rattle.cores.proofs.Bytes.{held_in, fitting_inside}
+use Rattle.action.proofs.Outcomes.{is_lock, release_not_lock, release_not_held, release_count_full, release_accepts}
 use Rattle.action.proofs.release.Goals as goal
 
-pub returns-then-desk-class : goal.returns-then-desk-class
-returns-then-desk-class c = let p = c.requires in let st = c.args.desk.now in let by = c.args.bytes.now in λ sheet seen history. release_no_class _ sheet seen history _ p.1 p.0.few p.2 c.if-desk-class.true
-
-pub is_declared-requires : goal.is_declared-requires
-is_declared-requires c = let p = c.requires in let st = c.args.desk.now in let by = c.args.bytes.now in let f = p.0.few in let l = c.if-desk-class.false in (p.0.encodes.long, omega arith)
-
-pub returns-then-is_declared : goal.returns-then-is_declared
-returns-then-is_declared c = let p = c.requires in let st = c.args.desk.now in let by = c.args.bytes.now in λ sheet seen history. release_wrong_sort _ sheet seen history _ p.1 p.0.few p.2 c.if-desk-class.false (sym c.is_declared.ensures ∙ c.if-is_declared.true)
-
-pub frame_of-frame-requires : goal.frame_of-frame-requires
-frame_of-frame-requires c = let p = c.requires in let st = c.args.desk.now in let by = c.args.bytes.now in (p.0.encodes.long, p.1.core, state_less st p.0 (core_of by) p.1.core)
-
-pub fitting-place-requires : goal.fitting-place-requires
-fitting-place-requires c = let p = c.requires in let st = c.args.desk.now in let by = c.args.bytes.now in rw c.frame_of-frame.ensures (let h = held_in st p.0 (core_of by) p.1.core in (h.long, h.frame, h.depth))
+pub returns-in_err-not_lock : goal.returns-in_err-not_lock
+returns-in_err-not_lock c =
+    let p = c.requires in
+    let e = err_from_is_err_and c.from_residual.result c.from_residual.ensures.1 in
+    λ sheet seen history. rw (e.1, e.2) (release_not_lock _ sheet seen history _ p.1 p.0.few p.2 _ c.in_err-not_lock.ensures (refusal_some _))
 
 pub returns-then-place-eq0 : goal.returns-then-place-eq0
-returns-then-place-eq0 c = let p = c.requires in let st = c.args.desk.now in let by = c.args.bytes.now in let e = c.frame_of-frame.ensures in
-    λ sheet seen history. release_not_held _ sheet seen history _ p.1 p.0.few p.2 c.if-desk-class.false (sym c.is_declared.ensures ∙ c.if-is_declared.false) (rw e at (sym c.fitting-place.ensures ∙ c.if-place-eq0.true))
+returns-then-place-eq0 c =
+    let p = c.requires in
+    let u = is_lock c.args.desk.now (class_of c.args.bytes.now) (sym c.in_ok-not_lock.ensures) in
+    let e = c.frame_of-frame.ensures in
+    λ sheet seen history. release_not_held _ sheet seen history _ p.1 p.0.few p.2 u.0 u.1 (rw e at (sym c.fitting-place.ensures ∙ c.if-place-eq0.true))
 
 pub returns-then-is_full : goal.returns-then-is_full
-returns-then-is_full c = let p = c.requires in let st = c.args.desk.now in let by = c.args.bytes.now in let e = c.frame_of-frame.ensures in
-    λ sheet seen history. release_count_full _ sheet seen history _ p.1 p.0.few p.2 c.if-desk-class.false (sym c.is_declared.ensures ∙ c.if-is_declared.false) (rw (c.fitting-place.ensures, e) at c.if-place-eq0.false) (sym c.is_full.ensures ∙ c.if-is_full.true)
+returns-then-is_full c =
+    let p = c.requires in
+    let u = is_lock c.args.desk.now (class_of c.args.bytes.now) (sym c.in_ok-not_lock.ensures) in
+    let e = c.frame_of-frame.ensures in
+    λ sheet seen history. release_count_full _ sheet seen history _ p.1 p.0.few p.2 u.0 u.1 (rw (c.fitting-place.ensures, e) at c.if-place-eq0.false) (sym c.is_full.ensures ∙ c.if-is_full.true)
 
 pub remove-requires : goal.remove-requires
-remove-requires c = let p = c.requires in let st = c.args.desk.now in let by = c.args.bytes.now in let e = c.frame_of-frame.ensures in let ne = c.if-place-eq0.false in let h = held_in st p.0 (core_of by) p.1.core in
+remove-requires c =
+    let p = c.requires in
+    let st = c.args.desk.now in
+    let by = c.args.bytes.now in
+    let e = c.frame_of-frame.ensures in
+    let ne = c.if-place-eq0.false in
+    let h = held_in st p.0 (core_of by) p.1.core in
     rw (c.fitting-place.ensures, e) (h.long, h.frame, h.depth, fitting_inside st p.0 (core_of by) p.1.core _ _ (rw (c.fitting-place.ensures, e) at ne))
 
 pub returns : goal.returns
-returns c = let p = c.requires in let st = c.args.desk.now in let by = c.args.bytes.now in let e = c.frame_of-frame.ensures in
-    λ sheet seen history. release_accepts _ sheet seen history _ p.1 p.0.few p.2 c.if-desk-class.false (sym c.is_declared.ensures ∙ c.if-is_declared.false) (rw (c.fitting-place.ensures, e) at c.if-place-eq0.false) (sym c.is_full.ensures ∙ c.if-is_full.false) (rw (c.fitting-place.ensures, e) at c.remove.ensures)
+returns c =
+    let p = c.requires in
+    let u = is_lock c.args.desk.now (class_of c.args.bytes.now) (sym c.in_ok-not_lock.ensures) in
+    let e = c.frame_of-frame.ensures in
+    λ sheet seen history. release_accepts _ sheet seen history _ p.1 p.0.few p.2 u.0 u.1 (rw (c.fitting-place.ensures, e) at c.if-place-eq0.false) (sym c.is_full.ensures ∙ c.if-is_full.false) (rw (c.fitting-place.ensures, e) at c.remove.ensures)
