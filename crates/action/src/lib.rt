@@ -1,11 +1,11 @@
 // What a well-formed record does to fit buffers: it is refused with nothing changed, or its core, frame, crosslocks and lock dependencies are updated.
 #![tactic(auto)]
 
-ghost use Rattle.std.specs.Prelude.{◌≡◌, List, ℕ, ◌<◌, ◌≤◌, length};
-ghost use Rattle.rules.specs.Context.{leaves_handler};
+ghost use Rattle.std.specs.Prelude.{◌≡◌, List, ℕ, ◌+◌, ◌≤◌, length};
 ghost use Rattle.rules.specs.Record.{kind_of};
 ghost use Rattle.rules.specs.WellFormed.{WellFormed};
 ghost use Rattle.layout.specs.Layout.{desk_size, sheet_size, seen_size, classes_of};
+ghost use Rattle.context.specs.States.{state_number, event_number};
 ghost use Rattle.cores.specs.Cores.{Cored};
 ghost use Rattle.answers.specs.Numbers.{refused_number};
 ghost use Rattle.acting.specs.Action.{Acted, Crossed, no_room_for};
@@ -14,15 +14,15 @@ ghost use Rattle.action.specs.Locks.{not_lock};
 
 use acting::is_full;
 use answers::Refusal;
-use context::{EXIT_HARD, EXIT_SOFT, NO_STATE, next};
-use cores::frame_of;
+use context::{CoreState, Interrupt, next};
+use cores::{frame_of, state_of};
 use crossing::cross;
 use crosslocks::{is_declared, is_history_full, is_idle};
 use held::{fitting, push, remove};
 use history::{keep, strike};
 use layout::{CLASSES_AT, DEPTHS_AT, HELD_MODES, MAX_DEPTH, STATES_AT};
 use numbering::number_pairs;
-use record::{ACQUIRE, CLASS_AT, CORE_AT, CROSS_ACQUIRE, FIRST_EVENT, KIND_AT, MODE_AT, RELEASE};
+use record::{CLASS_AT, CORE_AT, Kind, MODE_AT, kind_of};
 use update::draw;
 
 // The refusals that an acquire and a release may both meet: 4, then 15.
@@ -85,26 +85,19 @@ fn release(desk: &mut [u8], bytes: &[u8]) -> Result<(), Refusal>
     let class = bytes[CLASS_AT];
     not_lock(desk, class)?;
     let frame = frame_of(desk, bytes[CORE_AT] as usize);
-    let place = fitting(desk, frame, class, bytes[MODE_AT]);
-    if place == 0 {
+    let Some(place) = fitting(desk, frame, class, bytes[MODE_AT]) else {
         return Err(Refusal::NotHeld);
-    }
+    };
     if is_full(desk) {
         return Err(Refusal::CountFull);
     }
-    remove(desk, frame, place - 1);
+    remove(desk, frame, place);
     Ok(())
 }
 
-fn leaves_handler(event: u8) -> bool
-    ensures { result ≡ leaves_handler event }
-{
-    event == EXIT_SOFT || event == EXIT_HARD
-}
-
 // A handler is left, for the state `to`: what was acquired in it is struck out of the history.
-fn leave(desk: &mut [u8], history: &mut [u8], bytes: &[u8], to: u8) -> Result<(), Refusal>
-    requires { Cored desk.old × Crossed desk.old history.old × WellFormed bytes.now × Leaving desk.old bytes.now to }
+fn leave(desk: &mut [u8], history: &mut [u8], bytes: &[u8], to: CoreState) -> Result<(), Refusal>
+    requires { Cored desk.old × Crossed desk.old history.old × WellFormed bytes.now × Leaving desk.old bytes.now (state_number to) }
     ensures { (sheet seen : List ℕ) → Acted desk.old sheet seen history.old bytes.now (refused_number result) desk.new sheet seen history.new }
 {
     let core = bytes[CORE_AT] as usize;
@@ -116,27 +109,25 @@ fn leave(desk: &mut [u8], history: &mut [u8], bytes: &[u8], to: u8) -> Result<()
         return Err(Refusal::CountFull);
     }
     strike(desk, history, frame);
-    desk[STATES_AT + core] = to;
+    desk[STATES_AT + core] = u8::from(to);
     Ok(())
 }
 
-fn interrupt(desk: &mut [u8], history: &mut [u8], bytes: &[u8]) -> Result<(), Refusal>
-    requires { Cored desk.old × Crossed desk.old history.old × WellFormed bytes.now × (2 ≤ kind_of bytes.now) × (kind_of bytes.now < 10) }
+fn interrupt(desk: &mut [u8], history: &mut [u8], bytes: &[u8], event: Interrupt) -> Result<(), Refusal>
+    requires { Cored desk.old × Crossed desk.old history.old × WellFormed bytes.now × (kind_of bytes.now ≡ 2 + event_number event) }
     ensures { (sheet seen : List ℕ) → Acted desk.old sheet seen history.old bytes.now (refused_number result) desk.new sheet seen history.new }
 {
     let core = bytes[CORE_AT] as usize;
-    let event = bytes[KIND_AT] - FIRST_EVENT;
-    let to = next(desk[STATES_AT + core] as usize, event as usize);
-    if to == NO_STATE {
+    let Some(to) = next(state_of(desk, core), event) else {
         return Err(Refusal::NoTransition);
-    }
-    if leaves_handler(event) {
+    };
+    if event.leaves_handler() {
         return leave(desk, history, bytes, to);
     }
     if is_full(desk) {
         return Err(Refusal::CountFull);
     }
-    desk[STATES_AT + core] = to;
+    desk[STATES_AT + core] = u8::from(to);
     Ok(())
 }
 
@@ -151,15 +142,12 @@ pub fn act(
     requires { Cored desk.old × (sheet_size (classes_of desk.old) ≤ length sheet.old) × (seen_size (classes_of desk.old) ≤ length seen.old) × WellFormed bytes.now × Crossed desk.old history.old }
     ensures { Acted desk.old sheet.old seen.old history.old bytes.now (refused_number result) desk.new sheet.new seen.new history.new }
 {
-    let kind = bytes[KIND_AT];
-    if kind == ACQUIRE {
-        return acquire(desk, sheet, seen, history, bytes);
+    match kind_of(bytes) {
+        Kind::Acquire => acquire(desk, sheet, seen, history, bytes),
+        Kind::Release => release(desk, bytes),
+        Kind::Interrupt(event) => interrupt(desk, history, bytes, event),
+        Kind::CrossAcquire | Kind::Commit | Kind::CrossRelease => cross(
+            desk, sheet, seen, history, bytes,
+        ),
     }
-    if kind == RELEASE {
-        return release(desk, bytes);
-    }
-    if kind < CROSS_ACQUIRE {
-        return interrupt(desk, history, bytes);
-    }
-    cross(desk, sheet, seen, history, bytes)
 }

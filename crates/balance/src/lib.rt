@@ -3,10 +3,11 @@
 
 ghost use Rattle.std.specs.Prelude.{◌≡◌, ◌≤◌, ◌+ℤ◌};
 ghost use Rattle.std.specs.Int.Signed.{mag};
+ghost use Rattle.answers.specs.Numbers.{refused_number};
 ghost use Rattle.balance.specs.Code.{Room, part_of, counted};
 ghost use Rattle.balance.specs.Piece.{most_records, is_refused, zeros, PieceBalanced};
 
-use answers::{BAD_PIECE, OK};
+use answers::Refusal;
 use layout::MAX_CLASSES;
 use record::{ACQUIRE, CLASS_AT, KIND_AT, RELEASE, SIZE};
 
@@ -19,30 +20,18 @@ pub const MOST_BYTES: usize = SIZE * MOST_RECORDS;
 fn is_refused(piece: &[u8]) -> bool
     ensures { result ≡ is_refused piece.now }
 {
-    if MOST_BYTES < piece.len() {
-        return true;
-    }
-    piece.len() % SIZE != 0
+    MOST_BYTES < piece.len() || piece.len() % SIZE != 0
 }
 
 // What a record of a kind is in the balance of its class.
 fn part_of(kind: u8) -> i32
     ensures { result ≡ part_of kind }
 {
-    if kind == ACQUIRE {
-        return 1;
+    match kind {
+        ACQUIRE => 1,
+        RELEASE => -1,
+        _ => 0,
     }
-    if kind == RELEASE {
-        return -1;
-    }
-    0
-}
-
-fn sum(balance: i32, part: i32) -> i32
-    requires { (mag balance ≤ most_records) × (mag part ≤ 1) }
-    ensures { result ≡ balance +ℤ part }
-{
-    balance + part
 }
 
 // Counts a record in the balance of its class.
@@ -58,24 +47,19 @@ fn count_record(balances: &mut [i32; MAX_CLASSES], bytes: &[u8])
         return;
     }
     let part = part_of(bytes[KIND_AT]);
-    let balance = balances[class];
-    let after = sum(balance, part);
-    balances[class] = after;
+    balances[class] += part;
 }
 
 // The balances of a piece, or 14 and zeros.
-pub fn balance_of(piece: &[u8], balances: &mut [i32; MAX_CLASSES]) -> u8
-    ensures { PieceBalanced piece.now result balances.new }
+pub fn balance_of(piece: &[u8], balances: &mut [i32; MAX_CLASSES]) -> Result<(), Refusal>
+    ensures { PieceBalanced piece.now (refused_number result) balances.new }
 {
     *balances = [0; MAX_CLASSES];
     if is_refused(piece) {
-        return BAD_PIECE;
+        return Err(Refusal::BadPiece);
     }
-    let mut at = 0;
-    while at < piece.len() {
-        let end = at + SIZE;
-        count_record(balances, &piece[at..end]);
-        at = end;
+    for bytes in piece.chunks_exact(SIZE) {
+        count_record(balances, bytes);
     }
-    OK
+    Ok(())
 }

@@ -10,8 +10,8 @@ ghost use Rattle.conclusion.specs.Conclude.{Sheeted, Concluded};
 
 use answers::Verdict;
 use clash::cycle_bound;
-use cores::frame_of;
-use layout::{CLASSES_AT, CLOSED_AT, STATES_AT};
+use cores::{frame_of, state_of};
+use layout::{CLASSES_AT, CLOSED_AT};
 use report::show;
 use shortest::shortest_cycle;
 use successors::{ROWS, put_successors};
@@ -24,14 +24,13 @@ pub fn conclude(desk: &mut [u8], sheet: &[u8], seen: &[u8], slip: &mut [u8], cor
 {
     let k = desk[CLASSES_AT] as usize;
     let frame = frame_of(desk, core);
-    let context = desk[STATES_AT + core] as usize;
+    let context = state_of(desk, core);
     mark(desk, frame, k, context);
     let mut rows = [0; ROWS];
     put_successors(desk, sheet, k, &mut rows);
-    let bound = cycle_bound(desk, &rows, k);
-    if bound == 0 {
+    let Some(bound) = cycle_bound(desk, &rows, k) else {
         return Verdict::Clean;
-    }
+    };
     show(slip, seen, k, shortest_cycle(desk, sheet, &rows, k, bound));
     desk[CLOSED_AT] = 1;
     Verdict::Fault

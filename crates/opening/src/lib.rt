@@ -22,7 +22,7 @@ fn seat_cores(desk: &mut [u8])
     ensures { desk.new ≡ desk.old }
 {
     for i in 0..CORES {
-        desk[STATES_AT + i] = CoreState::fresh().0;
+        desk[STATES_AT + i] = u8::from(CoreState::fresh());
     }
 }
 

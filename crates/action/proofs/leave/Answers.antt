@@ -32,4 +32,4 @@ returns c =
     let p = c.requires in
     let L = p.3 in
     let e = c.frame_of-frame.ensures in
-    λ sheet seen. rw L.is (interrupt_accepts _ sheet seen _ _ p.2 p.0.few L.first L.last (λ z. L.allowed (L.is ∙ z)) (inr (rw e at c.if-desk-frame-ne0.false)) (sym c.is_full.ensures ∙ c.if-is_full.false) (inl (L.leaves, rw e at c.strike.ensures)))
+    λ sheet seen. rw (c.from.ensures, L.is) (interrupt_accepts _ sheet seen _ _ p.2 p.0.few L.first L.last (λ z. L.allowed (L.is ∙ z)) (inr (rw e at c.if-desk-frame-ne0.false)) (sym c.is_full.ensures ∙ c.if-is_full.false) (inl (L.leaves, rw e at c.strike.ensures)))

@@ -1,6 +1,5 @@
 use Prim.Native.Nat.{◌+◌}
 use native.Mathlib.Omega.{arith}
-use Rattle.layout.specs.Layout.{states_at}
 use Rattle.cores.proofs.Bytes.{state_less, held_in}
 use Rattle.conclusion.proofs.Conclusions.{found_ranged, conclude_clean, conclude_fault}
 use Rattle.conclusion.proofs.conclude.Goals as goal
@@ -9,24 +8,24 @@ pub frame_of-frame-requires : goal.frame_of-frame-requires
 frame_of-frame-requires c =
     (c.requires.0.encodes.long, c.requires.1, state_less c.args.desk.now c.requires.0 c.args.core c.requires.1)
 
-pub overflow_cast-context : goal.overflow_cast-context
-overflow_cast-context c =
-    let p = c.requires in omega (arith, c.slice_known-4-1.given (states_at + c.args.core))
+pub state_of-context-requires : goal.state_of-context-requires
+state_of-context-requires c =
+    (c.requires.0.encodes.long, c.requires.1, state_less c.args.desk.now c.requires.0 c.args.core c.requires.1)
 
 pub mark-requires : goal.mark-requires
 mark-requires c =
     let p = c.requires in
     let a = c.args in
-    (rw c.frame_of-frame.ensures (held_in a.desk.now p.0 a.core p.1), p.0.few, state_less a.desk.now p.0 a.core p.1)
+    (rw c.frame_of-frame.ensures (held_in a.desk.now p.0 a.core p.1), p.0.few)
 
 pub put_successors-requires : goal.put_successors-requires
 put_successors-requires c =
     record { long = omega (arith, c.mark.ensures.0.keeps.long, c.requires.0.encodes.long); few = c.requires.0.few; room = c.requires.2.bytes.long }
 
-pub returns-then-bound-eq0 : goal.returns-then-bound-eq0
-returns-then-bound-eq0 c =
+pub returns-in_default : goal.returns-in_default
+returns-in_default c =
     let p = c.requires in
-    conclude_clean _ _ _ _ _ p.0.few p.1 _ _ (rw c.frame_of-frame.ensures at c.mark.ensures.0) c.put_successors.ensures c.cycle_bound-bound.ensures c.if-bound-eq0.true
+    conclude_clean _ _ _ _ _ p.0.few p.1 _ _ (rw (c.frame_of-frame.ensures, c.state_of-context.ensures) at c.mark.ensures.0) c.put_successors.ensures (rw c.in_default.is at c.cycle_bound.ensures.bounded)
 
 pub show-requires : goal.show-requires
 show-requires c =
@@ -34,7 +33,7 @@ show-requires c =
       p.0.few,
       c.shortest_cycle.ensures.few,
       found_ranged c.args.desk.now c.args.sheet.now c.args.seen.now c.args.slip.now c.args.core p.0.few p.1 _ _
-          (rw c.frame_of-frame.ensures at c.mark.ensures.0) c.put_successors.ensures p.0 p.2 c.cycle_bound-bound.ensures c.if-bound-eq0.false c.shortest_cycle.ensures,
+          (rw (c.frame_of-frame.ensures, c.state_of-context.ensures) at c.mark.ensures.0) c.put_successors.ensures p.0 p.2 (rw c.in-Some.is at c.cycle_bound.ensures.bounded) (rw c.in-Some.is at c.cycle_bound.ensures.some) c.shortest_cycle.ensures,
       p.3,
       omega (arith, c.shortest_cycle.ensures.few, p.4),
     )
@@ -46,4 +45,4 @@ bounds-desk-1 c =
 pub returns : goal.returns
 returns c =
     let p = c.requires in
-    conclude_fault _ _ _ _ _ p.0.few p.1 _ _ (rw c.frame_of-frame.ensures at c.mark.ensures.0) c.put_successors.ensures _ c.cycle_bound-bound.ensures c.if-bound-eq0.false c.shortest_cycle.ensures c.show.ensures
+    conclude_fault _ _ _ _ _ p.0.few p.1 _ _ (rw (c.frame_of-frame.ensures, c.state_of-context.ensures) at c.mark.ensures.0) c.put_successors.ensures _ (rw c.in-Some.is at c.cycle_bound.ensures.bounded) (rw c.in-Some.is at c.cycle_bound.ensures.some) c.shortest_cycle.ensures c.show.ensures

@@ -1,8 +1,10 @@
 use mathlib.Core.List.{List, [], ◌∷◌}
-use Prim.Native.Nat.{ℕ}
+use Prim.Native.Nat.{ℕ, ◌<◌}
+use mathlib.Core.Path.{◌≡◌}
+use lib.ListN.{get_or}
+use native.Mathlib.Omega.{arith}
 use Rattle.layout.specs.Encoding.{mark_byte}
 use Rattle.context.specs.Bits.{mark_bits}
-use borrow.Author.Rules.{rules}
 use Rattle.context.proofs.Table.{table_rule}
 use Rattle.context.proofs.mark_bits.Goals as goal
 
@@ -19,6 +21,10 @@ table =
     ∷ (1 ∷ 1 ∷ 2 ∷ 0 ∷ 0 ∷ 0 ∷ [])
     ∷ []
 
-pub returns : goal.returns
+row : (s m : ℕ) → s < 9 → m < 6 → get_or (get_or table s []) m 0 ≡ mark_bits s m
 unfolding table mark_bits mark_byte
-returns c = table_rule 6 mark_bits table tt c.args.state c.args.mode (search rules) (search rules)
+row s m l k = table_rule 6 mark_bits table tt s m l k
+
+pub returns : goal.returns
+unfolding table
+returns c = grind (arith, row)
