@@ -1,20 +1,18 @@
 -- Laws of sets of arrivals. Assumes nothing.
-use mathlib.Core.Path.{◌≡◌, refl, sym, ap}
+use mathlib.Core.Path.{◌≡◌, refl, sym}
 use mathlib.Core.Bool.{Bool, true, false, not, false≢true}
 use Rattle.std.proofs.Common.{nat_eq}
 use Rattle.std.proofs.Math.Dec.{eqb-suc-zero}
 use mathlib.Core.Logic.{inl, inr, ⊎_elim}
 use mathlib.Core.List.{List}
-use Prim.Native.Nat.{ℕ, zero, suc, ◌+◌, ◌*◌, ◌^◌, ◌<◌, ◌≤◌}
+use Prim.Native.Nat.{ℕ, zero, suc, ◌+◌, ◌^◌, ◌<◌, ◌≤◌}
 use native.Mathlib.Omega.{arith}
 use lib.Bits.{bit_or}
 use lib.Count.{ones-le}
-use lib.ListN.{get_or}
 use Rattle.words.specs.Bits.{bit, Both}
 use Rattle.words.proofs.Words.{bit_zero, bit_cases, bit_two, bit_or_lem, some_bit, ones_mono, ones_more}
 use Rattle.rules.specs.HeldLocks.{First, Second, R, N}
-use Rattle.search.specs.Rows.{first_index, first_at, row_at}
-use Rattle.search.specs.Arrivals.{word_by, none, In, size, Fits, Put, kind_by, Union, Onward}
+use Rattle.search.specs.Arrivals.{word_by, none, In, size, Fits, Put, Union, Onward}
 use Rattle.search.specs.Letters.{Successors, Joined, Less, HasNone}
 use Rattle.search.specs.Walk.{words_of, Meets, Finished}
 use Rattle.search.specs.declared.Arrivals.{Arrivals}
@@ -58,17 +56,6 @@ union_law w v =
     }
 
 -- ---- The words of a class.
-
-pub first_small : (first : ℕ) → first ≡ first_index (first_at first) → first ≤ 2
-first_small zero e = omega arith
-first_small (suc n) e = omega arith
-
-module _ (rows : List ℕ) (x first : ℕ) (e : first ≡ first_index (first_at first)) where
-  pub row_r : get_or rows (4 * x + first) 0 ≡ row_at rows x (kind_by (first_at first) R)
-  row_r = ap (λ (i : ℕ). get_or rows i 0) (omega arith)
-
-  pub row_n : get_or rows (4 * x + first + 1) 0 ≡ row_at rows x (kind_by (first_at first) N)
-  row_n = ap (λ (i : ℕ). get_or rows i 0) (omega arith)
 
 pub onward_law : {rows : List ℕ} {x : ℕ} {f : First} {s t u : Arrivals} → Successors rows x f t → Joined s t u → Onward rows x f s u
 onward_law e h = record { kept = λ j b. (h b).left j; all = λ j b m. (h b).right j (rw e m); only = λ j b m. ⊎_elim (λ y. inl y) (λ y. inr (rw e at y)) ((h b).only j m) }
