@@ -6,7 +6,8 @@ use Prim.Native.Nat.{ℕ, zero, suc, ◌+◌, ◌-◌, ◌*◌, ◌/◌, ◌%◌
 use native.Mathlib.Nat.{le_of_suc-le-suc, not-suc-le-zero}
 use native.Mathlib.Decide.{ℕ_discrete, dec_lt}
 use native.Mathlib.Omega.{arith}
-use lib.ListN.{length, get_or, set, length-set, length-append}
+use lib.ListN.{length, get_or, set, take, drop, length-set, length-append, length-take, length-drop}
+use Rattle.std.proofs.Common.{get_or-take, get_or-drop}
 use lib.Seq.{get_or-set_same, get_or-set_other}
 use Rattle.std.specs.List.{CopiedTo, SameBelow, SameFrom}
 use Rattle.rules.specs.Limits.{max_depth, held_modes, mode_count}
@@ -15,7 +16,7 @@ use Rattle.layout.specs.Layout.{frame_count, origins_at, accepted_at, desk_size,
 use Rattle.layout.specs.Encoding.{held_byte, held_origin, EightBits}
 use Rattle.layout.proofs.Held.{mode_origin, same_bits}
 use Rattle.origins.specs.Origins.{OriginPut}
-use Rattle.held.specs.Frames.{Pushed, remove_at, OriginsMoved, Removed}
+use Rattle.held.specs.Frames.{HeldBytes, Pushed, remove_at, OriginsMoved, Removed}
 
 -- ---- What the places of a frame say, f being what a byte or a bit says of its lock: with one lock more, and with the lock at place q gone.
 
@@ -72,6 +73,17 @@ module _ (f : HeldLock → ℕ) where
         behind lo (yes h) z = moved p lo h ∙ is (suc p) (omega arith)
         behind lo (no h) (yes z) = rw z (freed ∙ sym (at_past hs (suc last) (omega arith)))
         behind lo (no h) (no z) = kept p l (inr (omega arith)) ∙ is p l ∙ at_past hs p (omega arith) ∙ sym (at_past hs (suc p) (omega arith))
+
+-- ---- The held bytes of a frame as a slice.
+
+pub bytes_sliced : {desk : List ℕ} (n : ℕ) → desk_size ≤ length desk → n < frame_count → depth_of desk n ≤ max_depth → (xs : List ℕ)
+    → xs ≡ take (held_at + max_depth * n + depth_of desk n - (held_at + max_depth * n)) (drop (held_at + max_depth * n) desk) → HeldBytes desk n xs
+bytes_sliced {desk} n long inside few xs e =
+    let a : ℕ = held_at + max_depth * n in
+    record {
+      long = rw e (simp (length-take, length-drop) (omega arith));
+      byte = λ p l. rw e (get_or-take (a + depth_of desk n - a) (drop a desk) p 0 (omega arith) ∙ get_or-drop a desk p 0);
+    }
 
 -- ---- A lock is held.
 

@@ -2,23 +2,21 @@
 use mathlib.Core.Path.{◌≡◌, refl, sym, ap, ◌∙◌}
 use mathlib.Core.Bool.{Bool, true, false, cond, false≢true}
 use mathlib.Core.List.{List}
-use Prim.Native.Nat.{ℕ, zero, suc, ◌<◌, ◌≤◌, ◌-◌, ◌+◌, ◌*◌, ◌%◌, zero-le}
+use Prim.Native.Nat.{ℕ, zero, suc, ◌<◌, ◌≤◌, ◌-◌, ◌+◌, ◌%◌, zero-le}
 use native.Mathlib.Nat.{not-suc-le-zero, le_refl}
 use native.Mathlib.Numerals.{sub-one}
 use native.Mathlib.Omega.{arith}
 use native.Mathlib.Decide.{ℕ_discrete, dec_lt}
 use denote.Ref.{Bor}
 use denote.Param.Members.{Mut}
-use lib.ListN.{length, get_or, take, drop, length-take, length-drop}
-use Rattle.std.proofs.Common.{get_or-take, get_or-drop}
+use lib.ListN.{length, get_or}
 use Rattle.std.specs.Prelude.{Option, None, Some, IfSome, IsSomeAnd, MatchOption, IsTrue, option_map}
 use Rattle.std.specs.Fn.{Called}
 use Rattle.std.specs.Iterator.Runs.{Run, AllItemsGive, IsFirstToGive, CallKeepsClosure, ItemsMapToReversed}
 use lib.Dec.{eqb}
 use borrow.Author.Tests.{eq-eqb, ne_eqb}
-use Rattle.rules.specs.Limits.{max_depth}
-use Rattle.layout.specs.Layout.{frame_count, desk_size, held_at, depth_of, held_of}
-use Rattle.held.specs.Frames.{place_number, last_below, newest_of, taken_in, fitting_of}
+use Rattle.layout.specs.Layout.{depth_of, held_of}
+use Rattle.held.specs.Frames.{HeldBytes, place_number, last_below, newest_of, taken_in, fitting_of}
 
 -- What `last_below` finds.
 pub data LastBelow (test : ℕ → Bool) (d : ℕ) : ℕ → Type 0 where
@@ -86,23 +84,17 @@ module _ {S F : Type 0} {steps : S → Option (Bor ℕ) → S → Type 0} (g : M
       at l (some_says i (u.at (length xs - 1 - i)) (back.2 i 0 l (omega arith)) (first keeps).0)
       (λ k lo hi. some_says k (u.at (length xs - 1 - k)) (back.2 k 0 hi (omega arith)) ((first keeps).1 (length xs - 1 - k) (omega arith)))
 
--- The held bytes of a frame as a slice.
-pub newest_found : (desk : List ℕ) (n class : ℕ) → desk_size ≤ length desk → n < frame_count → depth_of desk n ≤ max_depth → (xs : List ℕ)
-    → xs ≡ take (held_at + max_depth * n + depth_of desk n - (held_at + max_depth * n)) (drop (held_at + max_depth * n) desk) → {r : ℕ}
+-- Over the held bytes of a frame that is the newest lock.
+pub newest_found : (desk : List ℕ) (n class : ℕ) {xs : List ℕ} → HeldBytes desk n xs → {r : ℕ}
     → LastBelow (λ k. eqb (get_or xs k 0 % 64) class) (length xs) r → r ≡ newest_of desk n class
 unfolding newest_of
-newest_found desk n class long inside few xs e found = last_is (λ p. eqb (held_of desk n p % 64) class) (depth_of desk n) (same found)
+newest_found desk n class {xs} H found = last_is (λ p. eqb (held_of desk n p % 64) class) (depth_of desk n) (same found)
   where
     size : length xs ≡ depth_of desk n
-    size = rw e (simp (length-take, length-drop) (omega arith))
-
-    byte : (p : ℕ) → p < depth_of desk n → held_of desk n p ≡ get_or xs p 0
-    byte p l =
-        let a : ℕ = held_at + max_depth * n in
-        rw e (sym (get_or-take (a + depth_of desk n - a) (drop a desk) p 0 (omega arith) ∙ get_or-drop a desk p 0))
+    size = H.long
 
     test : {b : Bool} (p : ℕ) → p < depth_of desk n → eqb (get_or xs p 0 % 64) class ≡ b → eqb (held_of desk n p % 64) class ≡ b
-    test p l h = rw (byte p l) h
+    test p l h = rw (H.byte p l) at h
 
     same : {r : ℕ} → LastBelow (λ k. eqb (get_or xs k 0 % 64) class) (length xs) r → LastBelow (λ p. eqb (held_of desk n p % 64) class) (depth_of desk n) r
     same (nowhere f) = nowhere (λ p l. test p l (f p (omega (arith, size))))

@@ -11,6 +11,11 @@ pub record FrameBytes (desk : List ℕ) (n : ℕ) (hs : List HeldLock) : Type 0 
   pub held : (p : ℕ) → p < max_depth → held_of desk n p ≡ held_byte_at hs p
   pub origins : (p : ℕ) → p < max_depth → origin_of desk n p ≡ origin_at hs p
 
+-- The held bytes of frame n, one for each of its locks.
+pub record HeldBytes (desk : List ℕ) (n : ℕ) (bytes : List ℕ) : Type 0 where
+  pub long : length bytes ≡ depth_of desk n
+  pub byte : (p : ℕ) → p < depth_of desk n → get_or bytes p 0 ≡ held_of desk n p
+
 -- Each lock fits a held byte and an origin bit.
 pub record SmallLock (h : HeldLock) : Type 0 where
   pub class : h.class < 64

@@ -4,7 +4,7 @@
 ghost use Rattle.std.specs.Prelude.{◌≡◌, ◌<◌, ◌≤◌, length};
 ghost use Rattle.rules.specs.Limits.{max_depth, mode_count};
 ghost use Rattle.layout.specs.Layout.{frame_count, desk_size, depth_of};
-ghost use Rattle.held.specs.Frames.{Pushed, place_number, newest_of, fitting_of, OriginsMoved, Removed};
+ghost use Rattle.held.specs.Frames.{Pushed, HeldBytes, place_number, newest_of, fitting_of, OriginsMoved, Removed};
 
 use layout::{DEPTHS_AT, HELD_AT, HELD_MODES, MAX_DEPTH};
 use origins::{origin, put_origin};
@@ -20,14 +20,22 @@ pub fn push(desk: &mut [u8], frame: usize, class: u8, mode: u8)
     desk[DEPTHS_AT + frame] = d + 1;
 }
 
+// The held bytes of a frame, its oldest lock first.
+pub fn held_bytes(desk: &[u8], frame: usize) -> &[u8]
+    requires { (desk_size ≤ length desk.now) × (frame < frame_count) × (depth_of desk.now frame ≤ max_depth) }
+    ensures { HeldBytes desk.now frame result.now }
+{
+    let first = HELD_AT + MAX_DEPTH * frame;
+    let d = desk[DEPTHS_AT + frame] as usize;
+    &desk[first..first + d]
+}
+
 // The place of the newest lock of the class in the frame.
 fn newest(desk: &[u8], frame: usize, class: u8) -> Option<usize>
     requires { (desk_size ≤ length desk.now) × (frame < frame_count) × (depth_of desk.now frame ≤ max_depth) }
     ensures { place_number result ≡ newest_of desk.now frame class }
 {
-    let first = HELD_AT + MAX_DEPTH * frame;
-    let d = desk[DEPTHS_AT + frame] as usize;
-    desk[first..first + d]
+    held_bytes(desk, frame)
         .iter()
         .rposition(|held| *held % 64 == class)
 }

@@ -7,10 +7,9 @@ use Rattle.held.proofs.newest.Goals as goal
 
 pub returns : goal.returns
 returns c =
-    let p = c.requires in
     let e = c.rposition.ensures in
     let u = e.runs.0 in
     let back = rw e.runs.1 at (c.iter.ensures.runs_back u u.seen) in
     let xs = c.iter.result.rest.now in
-    newest_found _ _ _ p.0 p.1 p.2 xs c.iter.ensures.rest
+    newest_found _ _ _ (rw (← c.iter.ensures.rest) at c.held_bytes.ensures)
     (last_found _ xs (λ b. eqb (b % 64) c.args.class) (λ y b q h. search (rules, tests)) u back _ e.bound e.runs.2)

@@ -1,6 +1,6 @@
-use Rattle.numbers.proofs.Writing.{both_written}
+use mathlib.Core.Path.{◌∙◌}
+use Rattle.numbers.proofs.Writing.{eight_bytes, written}
 use Rattle.numbers.proofs.put_word.Goals as goal
 
 pub returns : goal.returns
-returns c =
-    both_written _ _ _ _ _ c.put_number.ensures c.put_number-2.ensures
+returns c = written 8 _ _ _ _ c.requires (c.copy_from_slice.ensures.after ∙ c.to_le_bytes.ensures ∙ eight_bytes _)
