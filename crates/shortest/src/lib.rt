@@ -18,6 +18,7 @@ use words::{both, lowest};
 
 // ---- The dependencies of a class by rank: three times the kind's place (ER 0, EN 1, SR 2, SN 3) and the source. Ranks are in the order of
 // the slip's bytes.
+// Kept: the order of the shown cycle is that of these numbers, by `rank`, `kind_at` and `source_at` of the rules.
 
 const RANKS: usize = 12;
 

@@ -54,6 +54,7 @@ fn home(class: u32, letter: SecondLetter) -> Arrivals
 // A set for each number of dependencies below MAX_CLASSES.
 pub const LEVELS: usize = MAX_CLASSES;
 
+// Kept: docs/PROMISES.md names it.
 pub fn level(levels: &[Arrivals; LEVELS], m: usize) -> Arrivals
     requires { m < 64 }
     ensures { result ≡ level_at (level_words levels.now) m }
