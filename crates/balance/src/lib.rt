@@ -3,12 +3,14 @@
 
 ghost use Rattle.std.specs.Prelude.{◌≡◌, ◌≤◌, ◌+ℤ◌};
 ghost use Rattle.std.specs.Int.Signed.{mag};
+ghost use Rattle.answers.specs.Numbers.{refused_number};
+ghost use Rattle.record.specs.Kinds.{kind_number};
 ghost use Rattle.balance.specs.Code.{Room, part_of, counted};
 ghost use Rattle.balance.specs.Piece.{most_records, is_refused, zeros, PieceBalanced};
 
-use answers::{BAD_PIECE, OK};
+use answers::Refusal;
 use layout::MAX_CLASSES;
-use record::{ACQUIRE, CLASS_AT, KIND_AT, RELEASE, SIZE};
+use record::{CLASS_AT, Kind, SIZE};
 
 // The most records that a piece may have, and their bytes.
 pub const MOST_RECORDS: usize = 10000;
@@ -23,12 +25,12 @@ fn is_refused(piece: &[u8]) -> bool
 }
 
 // What a record of a kind is in the balance of its class.
-fn part_of(kind: u8) -> i32
-    ensures { result ≡ part_of kind }
+fn part_of(kind: Kind) -> i32
+    ensures { result ≡ part_of (kind_number kind) }
 {
     match kind {
-        ACQUIRE => 1,
-        RELEASE => -1,
+        Kind::Acquire => 1,
+        Kind::Release => -1,
         _ => 0,
     }
 }
@@ -45,20 +47,20 @@ fn count_record(balances: &mut [i32; MAX_CLASSES], bytes: &[u8])
     if MAX_CLASSES <= class {
         return;
     }
-    let part = part_of(bytes[KIND_AT]);
+    let part = part_of(record::kind_of(bytes));
     balances[class] += part;
 }
 
 // The balances of a piece, or 14 and zeros.
-pub fn balance_of(piece: &[u8], balances: &mut [i32; MAX_CLASSES]) -> u8
-    ensures { PieceBalanced piece.now result balances.new }
+pub fn balance_of(piece: &[u8], balances: &mut [i32; MAX_CLASSES]) -> Result<(), Refusal>
+    ensures { PieceBalanced piece.now (refused_number result) balances.new }
 {
     *balances = [0; MAX_CLASSES];
     if is_refused(piece) {
-        return BAD_PIECE;
+        return Err(Refusal::BadPiece);
     }
     for bytes in piece.chunks_exact(SIZE) {
         count_record(balances, bytes);
     }
-    OK
+    Ok(())
 }

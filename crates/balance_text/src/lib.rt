@@ -7,7 +7,6 @@ ghost use Rattle.log_text.specs.Text.{Appended};
 ghost use Rattle.balance.specs.Code.{Room};
 ghost use Rattle.balance_text.specs.Text.{signed_text, lines_below, piece_text, signed_room, line_room, text_room, LinePut};
 
-use answers::OK;
 use layout::MAX_CLASSES;
 use log_text::{put_number, put_refusal, put_word};
 
@@ -59,9 +58,8 @@ pub fn put_text(out: &mut [u8], piece: &[u8]) -> usize
     ensures { Appended out.old 0 (piece_text piece.now) out.new result }
 {
     let mut balances = [0i32; MAX_CLASSES];
-    let answer = balance::balance_of(piece, &mut balances);
-    if answer != OK {
-        return put_refusal(out, answer);
+    if let Err(refusal) = balance::balance_of(piece, &mut balances) {
+        return put_refusal(out, refusal.number());
     }
     put_balances(out, &balances)
 }

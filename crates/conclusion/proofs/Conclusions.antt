@@ -101,6 +101,14 @@ module _ (desk sheet seen slip : List ℕ) (core : ℕ) (few : classes_of desk �
         let c = d.some z closed cores graph marked_bytes graph_rows in
         f.least (f.some graph graph_rows c.0 c.1 c.2) graph (record { is_closed = closed; cores = cores; in_desk = marked_bytes; in_sheet = MB }) graph_rows
 
+  -- There is one.
+  pub found_some : Cored desk → Sheeted K sheet → {n : ℕ} {found : Found} → Bounded marked rows K n → 0 < n → Shortest marked sheet rows K n found → 0 < found.n
+  found_some s h d z f =
+      let rows_of = graph_rows s.is_closed s.cores s.marks h.locks s.encodes s.valid h.bytes in
+      let c = d.some z s.is_closed s.cores (graph s.is_closed s.cores s.marks h.locks s.encodes s.valid h.bytes)
+      (marked_bytes s.is_closed s.cores s.marks h.locks s.encodes s.valid h.bytes) rows_of in
+      f.some (graph s.is_closed s.cores s.marks h.locks s.encodes s.valid h.bytes) rows_of c.0 c.1 c.2
+
   -- Its classes are below K.
   pub found_ranged : Cored desk → Sheeted K sheet → {n : ℕ} {found : Found} → Bounded marked rows K n → 0 < n → Shortest marked sheet rows K n found
       → Ranged K found

@@ -127,7 +127,8 @@ const HS: Option<CoreState> = Some(CoreState::HardOverSoft);
 const X: Option<CoreState> = None;
 
 // A row for each state, a column for each interrupt event: hard on, hard off, soft on, soft off, enter soft, exit soft, enter hard, exit hard.
-const NEXT: [[Option<CoreState>; 8]; 9] = [
+// A static, since the compiler would build a constant table of options on the stack at each call.
+static NEXT: [[Option<CoreState>; 8]; 9] = [
     [ON, HO, ON, SO, SI, X, HT, X],
     [SO, BO, ON, SO, X, X, HX, X],
     [ON, HO, HO, BO, X, X, X, X],

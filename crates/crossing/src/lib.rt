@@ -17,7 +17,7 @@ use crosslocks::{end, enter, is_declared, is_in_progress, is_list_full};
 use history::{draw_commit, number_commit};
 use layout::CLASSES_AT;
 use numbering::number_pairs;
-use record::{CLASS_AT, COMMIT, CORE_AT, CROSS_ACQUIRE, KIND_AT};
+use record::{CLASS_AT, CORE_AT, Kind, kind_of};
 use update::draw;
 
 // An exclusive lock: what the acquire of a crosslock draws, an exclusive one would.
@@ -120,12 +120,9 @@ pub fn cross(
     requires { Cored desk.old × Crossed desk.old history.now × (sheet_size (classes_of desk.old) ≤ length sheet.old) × (seen_size (classes_of desk.old) ≤ length seen.old) × WellFormed bytes.now × (10 ≤ kind_of bytes.now) }
     ensures { Acted desk.old sheet.old seen.old history.now bytes.now (refused_number result) desk.new sheet.new seen.new history.now }
 {
-    let kind = bytes[KIND_AT];
-    if kind == CROSS_ACQUIRE {
-        return cross_acquire(desk, sheet, seen, bytes);
+    match kind_of(bytes) {
+        Kind::CrossAcquire => cross_acquire(desk, sheet, seen, bytes),
+        Kind::Commit => commit(desk, sheet, seen, history, bytes),
+        _ => cross_release(desk, bytes),
     }
-    if kind == COMMIT {
-        return commit(desk, sheet, seen, history, bytes);
-    }
-    cross_release(desk, bytes)
 }

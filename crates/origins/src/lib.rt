@@ -8,6 +8,7 @@ ghost use Rattle.origins.specs.Origins.{DigitPut, OriginPut};
 use layout::ORIGINS_AT;
 
 // Origin bit i.
+// Kept: a number and no bool, since callers reckon with it: a lock's mode is `held / 64 + TRY * origin`.
 pub fn origin(desk: &[u8], i: usize) -> u8
     requires { (desk_size ≤ length desk.now) × (i < place_count) }
     ensures { result ≡ origin_bit desk.now i }

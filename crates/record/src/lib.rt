@@ -79,15 +79,13 @@ pub fn kind_of(bytes: &[u8]) -> Kind
 
 const MOST_CORES: u8 = CORES as u8;
 
-// A byte that should be 0 is not: the class of an interrupt event, or the mode of that or of a crosslock's kind.
+// A byte that should be 0 is not: the class of an interrupt event, or the mode of what is no lock's. No branch: kinds come in any order.
 fn has_stray_byte(kind: Kind, class: u8, mode: u8) -> bool
     ensures { result ≡ stray_byte (kind_number kind) class mode }
 {
-    match kind {
-        Kind::Acquire | Kind::Release => false,
-        Kind::Interrupt(_) => class != 0 || mode != 0,
-        Kind::CrossAcquire | Kind::Commit | Kind::CrossRelease => mode != 0,
-    }
+    let of_lock = matches!(kind, Kind::Acquire | Kind::Release);
+    let of_event = matches!(kind, Kind::Interrupt(_));
+    (of_event & (class != 0)) | (!of_lock & (mode != 0))
 }
 
 // The conditions of refusal 3.

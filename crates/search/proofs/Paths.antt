@@ -3,17 +3,17 @@ use mathlib.Core.Path.{◌≡◌, refl, subst}
 use mathlib.Core.Bool.{Bool, true, false}
 use mathlib.Core.Logic.{inl, inr, ⊎_elim}
 use mathlib.Core.List.{List}
-use Prim.Native.Nat.{ℕ, ◌-◌, ◌<◌}
+use Prim.Native.Nat.{ℕ, ◌<◌}
 use native.Mathlib.Omega.{arith}
 use Rattle.words.specs.Bits.{bit}
 use Rattle.rules.specs.HeldLocks.{First, Second, E, S, R, N}
 use Rattle.rules.specs.Graph.{Kind, Graph}
 use Rattle.rules.specs.StrongPath.{strong_joint, StrongPath, one, more, Reaches}
 use Rattle.search.specs.Rows.{Successor, Rows, Ranged, Reached}
-use Rattle.search.specs.Arrivals.{word_by, none, In, size, Fits, Put, kind_by, Union, Onward, After, Next}
+use Rattle.search.specs.Arrivals.{none, In, Fits, Put, kind_by, Union, Onward, After, Next}
 use Rattle.search.specs.Letters.{Successors, Joined, Less, HasNone}
 use Rattle.search.specs.declared.Arrivals.{Arrivals}
-use Rattle.search.proofs.Sets.{no_arrival, size_bound, none_left, first_onward, onward_law}
+use Rattle.search.proofs.Sets.{no_arrival, none_left, first_onward, onward_law}
 use Rattle.search.proofs.Visits.{after_N, snoc}
 
 -- Class t ends a strong path from class c, and is arrived at by a.
@@ -60,9 +60,6 @@ pub record Progress (rows : List ℕ) (K c : ℕ) (s e : Arrivals) : Type 0 wher
   pub first : (j : ℕ) (f : First) (b : Second) → Successor rows c (kind_by f b) j → In s j b
   pub next_place : (i : ℕ) (a : Second) → In e i a → (j : ℕ) (f : First) (b : Second) → strong_joint a f ≡ true → Successor rows i (kind_by f b) j → In s j b
   pub fits : Fits e
-
-pub progress_less : {e d : Arrivals} {i : ℕ} (a : Second) → Put i a e d → bit (word_by e a) i ≡ 0 → 128 - size d < 128 - size e
-progress_less a p z = omega (arith, p.more z, size_bound p.fits)
 
 module _ {rows : List ℕ} {K c : ℕ} (ranged : Ranged K rows) (less : c < K) where
   pub progress_none : {s : Arrivals} → After rows c N none s → Progress rows K c s none

@@ -1,20 +1,18 @@
 -- Laws of sets of arrivals. Assumes nothing.
-use mathlib.Core.Path.{◌≡◌, refl, sym, ap}
+use mathlib.Core.Path.{◌≡◌, refl, sym}
 use mathlib.Core.Bool.{Bool, true, false, not, false≢true}
 use Rattle.std.proofs.Common.{nat_eq}
 use Rattle.std.proofs.Math.Dec.{eqb-suc-zero}
 use mathlib.Core.Logic.{inl, inr, ⊎_elim}
 use mathlib.Core.List.{List}
-use Prim.Native.Nat.{ℕ, zero, suc, ◌+◌, ◌*◌, ◌^◌, ◌<◌, ◌≤◌}
+use Prim.Native.Nat.{ℕ, zero, suc, ◌+◌, ◌^◌, ◌<◌, ◌≤◌}
 use native.Mathlib.Omega.{arith}
 use lib.Bits.{bit_or}
 use lib.Count.{ones-le}
-use lib.ListN.{get_or}
-use Rattle.words.specs.Bits.{bit, With, Both}
+use Rattle.words.specs.Bits.{bit, Both}
 use Rattle.words.proofs.Words.{bit_zero, bit_cases, bit_two, bit_or_lem, some_bit, ones_mono, ones_more}
 use Rattle.rules.specs.HeldLocks.{First, Second, R, N}
-use Rattle.search.specs.Rows.{first_index, first_at, row_at}
-use Rattle.search.specs.Arrivals.{word_by, none, In, size, Fits, Put, kind_by, Union, Onward}
+use Rattle.search.specs.Arrivals.{word_by, none, In, size, Fits, Put, Union, Onward}
 use Rattle.search.specs.Letters.{Successors, Joined, Less, HasNone}
 use Rattle.search.specs.Walk.{words_of, Meets, Finished}
 use Rattle.search.specs.declared.Arrivals.{Arrivals}
@@ -34,26 +32,6 @@ no_member (suc w) l n = let m = some_bit 64 (suc w) (omega arith) l in absurd (n
 pub no_arrival : (j : ℕ) (b : Second) → In none j b → ⊥
 no_arrival j R h = empty j refl h
 no_arrival j N h = empty j refl h
-
-pub put_r : {s : Arrivals} {c x : ℕ} → Fits s → c < 64 → With s.r c x → Put c R s (record { r = x; n = s.n })
-put_r f l w =
-    record {
-      there = w.there;
-      kept = λ j. elim [ R ↦ λ h. w.kept j h | N ↦ λ h. h ];
-      only = λ j. elim [ R ↦ λ h. ⊎_elim (λ y. inl y) (λ e. inr (e, refl)) (w.only j h) | N ↦ λ h. inl h ];
-      more = λ z. let e = w.more z in omega arith;
-      fits = record { r = w.within 64 f.r l; n = f.n };
-    }
-
-pub put_n : {s : Arrivals} {c x : ℕ} → Fits s → c < 64 → With s.n c x → Put c N s (record { r = s.r; n = x })
-put_n f l w =
-    record {
-      there = w.there;
-      kept = λ j. elim [ N ↦ λ h. w.kept j h | R ↦ λ h. h ];
-      only = λ j. elim [ N ↦ λ h. ⊎_elim (λ y. inl y) (λ e. inr (e, refl)) (w.only j h) | R ↦ λ h. inl h ];
-      more = λ z. let e = w.more z in omega arith;
-      fits = record { r = f.r; n = w.within 64 f.n l };
-    }
 
 pub size_bound : {s : Arrivals} → Fits s → size s ≤ 128
 size_bound {s} f = omega (arith, ones-le 64 s.r f.r, ones-le 64 s.n f.n)
@@ -78,17 +56,6 @@ union_law w v =
     }
 
 -- ---- The words of a class.
-
-pub first_small : (first : ℕ) → first ≡ first_index (first_at first) → first ≤ 2
-first_small zero e = omega arith
-first_small (suc n) e = omega arith
-
-module _ (rows : List ℕ) (x first : ℕ) (e : first ≡ first_index (first_at first)) where
-  pub row_r : get_or rows (4 * x + first) 0 ≡ row_at rows x (kind_by (first_at first) R)
-  row_r = ap (λ (i : ℕ). get_or rows i 0) (omega arith)
-
-  pub row_n : get_or rows (4 * x + first + 1) 0 ≡ row_at rows x (kind_by (first_at first) N)
-  row_n = ap (λ (i : ℕ). get_or rows i 0) (omega arith)
 
 pub onward_law : {rows : List ℕ} {x : ℕ} {f : First} {s t u : Arrivals} → Successors rows x f t → Joined s t u → Onward rows x f s u
 onward_law e h = record { kept = λ j b. (h b).left j; all = λ j b m. (h b).right j (rw e m); only = λ j b m. ⊎_elim (λ y. inl y) (λ y. inr (rw e at y)) ((h b).only j m) }

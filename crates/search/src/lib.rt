@@ -120,9 +120,10 @@ pub fn successors(rows: &[u64; 256], class: u32, first: FirstLetter) -> Arrivals
     ensures { Successors rows.now class (first_letter first) result }
 {
     let i = 4 * class as usize + first as usize;
-    let to_r = rows[i];
-    let to_n = rows[i + 1];
-    Arrivals { r: to_r, n: to_n }
+    Arrivals {
+        r: rows[i],
+        n: rows[i + 1],
+    }
 }
 
 // The arrivals that follow class, arrived at by the letter: after R only a dependency whose first letter is E goes on, after N every one.

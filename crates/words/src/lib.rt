@@ -16,7 +16,7 @@ pub fn lowest(word: u64) -> u32
     requires { 0 < word }
     ensures { Lowest word result }
 {
-    u64::trailing_zeros(word)
+    word.trailing_zeros()
 }
 
 pub fn without(word: u64, other: u64) -> u64
@@ -28,7 +28,7 @@ pub fn without(word: u64, other: u64) -> u64
 pub fn count(word: u64) -> u32
     ensures { (result ≡ ones word) × (result ≤ 64) }
 {
-    u64::count_ones(word)
+    word.count_ones()
 }
 
 pub fn both(word: u64, other: u64) -> u64
