@@ -22,7 +22,10 @@ fn soft_fits(depth: u8, state: CoreState) -> bool
     ensures { result ≡ (eqb depth 0 || may_hold_soft (state_number state)) }
 {
     depth == 0
-        || matches!(state, CoreState::SoftHardOn | CoreState::SoftHardOff | CoreState::HardOverSoft)
+        || matches!(
+            state,
+            CoreState::SoftHardOn | CoreState::SoftHardOff | CoreState::HardOverSoft
+        )
 }
 
 // The same of the hard frame.
@@ -38,8 +41,13 @@ fn core_fits(desk: &[u8], i: usize) -> bool
 {
     match CoreState::try_from(desk[STATES_AT + i]) {
         Ok(state) => {
-            soft_fits(desk[DEPTHS_AT + (FRAMES_PER_CORE * i + Frame::Soft as usize)], state)
-                && hard_fits(desk[DEPTHS_AT + (FRAMES_PER_CORE * i + Frame::Hard as usize)], state)
+            soft_fits(
+                desk[DEPTHS_AT + (FRAMES_PER_CORE * i + Frame::Soft as usize)],
+                state,
+            ) && hard_fits(
+                desk[DEPTHS_AT + (FRAMES_PER_CORE * i + Frame::Hard as usize)],
+                state,
+            )
         }
         Err(_) => false,
     }
@@ -88,9 +96,10 @@ fn frame_fits(classes: u8, desk: &[u8], n: usize) -> bool
     ensures { result ≡ frame_fits classes desk.now n }
 {
     if desk[DEPTHS_AT + n] == 0 {
-        return empty_frame_fits(desk, n);
+        empty_frame_fits(desk, n)
+    } else {
+        used_frame_fits(classes, desk, n)
     }
-    used_frame_fits(classes, desk, n)
 }
 
 pub fn frames_fit(classes: u8, desk: &[u8]) -> bool
