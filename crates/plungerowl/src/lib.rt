@@ -42,7 +42,7 @@ pub extern "C" fn plungerowl_open(
 ) -> u8
     ensures { Opened classes declared desk.old sheet.old seen.old history.old result desk.new sheet.new seen.new history.new }
 {
-    open(classes, declared, desk, sheet, seen, history)
+    refused_number(open(classes, declared, desk, sheet, seen, history))
 }
 
 // Validates one record. With a fault the cycle stands in the slip.
@@ -57,7 +57,7 @@ pub extern "C" fn plungerowl_step(
 ) -> u8
     ensures { Stepped desk.old sheet.old seen.old history.old slip.old bytes.now result desk.new sheet.new seen.new history.new slip.new }
 {
-    step(desk, sheet, seen, history, slip, bytes)
+    answer_number(step(desk, sheet, seen, history, slip, bytes))
 }
 
 // Which classes end a strong path from a class: one bit for each in `word`, and how many in `count`.
