@@ -95,14 +95,13 @@ fn release(desk: &mut [u8], bytes: &[u8]) -> u8
         return WRONG_SORT;
     }
     let frame = frame_of(desk, bytes[CORE_AT] as usize);
-    let place = fitting(desk, frame, class, bytes[MODE_AT]);
-    if place == 0 {
+    let Some(place) = fitting(desk, frame, class, bytes[MODE_AT]) else {
         return NOT_HELD;
-    }
+    };
     if is_full(desk) {
         return COUNT_FULL;
     }
-    remove(desk, frame, place - 1);
+    remove(desk, frame, place);
     OK
 }
 

@@ -92,7 +92,7 @@ module _ (r : Bytes) where
           | no q ↦ get_or-set_other before (class_of r) c z (pos 0) q ∙ untouched c l (other_part c q)
         ])
 
-pub part_small : (k : ℕ) {p : ℤ} → p ≡ part_of k → mag p ≤ 1
+part_small : (k : ℕ) {p : ℤ} → p ≡ part_of k → mag p ≤ 1
 part_small zero e = rw e (omega arith)
 part_small (suc zero) e = rw e (omega arith)
 part_small (suc (suc k)) e = rw e (omega arith)
@@ -104,9 +104,6 @@ bits z = to_z w32 (of_z w32 z)
 
 pub reads_back : (z : ℤ) → mag z ≤ most_records + 2 → bits z ≡ z
 reads_back z h = to_z-of_z w32 z (record { sfits = omega arith })
-
-pub still_small : (z : ℤ) {n : ℕ} → mag z ≤ n → n ≤ most_records → mag (bits z) ≤ n
-still_small z h k = rw (reads_back z (omega arith)) h
 
 pub added : (z p a : ℤ) (k : ℕ) {q : ℤ} → mag z ≤ most_records → p ≡ part_of k → a ≡ bits z +ℤ bits p → q ≡ part_of k → bits a ≡ z +ℤ q
 added z p a k h e f g =

@@ -1,11 +1,12 @@
 -- The balances of the first records of a piece. Assumes nothing.
-use mathlib.Core.Path.{◌≡◌, sym, ap, ◌∙◌}
-use mathlib.Core.List.{List, [], ◌∷◌, ◌++◌, append-nil}
-use Prim.Native.Nat.{ℕ, ◌+◌, ◌%◌, ◌<◌, ◌≤◌}
+use mathlib.Core.Path.{◌≡◌, refl, sym, ap, ◌∙◌}
+use mathlib.Core.List.{List, [], ◌∷◌, ◌++◌, append-nil, append_assoc}
+use Prim.Native.Nat.{ℕ, ◌%◌, ◌<◌, ◌≤◌}
 use native.Mathlib.Omega.{arith}
 use lib.IntN.{ℤ, pos, ◌+ℤ◌}
-use lib.ListN.{length, take, drop, length-drop}
-use lib.Seq.{ext_get_or, take-add, length-take-le, take_all}
+use lib.ListN.{length, length-append}
+use lib.Seq.{ext_get_or}
+use Rattle.std.proofs.lemmas.List.{nil_from_length}
 use Rattle.rules.specs.Limits.{max_classes}
 use Rattle.rules.specs.Record.{Bytes, record_size}
 use Rattle.rules.specs.Log.{records_of}
@@ -29,33 +30,44 @@ room_of bytes h =
       room = λ c l. rw (get_or_each (λ c. balance c (records_of bytes)) c l) (omega (arith, balance_small c (records_of bytes), cut_length bytes));
     }
 
+-- A piece is walked up to the bytes that are left: those before them are whole records, and counted.
+pub record Walked (piece rest : List ℕ) (balances : List ℤ) : Type 0 where
+  pub passed : List ℕ
+  pub joined : piece ≡ passed ++ rest
+  pub whole : length passed % record_size ≡ 0
+  pub counts : balances ≡ balances_of (records_of passed)
+
 module _ (piece : List ℕ) where
-  -- The records before a place.
-  abbrev pub before : ℕ → List Bytes
-  before at = records_of (take at piece)
-
-  pub none_before : zeros ≡ balances_of (before 0)
+  pub none_walked : Walked piece piece zeros
   unfolding balance
-  none_before = ap balances_of (sym (no_records [] (omega arith)))
+  none_walked = record { passed = []; joined = refl; whole = refl; counts = ap balances_of (sym (no_records [] (omega arith))) }
 
-  pub all_before : (at : ℕ) → length piece ≤ at → before at ≡ records_of piece
-  all_before at h = ap records_of (take_all at piece h)
+  -- The next record is counted.
+  pub one_more : (r : List ℕ) {rest left : List ℕ} {balances : List ℤ} → Walked piece left balances → left ≡ r ++ rest → length r ≡ record_size
+      → Walked piece rest (counted balances r)
+  one_more r {rest = rest} w e l =
+      let p = w.passed in
+      let more : records_of (p ++ r) ≡ records_of p ++ (r ∷ []) =
+      joined_records p r w.whole ∙ ap (λ (rs : List Bytes). records_of p ++ rs) (one_record r l)
+      in
+      record {
+        passed = p ++ r;
+        joined = w.joined ∙ ap (λ (bs : List ℕ). p ++ bs) e ∙ sym (append_assoc p r rest);
+        whole = omega (arith, length-append p r, l, w.whole);
+        counts =
+            rw w.counts
+            (each_same _ _
+            (λ c k.
+            ap (λ (x : ℤ). x +ℤ balance c (r ∷ [])) (get_or_each (λ c. balance c (records_of p)) c k)
+            ∙ sym (ap (balance c) more ∙ balance_append c (records_of p) (r ∷ []))));
+      }
 
-  module _ (at : ℕ) where
-    pub record_more : at + record_size ≤ length piece → at % record_size ≡ 0 → before (at + record_size) ≡ before at ++ (take record_size (drop at piece) ∷ [])
-    record_more h k =
-        let r = take record_size (drop at piece) in
-        let l : length (take at piece) ≡ at = length-take-le at piece (omega arith) in
-        let m : length r ≡ record_size = length-take-le record_size (drop at piece) (rw length-drop (omega arith)) in
-        ap records_of (take-add at record_size piece)
-        ∙ joined_records (take at piece) r (rw l k)
-        ∙ ap (λ (rs : List Bytes). before at ++ rs) (one_record r m)
+  module _ {rest : List ℕ} {balances : List ℤ} (w : Walked piece rest balances) where
+    pub walked_room : length piece ≤ most_bytes → Room balances
+    walked_room h = rw w.counts (room_of w.passed (omega (arith, h, ap length w.joined, length-append w.passed rest)))
 
-    pub counted_more : at + record_size ≤ length piece → at % record_size ≡ 0
-        → counted (balances_of (before at)) (take record_size (drop at piece)) ≡ balances_of (before (at + record_size))
-    counted_more h k =
-        let r = take record_size (drop at piece) in
-        each_same _ _
-        (λ c l.
-        ap (λ (x : ℤ). x +ℤ balance c (r ∷ [])) (get_or_each (λ c. balance c (before at)) c l)
-        ∙ sym (ap (balance c) (record_more h k) ∙ balance_append c (before at) (r ∷ [])))
+    -- A whole number of records leaves no loose bytes.
+    pub all_walked : length piece % record_size ≡ 0 → length rest < record_size → balances ≡ balances_of (records_of piece)
+    all_walked h l =
+        let none : rest ≡ [] = nil_from_length rest (omega (arith, h, l, w.whole, ap length w.joined, length-append w.passed rest)) in
+        w.counts ∙ ap (λ (bs : List ℕ). balances_of (records_of bs)) (sym (append-nil w.passed) ∙ ap (λ (bs : List ℕ). w.passed ++ bs) (sym none) ∙ sym w.joined)

@@ -3,12 +3,14 @@
 
 ghost use Rattle.std.specs.Prelude.{◌≡◌, ◌≤◌, ◌+ℤ◌};
 ghost use Rattle.std.specs.Int.Signed.{mag};
+ghost use Rattle.answers.specs.Numbers.{refused_number};
+ghost use Rattle.record.specs.Kinds.{kind_number};
 ghost use Rattle.balance.specs.Code.{Room, part_of, counted};
 ghost use Rattle.balance.specs.Piece.{most_records, is_refused, zeros, PieceBalanced};
 
-use answers::{BAD_PIECE, OK};
+use answers::Refusal;
 use layout::MAX_CLASSES;
-use record::{ACQUIRE, CLASS_AT, KIND_AT, RELEASE, SIZE};
+use record::{CLASS_AT, Kind, SIZE};
 
 // The most records that a piece may have, and their bytes.
 pub const MOST_RECORDS: usize = 10000;
@@ -19,30 +21,18 @@ pub const MOST_BYTES: usize = SIZE * MOST_RECORDS;
 fn is_refused(piece: &[u8]) -> bool
     ensures { result ≡ is_refused piece.now }
 {
-    if MOST_BYTES < piece.len() {
-        return true;
-    }
-    piece.len() % SIZE != 0
+    MOST_BYTES < piece.len() || piece.len() % SIZE != 0
 }
 
 // What a record of a kind is in the balance of its class.
-fn part_of(kind: u8) -> i32
-    ensures { result ≡ part_of kind }
+fn part_of(kind: Kind) -> i32
+    ensures { result ≡ part_of (kind_number kind) }
 {
-    if kind == ACQUIRE {
-        return 1;
+    match kind {
+        Kind::Acquire => 1,
+        Kind::Release => -1,
+        _ => 0,
     }
-    if kind == RELEASE {
-        return -1;
-    }
-    0
-}
-
-fn sum(balance: i32, part: i32) -> i32
-    requires { (mag balance ≤ most_records) × (mag part ≤ 1) }
-    ensures { result ≡ balance +ℤ part }
-{
-    balance + part
 }
 
 // Counts a record in the balance of its class.
@@ -57,25 +47,20 @@ fn count_record(balances: &mut [i32; MAX_CLASSES], bytes: &[u8])
     if MAX_CLASSES <= class {
         return;
     }
-    let part = part_of(bytes[KIND_AT]);
-    let balance = balances[class];
-    let after = sum(balance, part);
-    balances[class] = after;
+    let part = part_of(record::kind_of(bytes));
+    balances[class] += part;
 }
 
 // The balances of a piece, or 14 and zeros.
-pub fn balance_of(piece: &[u8], balances: &mut [i32; MAX_CLASSES]) -> u8
-    ensures { PieceBalanced piece.now result balances.new }
+pub fn balance_of(piece: &[u8], balances: &mut [i32; MAX_CLASSES]) -> Result<(), Refusal>
+    ensures { PieceBalanced piece.now (refused_number result) balances.new }
 {
     *balances = [0; MAX_CLASSES];
     if is_refused(piece) {
-        return BAD_PIECE;
+        return Err(Refusal::BadPiece);
     }
-    let mut at = 0;
-    while at < piece.len() {
-        let end = at + SIZE;
-        count_record(balances, &piece[at..end]);
-        at = end;
+    for bytes in piece.chunks_exact(SIZE) {
+        count_record(balances, bytes);
     }
-    OK
+    Ok(())
 }

@@ -1,13 +1,12 @@
--- A signed number in its bits, and without its sign. Assumes nothing.
+-- The sign of a number in its bits, and its text. Assumes nothing.
 use mathlib.Core.Path.{◌≡◌, refl, sym, ap, ap₂, ◌∙◌}
 use mathlib.Core.Bool.{Bool, true, false, true≢false}
 use mathlib.Core.List.{List, [], ◌∷◌, ◌++◌}
-use Prim.Native.Nat.{ℕ, suc, ◌-◌, ◌<◌, ◌^◌}
+use Prim.Native.Nat.{ℕ}
 use native.Mathlib.Omega.{arith}
-use lib.Dec.{T}
-use lib.IntN.{ℤ, pos, negsuc, nat_abs, ◌-ℤ◌}
-use lib.Signed.{lt_z, non_neg}
-use borrow.Author.Tests.{le-ltb, ltb-true}
+use lib.IntN.{ℤ, pos, negsuc, nat_abs}
+use lib.Signed.{lt_z}
+use borrow.Author.Tests.{ltb-true}
 use mir.Syntax.{w32}
 use mir.Val.{SFits}
 use mir.ValLaws.{to_z-of_z}
@@ -19,33 +18,9 @@ use Rattle.balance_text.specs.Text.{sign, signed_text}
 plain : (z : ℤ) (t : Bool) → SFits w32 z → lt_z (bits z) (pos 0) ≡ t → lt_z z (pos 0) ≡ t
 plain z t f h = ap (λ (x : ℤ). lt_z x (pos 0)) (sym (to_z-of_z w32 z f)) ∙ h
 
-flipped : (n : ℕ) → negsuc 0 -ℤ negsuc n ≡ pos n
-flipped n = let e : suc n - 1 ≡ n = omega arith in rw (le-ltb (suc n) 1 (omega arith), e) refl
-
--- A number below zero.
-pub record Below (z : ℤ) : Type 0 where
-  pub less : ℕ
-  pub is : z ≡ negsuc less
-  pub small : less < 2 ^ 31
-  pub opposite : negsuc 0 -ℤ bits z ≡ pos less
-  pub opposite_bits : bits (negsuc 0 -ℤ bits z) ≡ pos less
-
-pub below : (z : ℤ) → SFits w32 z → lt_z (bits z) (pos 0) ≡ true → Below z
+below : (z : ℤ) → SFits w32 z → lt_z (bits z) (pos 0) ≡ true → sign z ≡ 45 ∷ []
 below (pos n) f h = absurd (omega (arith, ltb-true n 0 (plain (pos n) true f h)))
-below (negsuc n) f h =
-    let e : negsuc 0 -ℤ bits (negsuc n) ≡ pos n = ap (λ (z : ℤ). negsuc 0 -ℤ z) (to_z-of_z w32 (negsuc n) f) ∙ flipped n in
-    record {
-      less = n;
-      is = refl;
-      small = f.sfits;
-      opposite = e;
-      opposite_bits = ap bits e ∙ to_z-of_z w32 (pos n) (record { sfits = f.sfits });
-    }
-
--- A number that is not.
-pub not_below : (z : ℤ) → SFits w32 z → lt_z (bits z) (pos 0) ≡ false → T (non_neg (bits z)) × (nat_abs (bits z) < 2 ^ 31)
-not_below (pos n) f h = rw (to_z-of_z w32 (pos n) f) (tt, f.sfits)
-not_below (negsuc n) f h = absurd (true≢false (plain (negsuc n) false f h))
+below (negsuc n) f h = refl
 
 no_sign : (z : ℤ) → SFits w32 z → lt_z (bits z) (pos 0) ≡ false → sign z ≡ []
 no_sign (pos n) f h = refl
@@ -56,7 +31,7 @@ pub put_below : {b b₁ b₂ : List ℕ} {at e₁ e₂ n : ℕ} (z : ℤ) → SF
     → Appended b at (45 ∷ []) b₁ e₁ → Appended b₁ e₁ (digits n) b₂ e₂ → Appended b at (signed_text z) b₂ e₂
 put_below {b} {b₂ = b₂} {at = at} {e₂ = e₂} {n = n} z f q h p r =
     let whole : Appended b at ((45 ∷ []) ++ digits n) b₂ e₂ = appended_both p r in
-    as_text (ap₂ (λ (x y : List ℕ). x ++ y) (ap sign (below z f h).is) (ap digits (sym (q ∙ ap nat_abs (to_z-of_z w32 z f))))) whole
+    as_text (ap₂ (λ (x y : List ℕ). x ++ y) (below z f h) (ap digits (sym (q ∙ ap nat_abs (to_z-of_z w32 z f))))) whole
 
 pub put_not_below : {b b₂ : List ℕ} {at e₂ n : ℕ} (z : ℤ) → SFits w32 z → n ≡ nat_abs (bits z) → lt_z (bits z) (pos 0) ≡ false
     → Appended b at (digits n) b₂ e₂ → Appended b at (signed_text z) b₂ e₂

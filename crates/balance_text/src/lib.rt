@@ -1,36 +1,24 @@
 // The text of the balances of a piece.
 #![tactic(auto)]
 
-ghost use Rattle.std.specs.Prelude.{◌≡◌, ◌+◌, ◌<◌, ◌≤◌, pos, nat_abs, length, get_or};
+ghost use Rattle.std.specs.Prelude.{◌≡◌, ◌+◌, ◌<◌, ◌≤◌, pos, length, get_or};
 ghost use Rattle.rules.specs.Limits.{max_classes};
 ghost use Rattle.log_text.specs.Text.{Appended};
 ghost use Rattle.balance.specs.Code.{Room};
 ghost use Rattle.balance_text.specs.Text.{signed_text, lines_below, piece_text, signed_room, line_room, text_room, LinePut};
 
-use answers::OK;
 use layout::MAX_CLASSES;
-use log_text::{put_number, put_refusal, put_word, wide};
+use log_text::{put_number, put_refusal, put_word};
 
 // Room for the longest text: a line for each class.
 pub const TEXT_SIZE: usize = 32 * MAX_CLASSES;
-
-// A number without its sign.
-fn magnitude(z: i32) -> u64
-    ensures { result ≡ nat_abs z }
-{
-    if z < 0 {
-        let below = -1 - z;
-        return (below as u64) + 1;
-    }
-    z as u64
-}
 
 // A number's digits, behind a minus where it is below zero.
 fn put_signed(out: &mut [u8], at: usize, z: i32) -> usize
     requires { at + signed_room ≤ length out.old }
     ensures { Appended out.old at (signed_text z) out.new result }
 {
-    let size = magnitude(z);
+    let size = u64::from(z.unsigned_abs());
     if z < 0 {
         let end = put_word(out, at, b"-");
         return put_number(out, end, size);
@@ -58,11 +46,8 @@ fn put_balances(out: &mut [u8], balances: &[i32; MAX_CLASSES]) -> usize
     ensures { Appended out.old 0 (lines_below max_classes (λ c. get_or balances.now c (pos 0))) out.new result }
 {
     let mut end = 0;
-    let mut class: usize = 0;
-    while class < MAX_CLASSES {
-        let balance = balances[class];
-        end = put_line(out, end, class as u64, balance);
-        class += 1;
+    for (class, balance) in balances.iter().enumerate() {
+        end = put_line(out, end, class as u64, *balance);
     }
     end
 }
@@ -73,9 +58,8 @@ pub fn put_text(out: &mut [u8], piece: &[u8]) -> usize
     ensures { Appended out.old 0 (piece_text piece.now) out.new result }
 {
     let mut balances = [0i32; MAX_CLASSES];
-    let answer = balance::balance_of(piece, &mut balances);
-    if answer != OK {
-        return put_refusal(out, answer);
+    if let Err(refusal) = balance::balance_of(piece, &mut balances) {
+        return put_refusal(out, refusal.number());
     }
     put_balances(out, &balances)
 }

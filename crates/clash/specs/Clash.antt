@@ -1,5 +1,5 @@
 -- Request d: "whether one class's marks already make a one-arrow strong circle", by the rules and by a table.
-use Rattle.std.specs.Prelude.{◌≡◌, Bool, true, false, ◌&&◌, ◌||◌, List, [], ◌∷◌, ℕ, ◌/◌, ◌%◌, ◌<◌, ◌≤◌, eqb, length, get_or}
+use Rattle.std.specs.Prelude.{◌≡◌, Bool, true, false, ◌&&◌, ◌||◌, List, [], ◌∷◌, ℕ, ◌/◌, ◌%◌, ◌<◌, ◌≤◌, eqb, length, get_or, Option, None, Some}
 use Rattle.rules.specs.HeldLocks.{Core}
 use Rattle.rules.specs.Marks.{Level, hard_irq, soft_irq, Usage, mark_bit}
 use Rattle.rules.specs.Graph.{Kind, Graph, irq, dependency_by}
@@ -70,3 +70,8 @@ pub record Bounded (desk rows : List ℕ) (K n : ℕ) : Type 0 where
   pub none : n ≡ 0 → (g : Graph) → Rows K g rows → cyclic K g ≡ false
   pub some : 0 < n → (is_closed : Bool) (cores : ℕ → Core) (g : Graph) → DeskBytes K is_closed cores g.marks desk → Rows K g rows
       → (es : List Entry) × Cycle K g es × (length es ≤ n)
+
+-- No bound as 0.
+abbrev pub bound_number : Option ℕ → ℕ
+bound_number None = 0
+bound_number (Some n) = n

@@ -2,10 +2,11 @@
 // read from a table, and the walk is for the rest.
 #![tactic(auto)]
 
-ghost use Rattle.std.specs.Prelude.{◌≤◌, length};
+ghost use Rattle.std.specs.Prelude.{◌≡◌, ◌<◌, ◌≤◌, length, IfSome};
+ghost use Rattle.std.specs.List.{list_any};
 ghost use Rattle.rules.specs.Limits.{max_classes};
 ghost use Rattle.layout.specs.Layout.{desk_size};
-ghost use Rattle.clash.specs.Clash.{Answers, Clashing, Bounded};
+ghost use Rattle.clash.specs.Clash.{Answers, Clashing, Bounded, answer_of, bound_number};
 
 use layout::MARKS_AT;
 use search::is_cyclic;
@@ -13,6 +14,7 @@ use successors::ROWS;
 
 const MARK_BYTES: usize = 256;
 
+// Kept: the rules ask for a table with an answer for each mark byte, which Answers says; no const is made by a call.
 // For each mark byte, whether the marks in it are a cycle of one dependency: an interrupt dependency of the class to itself, strong where it closes.
 const CLASHES: [bool; MARK_BYTES] = [
     false, // 0
@@ -273,40 +275,30 @@ const CLASHES: [bool; MARK_BYTES] = [
     true, // 255: hard N R E S, soft N R E S
 ];
 
-// Whether the answer is yes for a class below k.
-fn some_clash(table: &[bool; MARK_BYTES], desk: &[u8], k: usize) -> bool
-    requires { Answers table.now × (desk_size ≤ length desk.now) × (k ≤ max_classes) }
-    ensures { Clashing desk.now k result }
+// Whether the table's answer is yes for one of the mark bytes.
+fn some_clash(table: &[bool; MARK_BYTES], marks: &[u8]) -> bool
+    requires { Answers table.now }
+    ensures { result ≡ list_any answer_of marks.now }
 {
-    let mut class = 0;
-    while class < k {
-        if table[desk[MARKS_AT + class] as usize] {
-            return true;
-        }
-        class += 1;
-    }
-    false
+    marks.iter().any(|&byte| table[usize::from(byte)])
 }
 
-// The same, with the table taken once for all classes.
+// The same for the classes below k, with the table taken once for all.
 fn clashes(desk: &[u8], k: usize) -> bool
     requires { (desk_size ≤ length desk.now) × (k ≤ max_classes) }
     ensures { Clashing desk.now k result }
 {
-    let table = CLASHES;
-    some_clash(&table, desk, k)
+    some_clash(&CLASHES, &desk[MARKS_AT..MARKS_AT + k])
 }
 
-// How many dependencies the shortest cycle has at most: 1 where a class's marks clash. 0: there is no cycle.
-pub fn cycle_bound(desk: &[u8], rows: &[u64; ROWS], k: usize) -> usize
+// How many dependencies the shortest cycle has at most, 1 where a class's marks clash; or that there is no cycle.
+pub fn cycle_bound(desk: &[u8], rows: &[u64; ROWS], k: usize) -> Option<usize>
     requires { (desk_size ≤ length desk.now) × (k ≤ max_classes) }
-    ensures { Bounded desk.now rows.now k result }
+    ensures bounded { Bounded desk.now rows.now k (bound_number result) }
+    ensures some { IfSome result (λ n. 0 < n) }
 {
     if clashes(desk, k) {
-        return 1;
+        return Some(1);
     }
-    if is_cyclic(rows, k as u32) {
-        return k;
-    }
-    0
+    is_cyclic(rows, k as u32).then_some(k)
 }

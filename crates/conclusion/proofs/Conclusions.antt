@@ -36,7 +36,6 @@ use Rattle.clash.specs.Clash.{Bounded}
 use Rattle.successors.specs.Successors.{Successors}
 use Rattle.shortest.specs.Shortest.{found_entry, found_entries, Shortest}
 use Rattle.shortest.specs.declared.Found.{Found}
-use Rattle.shortest.proofs.Chains.{positive}
 use Rattle.report.specs.Shown.{Ranged, Shown}
 use Rattle.conclusion.specs.Conclude.{with_marks, Sheeted, is_clean, is_fault, Concluded}
 
@@ -97,13 +96,21 @@ module _ (desk sheet seen slip : List ℕ) (core : ℕ) (few : classes_of desk �
     graph_rows = Su.graph K closed cores after locks refl marked_bytes MB
 
     -- The cycle that was found is the least.
-    found_least : {n : ℕ} {found : Found} → Bounded marked rows K n → (n ≡ 0 → ⊥) → Shortest marked sheet rows K n found → LeastCycle K graph (found_entries found)
+    found_least : {n : ℕ} {found : Found} → Bounded marked rows K n → 0 < n → Shortest marked sheet rows K n found → LeastCycle K graph (found_entries found)
     found_least d z f =
-        let c = d.some (positive z) closed cores graph marked_bytes graph_rows in
+        let c = d.some z closed cores graph marked_bytes graph_rows in
         f.least (f.some graph graph_rows c.0 c.1 c.2) graph (record { is_closed = closed; cores = cores; in_desk = marked_bytes; in_sheet = MB }) graph_rows
 
+  -- There is one.
+  pub found_some : Cored desk → Sheeted K sheet → {n : ℕ} {found : Found} → Bounded marked rows K n → 0 < n → Shortest marked sheet rows K n found → 0 < found.n
+  found_some s h d z f =
+      let rows_of = graph_rows s.is_closed s.cores s.marks h.locks s.encodes s.valid h.bytes in
+      let c = d.some z s.is_closed s.cores (graph s.is_closed s.cores s.marks h.locks s.encodes s.valid h.bytes)
+      (marked_bytes s.is_closed s.cores s.marks h.locks s.encodes s.valid h.bytes) rows_of in
+      f.some (graph s.is_closed s.cores s.marks h.locks s.encodes s.valid h.bytes) rows_of c.0 c.1 c.2
+
   -- Its classes are below K.
-  pub found_ranged : Cored desk → Sheeted K sheet → {n : ℕ} {found : Found} → Bounded marked rows K n → (n ≡ 0 → ⊥) → Shortest marked sheet rows K n found
+  pub found_ranged : Cored desk → Sheeted K sheet → {n : ℕ} {found : Found} → Bounded marked rows K n → 0 < n → Shortest marked sheet rows K n found
       → Ranged K found
   found_ranged c h {found = found} d z f =
       let least = found_least c.is_closed c.cores c.marks h.locks c.encodes c.valid h.bytes d z f in
@@ -113,15 +120,15 @@ module _ (desk sheet seen slip : List ℕ) (core : ℕ) (few : classes_of desk �
             (least.cycle.in_range i (rw (length_tabulate found.n (found_entry found)) l));
       }
 
-  pub conclude_clean : {n : ℕ} → Bounded marked rows K n → n ≡ 0 → Concluded desk sheet seen slip core 0 marked slip
-  conclude_clean d z =
+  pub conclude_clean : Bounded marked rows K 0 → Concluded desk sheet seen slip core 0 marked slip
+  conclude_clean d =
       record {
         concluded = λ cores marks locks numbers SB valid MB most NB.
-            is_clean (d.none z (graph false cores marks locks SB valid MB) (graph_rows false cores marks locks SB valid MB))
+            is_clean (d.none refl (graph false cores marks locks SB valid MB) (graph_rows false cores marks locks SB valid MB))
             (marked_bytes false cores marks locks SB valid MB) keeps_marked;
       }
 
-  pub conclude_fault : (slip' : List ℕ) {n : ℕ} {found : Found} → Bounded marked rows K n → (n ≡ 0 → ⊥) → Shortest marked sheet rows K n found
+  pub conclude_fault : (slip' : List ℕ) {n : ℕ} {found : Found} → Bounded marked rows K n → 0 < n → Shortest marked sheet rows K n found
       → Shown found K seen slip slip' → Concluded desk sheet seen slip core 1 (set marked closed_at 1) slip'
   conclude_fault slip' {found = found} d z f S =
       record {

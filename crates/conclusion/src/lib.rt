@@ -27,11 +27,13 @@ pub fn conclude(desk: &mut [u8], sheet: &[u8], seen: &[u8], slip: &mut [u8], cor
     mark(desk, frame, k, context);
     let mut rows = [0; ROWS];
     put_successors(desk, sheet, k, &mut rows);
-    let bound = cycle_bound(desk, &rows, k);
-    if bound == 0 {
+    let Some(bound) = cycle_bound(desk, &rows, k) else {
         return OK;
-    }
-    show(slip, seen, k, shortest_cycle(desk, sheet, &rows, k, bound));
+    };
+    let Some(found) = shortest_cycle(desk, sheet, &rows, k, bound) else {
+        unreachable!()
+    };
+    show(slip, seen, k, &found);
     desk[CLOSED_AT] = 1;
     FAULT
 }

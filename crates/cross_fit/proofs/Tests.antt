@@ -16,8 +16,8 @@ use Rattle.words.proofs.Words.{bit_cases, bit_zero, some_bit}
 use Rattle.rules.specs.Limits.{max_classes, max_in_progress, max_kept, held_modes}
 use Rattle.rules.specs.Crosslocks.{size_of}
 use Rattle.rules.proofs.Booleans.{or_right}
-use Rattle.layout.specs.Layout.{frame_count, member_of, classes_of, declared_of, progress_of, kept_of, place_of, lock_of}
-use Rattle.layout.specs.Fit.{all_below, word_fits, cross_fits, entry_fits, entries_fit}
+use Rattle.layout.specs.Layout.{frame_count, member_of, classes_of, declared_of, progress_of, kept_of}
+use Rattle.layout.specs.Fit.{all_below, word_fits, cross_fits, entry_fits}
 use Rattle.layout.proofs.AllBelow.{all_at, all_of}
 use Rattle.layout.proofs.Cross.{size_ones}
 
@@ -113,9 +113,3 @@ class_fits K place held n l h = rw (lt-ltb (held % 64) K h) at (frame_fits_lem K
 
 pub class_over : (K place held : ℕ) → (place ≡ 0 → ⊥) → place ≤ frame_count → K ≤ held % 64 → false ≡ entry_fits K place held
 class_over K place held n l h = rw (le-ltb (held % 64) K h) at (frame_fits_lem K place held n l)
-
--- The loop over the entries has come to the last that is kept.
-pub all_kept_fit : (desk history : List ℕ) (i kept : ℕ) (ok : Bool) → i ≡ kept → kept ≡ kept_of desk
-    → ok ≡ all_below i (λ n. entry_fits (classes_of desk) (place_of history n) (lock_of history n)) → ok ≡ entries_fit desk history
-unfolding entries_fit
-all_kept_fit desk history i kept ok e k h = rw (e ∙ k) at h

@@ -6,6 +6,7 @@ ghost use Rattle.rules.specs.Limits.{max_classes, max_kept};
 ghost use Rattle.layout.specs.Layout.{desk_size, history_size, classes_of, kept_of};
 ghost use Rattle.layout.specs.Fit.{word_fits, cross_fits, entry_fits, entries_fit};
 
+use every::all_below;
 use layout::{
     CLASSES_AT, DECLARED_AT, FRAMES, HELD_MODES, KEPT_AT, KEPT_SIZE, MAX_CLASSES, MAX_IN_PROGRESS,
     MAX_KEPT, PROGRESS_AT,
@@ -18,10 +19,7 @@ pub fn declares_below(k: usize, declared: u64) -> bool
     requires { k ≤ max_classes }
     ensures { result ≡ word_fits k declared }
 {
-    if MAX_CLASSES <= k {
-        return true;
-    }
-    declared >> (k as u32) == 0
+    MAX_CLASSES <= k || declared >> (k as u32) == 0
 }
 
 // The crosslocks of the desk: which are declared, which of those are in progress, and how many acquires are kept.
@@ -30,17 +28,11 @@ pub fn cross_fits(desk: &[u8]) -> bool
     ensures { result ≡ cross_fits desk.now }
 {
     let declared = word_at(desk, DECLARED_AT);
-    if !declares_below(desk[CLASSES_AT] as usize, declared) {
-        return false;
-    }
     let progress = word_at(desk, PROGRESS_AT);
-    if without(progress, declared) != 0 {
-        return false;
-    }
-    if MAX_IN_PROGRESS < count(progress) {
-        return false;
-    }
-    number_at(desk, KEPT_AT) as usize <= MAX_KEPT
+    declares_below(usize::from(desk[CLASSES_AT]), declared)
+        && without(progress, declared) == 0
+        && count(progress) <= MAX_IN_PROGRESS
+        && number_at(desk, KEPT_AT) as usize <= MAX_KEPT
 }
 
 // An entry of the history: struck out, or the number of a frame and one, and a held byte.
@@ -48,15 +40,9 @@ fn entry_fits(classes: u8, place: u8, held: u8) -> bool
     ensures { result ≡ entry_fits classes place held }
 {
     if place == 0 {
-        return held == 0;
-    }
-    if FRAMES < place as usize {
-        return false;
-    }
-    if held % 64 < classes {
-        held / 64 < HELD_MODES
+        held == 0
     } else {
-        false
+        usize::from(place) <= FRAMES && held % 64 < classes && held / 64 < HELD_MODES
     }
 }
 
@@ -67,13 +53,8 @@ pub fn entries_fit(desk: &[u8], history: &[u8]) -> bool
 {
     let classes = desk[CLASSES_AT];
     let kept = number_at(desk, KEPT_AT) as usize;
-    let mut ok = true;
-    let mut i: usize = 0;
-    while i < kept {
-        if !entry_fits(classes, history[KEPT_SIZE * i], history[KEPT_SIZE * i + 1]) {
-            ok = false;
-        }
-        i += 1;
-    }
-    ok
+    all_below(
+        kept,
+        |i| entry_fits(classes, history[KEPT_SIZE * i], history[KEPT_SIZE * i + 1]),
+    )
 }

@@ -1,39 +1,40 @@
 -- What each kind of a crosslock comes to. Assumes nothing.
 use mathlib.Core.Path.{◌≡◌, refl, sym, ap, ◌∙◌, subst, fun_ext}
-use mathlib.Core.Bool.{Bool, true, false, cond, not, ◌||◌, true≢false, false≢true}
+use mathlib.Core.Bool.{Bool, true, false, cond, not}
 use mathlib.Core.List.{List}
 use mathlib.Core.Logic.{inl}
 use mathlib.Core.Option.{none, some}
 use Prim.Native.Nat.{ℕ, ◌*◌, ◌<◌, ◌≤◌}
 use native.Mathlib.Decide.{ℕ_discrete}
 use native.Mathlib.Omega.{arith}
-use lib.Dec.{leb, eqb}
+use lib.Dec.{leb}
 use lib.ListN.{length}
-use borrow.Author.Tests.{leb-true, leb-false, le-leb, lt-leb, eq-eqb, ne_eqb}
+use borrow.Author.Tests.{leb-true, leb-false, eq-eqb, ne_eqb}
 use Rattle.rules.specs.Limits.{core_count, max_accepted, max_classes, max_in_progress, max_kept}
 use Rattle.rules.specs.Record.{Event, cross_acquire, commit, cross_release, event_by, event_of, core_of, kind_of, class_of, mode_of}
 use Rattle.rules.specs.WellFormed.{WellFormed}
 use Rattle.rules.specs.Context.{frame_of}
 use Rattle.rules.specs.HeldLocks.{Core, current}
 use Rattle.rules.specs.Marks.{Marks}
-use Rattle.rules.specs.Crosslocks.{Crosslocks, size_of, entered, ended}
+use Rattle.rules.specs.Crosslocks.{Crosslocks, size_of, ended}
 use Rattle.rules.specs.Verdict.{no_class, wrong_sort, in_progress, not_in_progress, list_full}
 use Rattle.rules.specs.Run.{State}
 use Rattle.validity.specs.Valid.{Valid}
-use Rattle.layout.specs.Layout.{desk_size, sheet_size, seen_size, kept_size, frame_count, frame_number, classes_of, state_of, declared_of, progress_of, kept_of, accepted_of, member_of, KeepsPast}
+use Rattle.layout.specs.Layout.{desk_size, sheet_size, seen_size, kept_size, frame_count, frame_number, classes_of, state_of, declared_of, progress_of, kept_of, accepted_of, member_of}
 use Rattle.layout.specs.Encoding.{DeskBytes, Encodes}
 use Rattle.layout.proofs.Buffers.{keeps_self}
 use Rattle.layout.proofs.Cross.{declared_at_lem, progress_at_lem, progress_size, kept_is}
 use Rattle.update.specs.Update.{Drawn}
 use Rattle.numbering.specs.Numbering.{Numbered}
 use Rattle.update.proofs.Cores.{changed, behind_changed}
-use Rattle.crosslocks.specs.Progress.{KeepsUncrossed, Entered, Ended}
+use Rattle.crosslocks.specs.Progress.{Entered, Ended}
 use Rattle.history.specs.Histories.{EntriesIn, CommitDrawn, CommitNumbered}
 use Rattle.history.proofs.Entries.{entries_in}
 use Rattle.cores.specs.Cores.{Cored}
 use Rattle.cores.proofs.Bytes.{number_less}
-use Rattle.acting.specs.Action.{Crossed, not_crosslock, KeepsCount, ActedOn, Acted}
+use Rattle.acting.specs.Action.{Crossed, not_crosslock, Acted}
 use Rattle.acting.proofs.Refusals.{refusal_by}
+use Rattle.crossing.specs.Going.{not_going}
 use Rattle.acting.proofs.Common.{uncrossed_count, uncrossed_past, frame, now_less, frame_is, current_frame, small, refuses_by, accepted_is, full_by, accepts_by, undrawn, unnumbered}
 
 -- A crosslock is no held lock: the cores are as they were.
@@ -62,15 +63,20 @@ ready desk history cored x least i li =
     let l = x.valid.kept in
     (omega arith, rw k (entries_in (classes_of desk) least cored.few x.cross desk history x.long x.valid x.encodes), number_less desk cored i li)
 
--- The tests for that, in their order.
-pub no_class_is : (desk : List ℕ) (c : ℕ) → classes_of desk ≤ c → 4 ≡ not_crosslock desk c
-no_class_is desk c h = rw (le-leb (classes_of desk) c h)
-
-pub wrong_sort_is : (desk : List ℕ) (c : ℕ) → c < classes_of desk → member_of (declared_of desk) c ≡ false → 15 ≡ not_crosslock desk c
-wrong_sort_is desk c l h = rw (lt-leb (classes_of desk) c l, h)
-
-pub crosslock_is : (desk : List ℕ) (c : ℕ) → c < classes_of desk → member_of (declared_of desk) c ≡ true → 0 ≡ not_crosslock desk c
-crosslock_is desk c l h = rw (lt-leb (classes_of desk) c l, h)
+-- What no refusal of a commit or a release says.
+module _ (desk : List ℕ) (c : ℕ) where
+  pub going : not_going desk c ≡ 0 → (not_crosslock desk c ≡ 0) × (member_of (progress_of desk) c ≡ true) × (leb max_accepted (accepted_of desk) ≡ false)
+  going h = by (leb (classes_of desk) c) refl (member_of (declared_of desk) c) refl (member_of (progress_of desk) c) refl (leb max_accepted (accepted_of desk)) refl h
+    where
+      by : (a : Bool) → leb (classes_of desk) c ≡ a → (d : Bool) → member_of (declared_of desk) c ≡ d → (p : Bool) → member_of (progress_of desk) c ≡ p
+          → (f : Bool) → leb max_accepted (accepted_of desk) ≡ f
+          → ◌≡◌ {A = ℕ} (cond a 4 (cond (not d) 15 (cond (not p) 17 (cond f 9 0)))) 0
+          → (not_crosslock desk c ≡ 0) × (member_of (progress_of desk) c ≡ true) × (leb max_accepted (accepted_of desk) ≡ false)
+      by true e d q p u f v z = absurd (omega arith)
+      by false e false q p u f v z = absurd (omega arith)
+      by false e true q false u f v z = absurd (omega arith)
+      by false e true q true u true v z = absurd (omega arith)
+      by false e true q true u false v z = (rw (e, q) refl, u, v)
 
 module _ (desk sheet seen history bytes : List ℕ) (w : WellFormed bytes) (few : classes_of desk ≤ max_classes) where
   abbrev K : ℕ
@@ -115,6 +121,14 @@ module _ (desk sheet seen history bytes : List ℕ) (w : WellFormed bytes) (few 
                 (S.wrong (s.cores i) s.cross q (sym (declared_at_lem enc.in_cross c (omega arith)) ∙ z));
           })
       by false q true z h = absurd (ne h)
+
+  pub asks_commit : (core : Core) (x : Crosslocks) (b : Bool) → leb K c ≡ false → x.declared c ≡ true → x.progress c ≡ b → refusal_by K core x (commit c) ≡ cond b none (some not_in_progress)
+  asks_commit core x true l d p = rw (l, d, p) refl
+  asks_commit core x false l d p = rw (l, d, p) refl
+
+  pub asks_release : (core : Core) (x : Crosslocks) (b : Bool) → leb K c ≡ false → x.declared c ≡ true → x.progress c ≡ b → refusal_by K core x (cross_release c) ≡ cond b none (some not_in_progress)
+  asks_release core x true l d p = rw (l, d, p) refl
+  asks_release core x false l d p = rw (l, d, p) refl
 
   module _ (sort : not_crosslock desk c ≡ 0) where
     class_less : c < K
@@ -202,14 +216,6 @@ module _ (desk sheet seen history bytes : List ℕ) (w : WellFormed bytes) (few 
       pub count_full : member_of (progress_of desk) c ≡ true → leb max_accepted (accepted_of desk) ≡ true → Acted desk sheet seen history bytes 9 desk sheet seen history
       count_full p h = record { acted = λ s o v enc. full_by desk sheet seen history bytes w few s o v enc ev S.is (passes_on p s o v enc) h }
 
-    pub asks_commit : (core : Core) (x : Crosslocks) (b : Bool) → leb K c ≡ false → x.declared c ≡ true → x.progress c ≡ b → refusal_by K core x (commit c) ≡ cond b none (some not_in_progress)
-    asks_commit core x true l d p = rw (l, d, p) refl
-    asks_commit core x false l d p = rw (l, d, p) refl
-
-    pub asks_release : (core : Core) (x : Crosslocks) (b : Bool) → leb K c ≡ false → x.declared c ≡ true → x.progress c ≡ b → refusal_by K core x (cross_release c) ≡ cond b none (some not_in_progress)
-    asks_release core x true l d p = rw (l, d, p) refl
-    asks_release core x false l d p = rw (l, d, p) refl
-
     pub commit_accepts : kind_of bytes ≡ 11 → member_of (progress_of desk) c ≡ true → leb max_accepted (accepted_of desk) ≡ false → {sheet' seen' : List ℕ}
         → CommitDrawn desk history K (frame desk sheet seen history bytes w few) c sheet sheet'
         → CommitNumbered desk history K (frame desk sheet seen history bytes w few) c seen seen' → Acted desk sheet seen history bytes 0 desk sheet' seen' history
@@ -236,3 +242,18 @@ module _ (desk sheet seen history bytes : List ℕ) (w : WellFormed bytes) (few 
               (E.ended s.cross history enc.in_cross) (uncrossed_count E.keeps) (uncrossed_past E.keeps) (keeps_self (sheet_size K) sheet)
               (keeps_self (seen_size K) seen) (keeps_self (kept_size * length (ended c s.cross).history) history);
         }
+
+  -- The refusals of both.
+  pub not_going_lem : {ev : Event} → Sorted ev
+      → (asks : (core : Core) (x : Crosslocks) (b : Bool) → leb K c ≡ false → x.declared c ≡ true → x.progress c ≡ b → refusal_by K core x ev ≡ cond b none (some not_in_progress))
+      → (r : ℕ) → r ≡ not_going desk c → (r ≡ 0 → ⊥) → Acted desk sheet seen history bytes r desk sheet seen history
+  not_going_lem {ev} S asks r e ne = by (leb K c) refl (member_of (declared_of desk) c) refl (member_of (progress_of desk) c) refl (leb max_accepted (accepted_of desk)) refl e
+    where
+      by : (a : Bool) → leb K c ≡ a → (d : Bool) → member_of (declared_of desk) c ≡ d → (p : Bool) → member_of (progress_of desk) c ≡ p
+          → (f : Bool) → leb max_accepted (accepted_of desk) ≡ f → ◌≡◌ {A = ℕ} r (cond a 4 (cond (not d) 15 (cond (not p) 17 (cond f 9 0))))
+          → Acted desk sheet seen history bytes r desk sheet seen history
+      by true q d u p v f y z = not_crosslock_lem S r (rw q z) ne
+      by false q false u p v f y z = not_crosslock_lem S r (rw (q, u) z) ne
+      by false q true u false v f y z = rw z (not_in_progress_lem (rw (q, u) refl) S asks v)
+      by false q true u true v true y z = rw z (count_full (rw (q, u) refl) S asks v y)
+      by false q true u true v false y z = absurd (ne z)

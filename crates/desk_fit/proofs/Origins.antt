@@ -4,24 +4,18 @@ use mathlib.Core.Bool.{Bool, true, false}
 use mathlib.Core.List.{List}
 use Prim.Native.Nat.{ℕ, ◌+◌, ◌*◌, ◌/◌, ◌%◌}
 use native.Mathlib.Omega.{arith}
-use lib.Dec.{ltb}
 use lib.ListN.{get_or}
-use borrow.Author.Tests.{eqb-true, eq-eqb, ne_eqb}
-use Rattle.rules.specs.Limits.{max_depth}
-use Rattle.layout.specs.Layout.{origins_at, place_count, origin_bytes, depth_of, origin_bit}
+use borrow.Author.Tests.{eqb-true, eq-eqb}
+use Rattle.layout.specs.Layout.{origins_at, place_count, origin_bytes, origin_bit}
 use Rattle.layout.specs.Fit.{all_below, origin_fits}
 use Rattle.layout.proofs.Held.{zero_bit}
 use Rattle.desk_fit.specs.Empty.{no_try_in, byte_fits}
 use Rattle.layout.proofs.AllBelow.{all_at, all_of}
 
 module _ (desk : List ℕ) where
-  pub origin_none : (i : ℕ) → origin_bit desk i ≡ 0 → true ≡ origin_fits desk i
+  origin_none : (i : ℕ) → origin_bit desk i ≡ 0 → true ≡ origin_fits desk i
   unfolding origin_fits
   origin_none i e = sym (rw (eq-eqb (origin_bit desk i) 0 e) refl)
-
-  pub origin_some : (i : ℕ) → (origin_bit desk i ≡ 0 → ⊥) → ltb (i % max_depth) (depth_of desk (i / max_depth)) ≡ origin_fits desk i
-  unfolding origin_fits
-  origin_some i n = sym (rw (ne_eqb (origin_bit desk i) 0 n) refl)
 
   -- The bits of a byte that is 0.
   zero_fits : (i : ℕ) → get_or desk (origins_at + i / 8) 0 ≡ 0 → origin_fits desk i ≡ true

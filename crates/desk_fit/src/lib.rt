@@ -10,6 +10,7 @@ ghost use Rattle.context.specs.States.{state_number};
 ghost use Rattle.desk_fit.specs.Empty.{empty_at, no_try_in, byte_fits};
 
 use context::{CoreState, Frame};
+use every::all_below;
 use layout::{
     CORES, DEPTHS_AT, FRAMES, FRAMES_PER_CORE, HELD_AT, HELD_MODES, MARKS_AT, MAX_CLASSES,
     MAX_DEPTH, ORIGIN_BYTES, ORIGINS_AT, STATES_AT,
@@ -44,66 +45,42 @@ fn core_fits(desk: &[u8], i: usize) -> bool
     }
 }
 
-// The loops have no early exit, so that the compiler can make vector instructions of them.
 pub fn cores_fit(desk: &[u8]) -> bool
     requires { desk_size ≤ length desk.now }
     ensures { result ≡ all_below core_count (core_fits desk.now) }
 {
-    let mut ok = true;
-    let mut i: usize = 0;
-    while i < CORES {
-        if !core_fits(desk, i) {
-            ok = false;
-        }
-        i += 1;
-    }
-    ok
+    all_below(CORES, |i| core_fits(desk, i))
 }
 
 fn held_fits(classes: u8, standing: bool, byte: u8) -> bool
     ensures { result ≡ held_fits classes standing byte }
 {
     if standing {
-        if byte % 64 < classes {
-            byte / 64 < HELD_MODES
-        } else {
-            false
-        }
+        byte % 64 < classes && byte / 64 < HELD_MODES
     } else {
         byte == 0
     }
 }
 
-// A frame with no lock held: its bytes are zero. Most frames are such, and this loop is the quicker one.
+// A frame with no lock held: its bytes are zero. Most frames are such, and this test is the quicker one.
 fn empty_frame_fits(desk: &[u8], n: usize) -> bool
     requires { (n < frame_count) × (desk_size ≤ length desk.now) }
     ensures { result ≡ all_below max_depth (empty_at desk.now n) }
 {
-    let mut ok = true;
-    let mut p: usize = 0;
-    while p < MAX_DEPTH {
-        if desk[HELD_AT + MAX_DEPTH * n + p] != 0 {
-            ok = false;
-        }
-        p += 1;
-    }
-    ok
+    all_below(MAX_DEPTH, |p| desk[HELD_AT + MAX_DEPTH * n + p] == 0)
 }
 
+#[tactic(auto, unfolding(layout::specs::Fit::frame_fits))]
 fn used_frame_fits(classes: u8, desk: &[u8], n: usize) -> bool
     requires { (n < frame_count) × (desk_size ≤ length desk.now) }
     ensures { result ≡ frame_fits classes desk.now n }
 {
-    let depth = desk[DEPTHS_AT + n] as usize;
-    let mut ok = depth <= MAX_DEPTH;
-    let mut p: usize = 0;
-    while p < MAX_DEPTH {
-        if !held_fits(classes, p < depth, desk[HELD_AT + MAX_DEPTH * n + p]) {
-            ok = false;
-        }
-        p += 1;
-    }
-    ok
+    let depth = usize::from(desk[DEPTHS_AT + n]);
+    depth <= MAX_DEPTH
+        && all_below(
+            MAX_DEPTH,
+            |p| held_fits(classes, p < depth, desk[HELD_AT + MAX_DEPTH * n + p]),
+        )
 }
 
 fn frame_fits(classes: u8, desk: &[u8], n: usize) -> bool
@@ -120,41 +97,23 @@ pub fn frames_fit(classes: u8, desk: &[u8]) -> bool
     requires { desk_size ≤ length desk.now }
     ensures { result ≡ all_below frame_count (frame_fits classes desk.now) }
 {
-    let mut ok = true;
-    let mut n: usize = 0;
-    while n < FRAMES {
-        if !frame_fits(classes, desk, n) {
-            ok = false;
-        }
-        n += 1;
-    }
-    ok
+    all_below(FRAMES, |n| frame_fits(classes, desk, n))
 }
 
-// Most desks hold no try: their origin bytes are all 0, and this loop is the quicker one.
+// Most desks hold no try: their origin bytes are all 0, and this test is the quicker one.
 fn no_tries(desk: &[u8]) -> bool
     requires { desk_size ≤ length desk.now }
     ensures { result ≡ all_below origin_bytes (no_try_in desk.now) }
 {
-    let mut ok = true;
-    let mut b: usize = 0;
-    while b < ORIGIN_BYTES {
-        if desk[ORIGINS_AT + b] != 0 {
-            ok = false;
-        }
-        b += 1;
-    }
-    ok
+    all_below(ORIGIN_BYTES, |b| desk[ORIGINS_AT + b] == 0)
 }
 
+#[tactic(auto, unfolding(layout::specs::Fit::origin_fits))]
 fn origin_fits(desk: &[u8], i: usize) -> bool
     requires { (i < place_count) × (desk_size ≤ length desk.now) }
     ensures { result ≡ origin_fits desk.now i }
 {
-    if origin(desk, i) == 0 {
-        return true;
-    }
-    i % MAX_DEPTH < desk[DEPTHS_AT + i / MAX_DEPTH] as usize
+    origin(desk, i) == 0 || i % MAX_DEPTH < usize::from(desk[DEPTHS_AT + i / MAX_DEPTH])
 }
 
 // The eight bits of one byte.
@@ -162,69 +121,36 @@ fn byte_fits(desk: &[u8], b: usize) -> bool
     requires { (b < origin_bytes) × (desk_size ≤ length desk.now) }
     ensures { result ≡ byte_fits desk.now b }
 {
-    if desk[ORIGINS_AT + b] == 0 {
-        return true;
-    }
-    let mut ok = true;
-    let mut j: usize = 0;
-    while j < 8 {
-        if !origin_fits(desk, 8 * b + j) {
-            ok = false;
-        }
-        j += 1;
-    }
-    ok
+    desk[ORIGINS_AT + b] == 0 || all_below(8, |j| origin_fits(desk, 8 * b + j))
 }
 
 fn bytes_fit(desk: &[u8]) -> bool
     requires { desk_size ≤ length desk.now }
     ensures { result ≡ all_below origin_bytes (byte_fits desk.now) }
 {
-    let mut ok = true;
-    let mut b: usize = 0;
-    while b < ORIGIN_BYTES {
-        if !byte_fits(desk, b) {
-            ok = false;
-        }
-        b += 1;
-    }
-    ok
+    all_below(ORIGIN_BYTES, |b| byte_fits(desk, b))
 }
 
 pub fn origins_fit(desk: &[u8]) -> bool
     requires { desk_size ≤ length desk.now }
     ensures { result ≡ all_below place_count (origin_fits desk.now) }
 {
-    if no_tries(desk) {
-        return true;
-    }
-    bytes_fit(desk)
+    no_tries(desk) || bytes_fit(desk)
 }
 
 // Bit 64 of a mark byte needs bit 4, and 128 needs 8.
 fn unsafe_fits(mark: u8) -> bool
     ensures { result ≡ (leb (mark / 64 % 2) (mark / 4 % 2) && leb (mark / 128 % 2) (mark / 8 % 2)) }
 {
-    if mark / 64 % 2 <= mark / 4 % 2 {
-        mark / 128 % 2 <= mark / 8 % 2
-    } else {
-        false
-    }
+    mark / 64 % 2 <= mark / 4 % 2 && mark / 128 % 2 <= mark / 8 % 2
 }
 
+#[tactic(auto, unfolding(layout::specs::Fit::mark_fits))]
 fn used_marks_fit(classes: usize, desk: &[u8]) -> bool
     requires { (classes ≤ max_classes) × (desk_size ≤ length desk.now) }
     ensures { result ≡ all_below classes (mark_fits classes desk.now) }
 {
-    let mut ok = true;
-    let mut c: usize = 0;
-    while c < classes {
-        if !unsafe_fits(desk[MARKS_AT + c]) {
-            ok = false;
-        }
-        c += 1;
-    }
-    ok
+    all_below(classes, |c| unsafe_fits(desk[MARKS_AT + c]))
 }
 
 // The classes from K on have no mark.
@@ -232,13 +158,9 @@ pub fn marks_fit(classes: usize, desk: &[u8]) -> bool
     requires { (classes ≤ max_classes) × (desk_size ≤ length desk.now) }
     ensures { result ≡ all_below max_classes (mark_fits classes desk.now) }
 {
-    let mut ok = used_marks_fit(classes, desk);
-    let mut c = classes;
-    while c < MAX_CLASSES {
-        if desk[MARKS_AT + c] != 0 {
-            ok = false;
-        }
-        c += 1;
-    }
-    ok
+    used_marks_fit(classes, desk)
+        && all_below(
+            MAX_CLASSES - classes,
+            |c| desk[MARKS_AT + (classes + c)] == 0,
+        )
 }

@@ -9,7 +9,7 @@ ghost use Rattle.files.specs.Replayed.{Taken, Replayed};
 use answers::OK;
 use layout::{ENTRIES_AT, ENTRY_SIZE, MAX_CLASSES, NUMBER_SIZE};
 use outcome::Outcome;
-use std::io::{Read, Write};
+use std::io::{self, ErrorKind, Read, Write};
 
 // The buffers of the largest number of classes.
 pub const SHEET_SIZE: usize = MAX_CLASSES * MAX_CLASSES;
@@ -21,8 +21,8 @@ pub const SLIP_SIZE: usize = ENTRIES_AT + ENTRY_SIZE * MAX_CLASSES;
 // The bytes of a log that are held at a time.
 pub const BUF_SIZE: usize = 4096;
 
-// Feeds what the reads give, up to the end of the file or to the first answer but 0, and says whether no read failed. A proved loop has to end, and
-// nothing says that a log does: the reads are counted down from a number that no run uses up.
+// Feeds what the reads give, up to the end of the file or to the first answer but 0; an error is a read that failed. A proved loop has to end, and
+// nothing says that a log does: the reads are counted up to a number that no run uses up.
 fn feed_input<R: Read>(
     file: &mut R,
     feed: &mut [u8],
@@ -32,24 +32,20 @@ fn feed_input<R: Read>(
     history: &mut [u8],
     slip: &mut [u8],
     buf: &mut [u8],
-) -> bool
+) -> io::Result<()>
     ensures { Taken feed.old (buffers desk.old sheet.old seen.old history.old slip.old) feed.new (buffers desk.new sheet.new seen.new history.new slip.new) }
 {
-    let mut reads = u64::MAX;
-    while reads > 0 {
-        reads -= 1;
-        let Ok(n) = file.read(buf) else {
-            return false;
-        };
+    for _ in 0..u64::MAX {
+        let n = file.read(buf)?;
         if n == 0 {
-            return true;
+            return Ok(());
         }
         let said = feed::feed_piece(feed, desk, sheet, seen, history, slip, &buf[..n]);
         if said.answer != OK {
-            return true;
+            return Ok(());
         }
     }
-    false
+    Err(ErrorKind::Other.into())
 }
 
 // Validates the whole log of a file.
@@ -67,7 +63,7 @@ pub fn replay<R: Read>(
     ensures { Replayed (buffers desk.old sheet.old seen.old history.old slip.old) result (buffers desk.new sheet.new seen.new history.new slip.new) }
 {
     feed::start(feed);
-    if !feed_input(file, feed, desk, sheet, seen, history, slip, buf) {
+    if feed_input(file, feed, desk, sheet, seen, history, slip, buf).is_err() {
         return Outcome::Unread;
     }
     let said = feed::feed_end(feed, desk, sheet, seen, history, slip);
@@ -75,6 +71,7 @@ pub fn replay<R: Read>(
 }
 
 // Writes a text, all at once: an answer to the first writer, a complaint to the second.
+// Kept: the flag is no kind of value; a function for each would put the test of it at two callers.
 pub fn print<O: Write, E: Write>(out: &mut O, err: &mut E, answer: bool, text: &[u8]) {
     if !answer {
         let _ = err.write_all(text);

@@ -8,6 +8,7 @@ ghost use Rattle.layout.specs.Fit.{all_below, kinds_fit, graph_fits, number_fits
 
 use cross_fit::cross_fits;
 use desk_fit::{cores_fit, frames_fit, marks_fit, origins_fit};
+use every::all_below;
 use layout::{CLASSES_AT, CLOSED_AT, DESK_SIZE, MAX_CLASSES, NUMBER_SIZE};
 use numbers::number_at;
 
@@ -17,18 +18,11 @@ fn kinds_fit(sheet: &[u8], size: usize) -> bool
     requires { size ≤ length sheet.now }
     ensures { result ≡ all_below size (kinds_fit sheet.now) }
 {
-    let mut ok = true;
-    let mut j: usize = 0;
-    while j < size {
-        if ALL_KINDS < sheet[j] {
-            ok = false;
-        }
-        j += 1;
-    }
-    ok
+    all_below(size, |j| sheet[j] <= ALL_KINDS)
 }
 
 // All but the numbers of the second sheet.
+#[tactic(auto, unfolding(layout::specs::Fit::graph_fits))]
 fn graph_fits(desk: &[u8], sheet: &[u8]) -> bool
     ensures { result ≡ graph_fits desk.now sheet.now }
 {
@@ -36,63 +30,38 @@ fn graph_fits(desk: &[u8], sheet: &[u8]) -> bool
         return false;
     }
     let classes = desk[CLASSES_AT];
-    let k = classes as usize;
-    if k < 1 {
-        return false;
-    }
-    if MAX_CLASSES < k {
-        return false;
-    }
-    let size = k * k;
-    if sheet.len() < size {
-        return false;
-    }
-    if 1 < desk[CLOSED_AT] {
-        return false;
-    }
-    if !cores_fit(desk) {
-        return false;
-    }
-    if !frames_fit(classes, desk) {
-        return false;
-    }
-    if !origins_fit(desk) {
-        return false;
-    }
-    if !marks_fit(k, desk) {
-        return false;
-    }
-    kinds_fit(sheet, size)
+    let k = usize::from(classes);
+    1 <= k
+        && k <= MAX_CLASSES
+        && k * k <= sheet.len()
+        && desk[CLOSED_AT] <= 1
+        && cores_fit(desk)
+        && frames_fit(classes, desk)
+        && origins_fit(desk)
+        && marks_fit(k, desk)
+        && kinds_fit(sheet, k * k)
 }
 
-// Each pair of the second sheet has a number exactly where the sheet has kinds. The loop has no branch, so that the compiler makes vector instructions of it.
+// Each pair of the second sheet has a number exactly where the sheet has kinds. The test has no branch, so that the compiler makes vector instructions of it.
+#[tactic(auto, unfolding(layout::specs::Fit::number_fits))]
 fn numbers_fit(sheet: &[u8], seen: &[u8], size: usize) -> bool
     requires { (size ≤ length sheet.now) × (number_size * size ≤ length seen.now) × (size ≤ sheet_size max_classes) }
     ensures { result ≡ all_below size (number_fits sheet.now seen.now) }
 {
-    let mut bad = false;
-    let mut j: usize = 0;
-    while j < size {
-        let number = number_at(seen, NUMBER_SIZE * j);
-        bad = bad | ((number == 0) ^ (sheet[j] == 0));
-        j += 1;
-    }
-    !bad
+    all_below(
+        size,
+        |j| (number_at(seen, NUMBER_SIZE * j) == 0) == (sheet[j] == 0),
+    )
 }
 
+#[tactic(auto, unfolding(layout::specs::Fit::fits, layout::specs::Fit::numbers_fit))]
 pub fn fits(desk: &[u8], sheet: &[u8], seen: &[u8]) -> bool
     ensures { result ≡ Rattle.layout.specs.Fit.fits desk.now sheet.now seen.now }
 {
-    if !graph_fits(desk, sheet) {
+    if !graph_fits(desk, sheet) || !cross_fits(desk) {
         return false;
     }
-    if !cross_fits(desk) {
-        return false;
-    }
-    let k = desk[CLASSES_AT] as usize;
+    let k = usize::from(desk[CLASSES_AT]);
     let size = k * k;
-    if seen.len() < NUMBER_SIZE * size {
-        return false;
-    }
-    numbers_fit(sheet, seen, size)
+    NUMBER_SIZE * size <= seen.len() && numbers_fit(sheet, seen, size)
 }

@@ -2,19 +2,21 @@
 use mathlib.Core.Path.{◌≡◌, refl, sym, ap, ◌∙◌}
 use mathlib.Core.List.{List, [], ◌∷◌, ◌++◌, map}
 use mathlib.Core.Logic.{◌⊎◌, inl, inr, ⊎_elim}
-use Prim.Native.Nat.{ℕ, zero, suc, ◌+◌, ◌*◌, ◌/◌, ◌%◌, ◌<◌, ◌≤◌}
+use Prim.Native.Nat.{ℕ, zero, suc, ◌+◌, ◌-◌, ◌*◌, ◌/◌, ◌%◌, ◌<◌, ◌≤◌}
 use native.Mathlib.Nat.{le_of_suc-le-suc, not-suc-le-zero}
 use native.Mathlib.Decide.{ℕ_discrete, dec_lt}
 use native.Mathlib.Omega.{arith}
-use lib.ListN.{length, get_or, set, length-set, length-append}
+use lib.ListN.{length, get_or, set, take, drop, length-set, length-append, length-take, length-drop}
+use Rattle.std.proofs.Common.{get_or-take, get_or-drop}
 use lib.Seq.{get_or-set_same, get_or-set_other}
+use Rattle.std.specs.List.{CopiedTo, SameBelow, SameFrom}
 use Rattle.rules.specs.Limits.{max_depth, held_modes, mode_count}
 use Rattle.rules.specs.HeldLocks.{HeldLock}
 use Rattle.layout.specs.Layout.{frame_count, origins_at, accepted_at, desk_size, depths_at, held_at, depth_of, held_of, origin_bit, origin_of}
 use Rattle.layout.specs.Encoding.{held_byte, held_origin, EightBits}
 use Rattle.layout.proofs.Held.{mode_origin, same_bits}
 use Rattle.origins.specs.Origins.{OriginPut}
-use Rattle.held.specs.Frames.{Pushed, remove_at, OriginsMoved, Removed}
+use Rattle.held.specs.Frames.{HeldBytes, Pushed, remove_at, OriginsMoved, Removed}
 
 -- ---- What the places of a frame say, f being what a byte or a bit says of its lock: with one lock more, and with the lock at place q gone.
 
@@ -71,6 +73,17 @@ module _ (f : HeldLock → ℕ) where
         behind lo (yes h) z = moved p lo h ∙ is (suc p) (omega arith)
         behind lo (no h) (yes z) = rw z (freed ∙ sym (at_past hs (suc last) (omega arith)))
         behind lo (no h) (no z) = kept p l (inr (omega arith)) ∙ is p l ∙ at_past hs p (omega arith) ∙ sym (at_past hs (suc p) (omega arith))
+
+-- ---- The held bytes of a frame as a slice.
+
+pub bytes_sliced : {desk : List ℕ} (n : ℕ) → desk_size ≤ length desk → n < frame_count → depth_of desk n ≤ max_depth → (xs : List ℕ)
+    → xs ≡ take (held_at + max_depth * n + depth_of desk n - (held_at + max_depth * n)) (drop (held_at + max_depth * n) desk) → HeldBytes desk n xs
+bytes_sliced {desk} n long inside few xs e =
+    let a : ℕ = held_at + max_depth * n in
+    record {
+      long = rw e (simp (length-take, length-drop) (omega arith));
+      byte = λ p l. rw e (get_or-take (a + depth_of desk n - a) (drop a desk) p 0 (omega arith) ∙ get_or-drop a desk p 0);
+    }
 
 -- ---- A lock is held.
 
@@ -203,25 +216,17 @@ pub record Moving (before : List ℕ) (n q p : ℕ) (now : List ℕ) : Type 0 wh
   pub moved : (j : ℕ) → held_at + max_depth * n + q ≤ j → j < held_at + max_depth * n + p → get_or now j 0 ≡ get_or before (j + 1) 0
   pub else : (j : ℕ) → (j < held_at + max_depth * n + q) ⊎ (held_at + max_depth * n + p ≤ j) → get_or now j 0 ≡ get_or before j 0
 
-pub moving_start : (before : List ℕ) (n q : ℕ) → Moving before n q q before
-moving_start before n q = record { long = refl; from = omega arith; moved = λ j l m. absurd (omega arith); else = λ j o. refl }
-
-pub moving_step : (before now : List ℕ) (n q p : ℕ) → Moving before n q p now → held_at + max_depth * n + p + 1 < length now
-    → Moving before n q (p + 1) (set now (held_at + max_depth * n + p) (get_or now (held_at + max_depth * n + p + 1) 0))
-moving_step before now n q p m l =
-    let a = held_at + max_depth * n + p in
-    let f = m.from in
+pub moving_copied : {before now : List ℕ} (n q last : ℕ) → q ≤ last → length now ≡ length before
+    → CopiedTo before now (held_at + max_depth * n + q + 1) (held_at + max_depth * n + q) (held_at + max_depth * n + last + 1 - (held_at + max_depth * n + q + 1))
+    → SameBelow before now (held_at + max_depth * n + q)
+    → SameFrom before now (held_at + max_depth * n + q + (held_at + max_depth * n + last + 1 - (held_at + max_depth * n + q + 1)))
+    → Moving before n q last now
+moving_copied {before} n q last f long copied below from =
     record {
-      long = simp length-set m.long;
-      from = omega arith;
-      moved = λ j lo hi.
-          elim (ℕ_discrete j a) [
-            | yes e ↦ rw e (get_or-set_same now a (get_or now (a + 1) 0) 0 (omega arith) ∙ m.else (a + 1) (inr (omega arith)))
-            | no ne ↦ get_or-set_other now a j (get_or now (a + 1) 0) 0 ne ∙ m.moved j lo (omega arith)
-          ];
-      else = λ j o.
-          get_or-set_other now a j (get_or now (a + 1) 0) 0 (⊎_elim (λ l e. omega arith) (λ l e. omega arith) o)
-          ∙ m.else j (⊎_elim (λ l. inl l) (λ l. inr (omega arith)) o);
+      long = long;
+      from = f;
+      moved = λ j lo hi. copied j 0 lo (omega arith) ∙ ap (λ (k : ℕ). get_or before k 0) (omega arith);
+      else = λ j o. ⊎_elim (λ l. below j 0 l) (λ l. from j 0 (omega arith)) o;
     }
 
 module _ (before : List ℕ) (n q : ℕ) (long : desk_size ≤ length before) (inside : n < frame_count) (few : depth_of before n ≤ max_depth) (there : q < depth_of before n) where

@@ -15,29 +15,11 @@ use Rattle.rules.specs.HeldLocks.{HeldLock, is_held, newest_is, release_newest}
 use Rattle.rules.proofs.Balanced.{newest_held}
 use Rattle.layout.specs.Layout.{held_of, depth_of}
 use Rattle.layout.proofs.Held.{unheld}
-use Rattle.held.specs.Frames.{FrameBytes, SmallLocks, last_below, newest_of, taken_in, fitting_of, remove_at}
-use Rattle.held.proofs.Last.{none_fits}
+use Rattle.held.specs.Frames.{FrameBytes, SmallLocks, newest_of, taken_in, fitting_of, remove_at}
+use Rattle.held.proofs.Last.{LastBelow, nowhere, at, last_below_lem, none_fits}
 use Rattle.held.proofs.Prefixes.{lock_at_lem}
 
--- What `last_below` finds.
-data LastBelow (test : ℕ → Bool) (d : ℕ) : ℕ → Type 0 where
-  nowhere : ((p : ℕ) → p < d → test p ≡ false) → LastBelow test d 0
-  at : {q : ℕ} → q < d → test q ≡ true → ((p : ℕ) → q < p → p < d → test p ≡ false) → LastBelow test d (suc q)
-
-last_below_lem : (test : ℕ → Bool) (d : ℕ) → LastBelow test d (last_below test d)
-unfolding last_below
-last_below_lem test zero = nowhere (λ p l. absurd (not-suc-le-zero l))
-last_below_lem test (suc d) = by (test d) refl (last_below_lem test d)
-  where
-    more : test d ≡ false → {r : ℕ} → LastBelow test d r → LastBelow test (suc d) r
-    more e (nowhere f) = nowhere (λ p l. elim (ℕ_discrete p d) [ yes q ↦ rw q e | no n ↦ f p (omega arith) ])
-    more e (at {q} l h f) = at {q = q} (omega arith) h (λ p lo hi. elim (ℕ_discrete p d) [ yes q ↦ rw q e | no n ↦ f p lo (omega arith) ])
-
-    by : (b : Bool) → test d ≡ b → LastBelow test d (last_below test d) → LastBelow test (suc d) (cond b (suc d) (last_below test d))
-    by true e x = at {q = d} (omega arith) e (λ p lo hi. absurd (omega arith))
-    by false e x = more e x
-
--- The same over a list of held locks.
+-- What is found over a list of held locks.
 none_held : (c : ℕ) (hs : List HeldLock) → ((p : ℕ) → p < length hs → eqb c (get_or hs p unheld).class ≡ false) → is_held c hs ≡ false
 none_held c [] f = refl
 none_held c (h ∷ hs) f = rw (f 0 (omega arith)) (none_held c hs (λ p l. f (suc p) (omega arith)))

@@ -1,5 +1,5 @@
 -- The held locks of a frame in the bytes of the desk, and what the calls over them do.
-use Rattle.std.specs.Prelude.{◌≡◌, Bool, cond, List, [], ◌∷◌, ◌++◌, ◌⊎◌, ℕ, zero, suc, ◌+◌, ◌-◌, ◌*◌, ◌%◌, ◌/◌, ◌<◌, ◌≤◌, eqb, length, get_or}
+use Rattle.std.specs.Prelude.{◌≡◌, Bool, cond, List, [], ◌∷◌, ◌++◌, ◌⊎◌, ℕ, zero, suc, ◌+◌, ◌-◌, ◌*◌, ◌%◌, ◌/◌, ◌<◌, ◌≤◌, eqb, length, get_or, Option, None, Some}
 use Rattle.rules.specs.Limits.{max_depth, held_modes, mode_count}
 use Rattle.rules.specs.HeldLocks.{HeldLock}
 use Rattle.layout.specs.Layout.{frame_count, depths_at, held_at, origins_at, accepted_at, desk_size, depth_of, held_of, origin_bit, origin_of}
@@ -10,6 +10,11 @@ pub record FrameBytes (desk : List ℕ) (n : ℕ) (hs : List HeldLock) : Type 0 
   pub depth : depth_of desk n ≡ length hs
   pub held : (p : ℕ) → p < max_depth → held_of desk n p ≡ held_byte_at hs p
   pub origins : (p : ℕ) → p < max_depth → origin_of desk n p ≡ origin_at hs p
+
+-- The held bytes of frame n, one for each of its locks.
+pub record HeldBytes (desk : List ℕ) (n : ℕ) (bytes : List ℕ) : Type 0 where
+  pub long : length bytes ≡ depth_of desk n
+  pub byte : (p : ℕ) → p < depth_of desk n → get_or bytes p 0 ≡ held_of desk n p
 
 -- Each lock fits a held byte and an origin bit.
 pub record SmallLock (h : HeldLock) : Type 0 where
@@ -30,6 +35,11 @@ pub record KeepsElse (n : ℕ) (before after : List ℕ) : Type 0 where
 pub record Pushed (before : List ℕ) (n class mode : ℕ) (after : List ℕ) : Type 0 where
   pub keeps : KeepsElse n before after
   pub frame : (hs : List HeldLock) → FrameBytes before n hs → FrameBytes after n (hs ++ (record { class = class; mode = mode } ∷ []))
+
+-- The number of a place that may be missing, in the words of what follows: one more than the place, or 0.
+abbrev pub place_number : Option ℕ → ℕ
+place_number None = 0
+place_number (Some p) = suc p
 
 -- One more than the last place below d at which the test holds, or 0.
 unfoldable pub last_below : (ℕ → Bool) → ℕ → ℕ

@@ -4,7 +4,7 @@
 ghost use Rattle.std.specs.Prelude.{◌≡◌, ◌<◌, ◌≤◌, length};
 ghost use Rattle.rules.specs.Limits.{max_depth, mode_count};
 ghost use Rattle.layout.specs.Layout.{frame_count, desk_size, depth_of};
-ghost use Rattle.held.specs.Frames.{Pushed, newest_of, fitting_of, OriginsMoved, Removed};
+ghost use Rattle.held.specs.Frames.{Pushed, HeldBytes, place_number, newest_of, fitting_of, OriginsMoved, Removed};
 
 use layout::{DEPTHS_AT, HELD_AT, HELD_MODES, MAX_DEPTH};
 use origins::{origin, put_origin};
@@ -20,38 +20,38 @@ pub fn push(desk: &mut [u8], frame: usize, class: u8, mode: u8)
     desk[DEPTHS_AT + frame] = d + 1;
 }
 
-// One more than the place of the newest lock of the class in the frame, or 0.
-fn newest(desk: &[u8], frame: usize, class: u8) -> usize
+// The held bytes of a frame, its oldest lock first.
+pub fn held_bytes(desk: &[u8], frame: usize) -> &[u8]
     requires { (desk_size ≤ length desk.now) × (frame < frame_count) × (depth_of desk.now frame ≤ max_depth) }
-    ensures { result ≡ newest_of desk.now frame class }
+    ensures { HeldBytes desk.now frame result.now }
 {
-    let mut i = desk[DEPTHS_AT + frame] as usize;
-    while 0 < i {
-        let p = i - 1;
-        if desk[HELD_AT + MAX_DEPTH * frame + p] % 64 == class {
-            return i;
-        }
-        i = p;
-    }
-    0
+    let first = HELD_AT + MAX_DEPTH * frame;
+    let d = desk[DEPTHS_AT + frame] as usize;
+    &desk[first..first + d]
 }
 
-// One more than that place, if the lock there was acquired in this mode and origin, else 0: an older one that was does not count.
-pub fn fitting(desk: &[u8], frame: usize, class: u8, mode: u8) -> usize
+// The place of the newest lock of the class in the frame.
+fn newest(desk: &[u8], frame: usize, class: u8) -> Option<usize>
     requires { (desk_size ≤ length desk.now) × (frame < frame_count) × (depth_of desk.now frame ≤ max_depth) }
-    ensures { result ≡ fitting_of desk.now frame class mode }
+    ensures { place_number result ≡ newest_of desk.now frame class }
 {
-    let place = newest(desk, frame, class);
-    if place == 0 {
-        return 0;
-    }
-    let p = place - 1;
+    held_bytes(desk, frame)
+        .iter()
+        .rposition(|held| *held % 64 == class)
+}
+
+// That place, if the lock there was acquired in this mode and origin: an older one that was does not count.
+pub fn fitting(desk: &[u8], frame: usize, class: u8, mode: u8) -> Option<usize>
+    requires { (desk_size ≤ length desk.now) × (frame < frame_count) × (depth_of desk.now frame ≤ max_depth) }
+    ensures { place_number result ≡ fitting_of desk.now frame class mode }
+{
+    let p = newest(desk, frame, class)?;
     let held_as = desk[HELD_AT + MAX_DEPTH * frame + p] / 64;
     let tried = origin(desk, MAX_DEPTH * frame + p);
     if mode == held_as + HELD_MODES * tried {
-        return place;
+        return Some(p);
     }
-    0
+    None
 }
 
 // The origin bits of a frame behind a place move down one, and that of the last place is 0.
@@ -59,11 +59,9 @@ fn move_origins(desk: &mut [u8], frame: usize, at: usize, last: usize)
     requires { (desk_size ≤ length desk.old) × (frame < frame_count) × (at ≤ last) × (last < max_depth) }
     ensures { OriginsMoved desk.old frame at last desk.new }
 {
-    let mut p = at;
-    while p < last {
+    for p in at..last {
         let next = origin(desk, MAX_DEPTH * frame + p + 1);
         put_origin(desk, MAX_DEPTH * frame + p, next);
-        p += 1;
     }
     put_origin(desk, MAX_DEPTH * frame + last, 0);
 }
@@ -73,13 +71,10 @@ pub fn remove(desk: &mut [u8], frame: usize, at: usize)
     requires { (desk_size ≤ length desk.old) × (frame < frame_count) × (depth_of desk.old frame ≤ max_depth) × (at < depth_of desk.old frame) }
     ensures { Removed desk.old frame at desk.new }
 {
-    let last = desk[DEPTHS_AT + frame] - 1;
-    let mut p = at;
-    while p < last as usize {
-        desk[HELD_AT + MAX_DEPTH * frame + p] = desk[HELD_AT + MAX_DEPTH * frame + p + 1];
-        p += 1;
-    }
-    desk[HELD_AT + MAX_DEPTH * frame + p] = 0;
-    desk[DEPTHS_AT + frame] = last;
-    move_origins(desk, frame, at, last as usize);
+    let first = HELD_AT + MAX_DEPTH * frame;
+    let last = desk[DEPTHS_AT + frame] as usize - 1;
+    desk.copy_within(first + at + 1..first + last + 1, first + at);
+    desk[first + last] = 0;
+    desk[DEPTHS_AT + frame] = last as u8;
+    move_origins(desk, frame, at, last);
 }

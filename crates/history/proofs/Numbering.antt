@@ -25,6 +25,7 @@ use Rattle.layout.proofs.Buffers.{cell_inside, keeps_self}
 use Rattle.layout.proofs.Numbers.{number_is}
 use Rattle.layout.proofs.Cross.{kept_is, since_is}
 use Rattle.numbers.specs.Numbers.{NumberPut}
+use Rattle.numbering.specs.Numbering.{PairNumbered}
 use Rattle.numbering.proofs.Numbering.{put_as, same_seen, put_pair, by_journal}
 use Rattle.history.specs.Histories.{cell_of, EntryNumbered, CommitNumbered}
 use Rattle.history.proofs.Commits.{kept_test, since_more, since_none, since_all, of_frame, hit_at, miss_at}
@@ -118,9 +119,12 @@ some_drawn class core frame x f t =
 
 -- One entry, as the code does it.
 pub entry_numbers : (history : List ℕ) (i K n class number : ℕ) (before after : List ℕ) → place_of history i ≡ suc n
-    → low_first number_size before (number_size * cell_of history i K class) ≡ 0 → NumberPut before (number_size * cell_of history i K class) number after
-    → EntryNumbered history i K n class number before after
-entry_numbers history i K n class number before after h z P = record { missed = λ m. absurd (m h); had = λ m. absurd (m z); numbered = λ p q. P }
+    → PairNumbered before (number_size * cell_of history i K class) number after → EntryNumbered history i K n class number before after
+entry_numbers history i K n class number before after h P = record { missed = λ m. absurd (m h); had = P.had; numbered = λ p. P.numbered }
+
+pub entry_passed : (history : List ℕ) (i K n class number : ℕ) (before : List ℕ) → (place_of history i ≡ suc n → ⊥)
+    → EntryNumbered history i K n class number before before
+entry_passed history i K n class number before m = record { missed = λ q. refl; had = λ z. refl; numbered = λ h. absurd (m h) }
 
 -- The entries below p are done.
 pub record Numbering (desk history : List ℕ) (K n class : ℕ) (before : List ℕ) (p : ℕ) (now : List ℕ) : Type 0 where

@@ -1,14 +1,15 @@
 // The history: the acquires that are kept while a crosslock is in progress, and what a commit draws to them.
 #![tactic(auto)]
 
-ghost use Rattle.std.specs.Prelude.{◌≡◌, suc, ◌*◌, ◌<◌, ◌≤◌, length};
+ghost use Rattle.std.specs.Prelude.{◌≡◌, suc, ◌*◌, ◌<◌, ◌≤◌, length, MatchOption};
 ghost use Rattle.rules.specs.Limits.{max_accepted, max_kept, mode_count};
-ghost use Rattle.layout.specs.Layout.{frame_count, desk_size, history_size, seen_size, accepted_of, kept_of};
-ghost use Rattle.history.specs.Histories.{HistoryRoom, KeptIn, EntryStruck, Struck, EntriesIn, EntryDrawn, CommitDrawn, EntryNumbered, CommitNumbered};
+ghost use Rattle.layout.specs.Layout.{frame_count, desk_size, history_size, seen_size, accepted_of, kept_of, place_of, lock_of};
+ghost use Rattle.history.specs.Histories.{HistoryRoom, KeptIn, EntryStruck, Struck, EntriesIn, CommitDrawn, CommitNumbered};
 
 use context::kind_bit;
 use crosslocks::is_idle;
 use layout::{ACCEPTED_AT, HELD_MODES, KEPT_AT, KEPT_SIZE, NUMBER_SIZE, SINCE_AT};
+use numbering::number_pair;
 use numbers::{number_at, put_number};
 
 // How many acquires are kept, and how many were when a crosslock was acquired last.
@@ -31,10 +32,7 @@ pub fn keep(desk: &mut [u8], history: &mut [u8], frame: usize, class: u8, mode: 
     requires { (desk_size ≤ length desk.old) × HistoryRoom desk.old history.old mode × (frame < frame_count) × (class < 64) × (mode < mode_count) }
     ensures { KeptIn desk.old history.old frame class mode desk.new history.new }
 {
-    if HELD_MODES <= mode {
-        return;
-    }
-    if is_idle(desk) {
+    if HELD_MODES <= mode || is_idle(desk) {
         return;
     }
     let kept = number_at(desk, KEPT_AT);
@@ -61,25 +59,21 @@ pub fn strike(desk: &[u8], history: &mut [u8], frame: usize)
     requires { (desk_size ≤ length desk.now) × (kept_of desk.now ≤ max_kept) × (history_size ≤ length history.old) × (frame < frame_count) }
     ensures { Struck (kept_of desk.now) history.old frame history.new }
 {
-    let kept = kept_of(desk);
-    let mut i: usize = 0;
-    while i < kept {
+    for i in 0..kept_of(desk) {
         strike_entry(history, i, frame);
-        i += 1;
     }
 }
 
-// A dependency from the crosslock to the class of an entry, if that is of the frame.
-fn draw_entry(history: &[u8], i: usize, sheet: &mut [u8], k: usize, frame: usize, class: usize)
-    requires { EntriesIn (suc i) history.now k × (i < max_kept) × (k * k ≤ length sheet.old) × (k ≤ 64) × (class < k) × (frame < frame_count) }
-    ensures { EntryDrawn history.now i k frame class sheet.old sheet.new }
+// The lock of an entry, if that is of the frame.
+fn lock_in(history: &[u8], i: usize, frame: usize) -> Option<usize>
+    requires { (i < max_kept) × (history_size ≤ length history.now) × (frame < frame_count) }
+    ensures { MatchOption result (place_of history.now i ≡ suc frame → ⊥) (λ held. (place_of history.now i ≡ suc frame) × (held ≡ lock_of history.now i)) }
 {
     let entry = KEPT_SIZE * i;
     if history[entry] as usize == frame + 1 {
-        let held = history[entry + 1] as usize;
-        let at = class * k + held % 64;
-        sheet[at] = sheet[at] | kind_bit(0, held / 64);
+        return Some(history[entry + 1] as usize);
     }
+    None
 }
 
 // A commit draws a dependency from the crosslock to each acquire of the frame that was kept since.
@@ -94,33 +88,10 @@ pub fn draw_commit(
     requires { (desk_size ≤ length desk.now) × (kept_of desk.now ≤ max_kept) × EntriesIn (kept_of desk.now) history.now k × (k * k ≤ length sheet.old) × (k ≤ 64) × (class < k) × (frame < frame_count) }
     ensures { CommitDrawn desk.now history.now k frame class sheet.old sheet.new }
 {
-    let kept = kept_of(desk);
-    let mut i = since_of(desk, class);
-    while i < kept {
-        draw_entry(history, i, sheet, k, frame, class);
-        i += 1;
-    }
-}
-
-// Where the pair has no number yet, it gets the record's.
-fn number_entry(
-    history: &[u8],
-    i: usize,
-    seen: &mut [u8],
-    k: usize,
-    frame: usize,
-    class: usize,
-    number: u32,
-)
-    requires { EntriesIn (suc i) history.now k × (i < max_kept) × (seen_size k ≤ length seen.old) × (k ≤ 64) × (class < k) × (frame < frame_count) }
-    ensures { EntryNumbered history.now i k frame class number seen.old seen.new }
-{
-    let entry = KEPT_SIZE * i;
-    if history[entry] as usize == frame + 1 {
-        let held = history[entry + 1] as usize;
-        let at = NUMBER_SIZE * (class * k + held % 64);
-        if number_at(seen, at) == 0 {
-            put_number(seen, at, number);
+    for i in since_of(desk, class)..kept_of(desk) {
+        if let Some(held) = lock_in(history, i, frame) {
+            let at = class * k + held % 64;
+            sheet[at] |= kind_bit(0, held / 64);
         }
     }
 }
@@ -138,10 +109,10 @@ pub fn number_commit(
     ensures { CommitNumbered desk.now history.now k frame class seen.old seen.new }
 {
     let number = number_at(desk, ACCEPTED_AT) + 1;
-    let kept = kept_of(desk);
-    let mut i = since_of(desk, class);
-    while i < kept {
-        number_entry(history, i, seen, k, frame, class, number);
-        i += 1;
+    for i in since_of(desk, class)..kept_of(desk) {
+        if let Some(held) = lock_in(history, i, frame) {
+            let at = NUMBER_SIZE * (class * k + held % 64);
+            number_pair(seen, at, number);
+        }
     }
 }

@@ -28,13 +28,11 @@ fn put_joined(out: &mut [u8], answer: u8, slip: &[u8]) -> usize
     requires { (line_size + cycle_size ≤ length out.old) × (answer ≡ 1 → count_of slip.now ≤ max_classes) × (slip_size max_classes ≤ length slip.now) }
     ensures { Appended out.old 0 (joined_text answer slip.now) out.new result }
 {
-    if answer == OK {
-        return put_word(out, 0, b"clean\n");
+    match answer {
+        OK => put_word(out, 0, b"clean\n"),
+        FAULT => put_fault(out, slip),
+        _ => put_refusal(out, answer),
     }
-    if answer == FAULT {
-        return put_fault(out, slip);
-    }
-    put_refusal(out, answer)
 }
 
 // Joins two benches, and makes the text of what came of it.
@@ -64,12 +62,7 @@ pub fn tell_join(
 pub fn is_clean(outcome: Outcome) -> bool
     ensures { result ≡ is_clean outcome }
 {
-    match outcome {
-        Outcome::Clean(_records) => true,
-        Outcome::Refused(_answer, _at) => false,
-        Outcome::Fault(_at) => false,
-        Outcome::Unread => false,
-    }
+    matches!(outcome, Outcome::Clean(_))
 }
 
 // What a log says by itself where it is not clean, behind its name.

@@ -5,9 +5,6 @@ use Prim.Native.Nat.{ℕ, zero, suc, ◌+◌, ◌*◌, ◌≤◌, ◌<◌}
 use native.Mathlib.Numerals.{add-one}
 use native.Mathlib.Omega.{arith}
 use lib.ListN.{length, get_or, length-append}
-use Rattle.rules.specs.Marks.{hard_irq, soft_irq}
-use Rattle.rules.specs.Graph.{lock, irq}
-use Rattle.rules.specs.KindNames.{ER, EN, SR, SN}
 use Rattle.rules.specs.Cycle.{entry_at, following}
 use Rattle.layout.specs.Layout.{entries_at, entry_size, count_of}
 use Rattle.rules.specs.Ranks.{kind_of_byte, source_of_byte}
@@ -19,38 +16,6 @@ use Rattle.log_text.proofs.Digits.{places_of_byte, places_of_word}
 use Rattle.log_text.proofs.Writing.{appended_both, as_text}
 
 -- ---- Kinds and sources by their numbers.
-
-pub kind_1 : (k : ℕ) → k ≡ 1 → kind_text (kind_of_byte k) ≡ kind_text ER
-kind_1 k e = rw e refl
-
-pub kind_4 : (k : ℕ) → k ≡ 4 → kind_text (kind_of_byte k) ≡ kind_text SR
-kind_4 k e = rw e refl
-
-pub kind_low : (k : ℕ) → (k ≡ 1 → ⊥) → k < 4 → kind_text (kind_of_byte k) ≡ kind_text EN
-kind_low zero n h = refl
-kind_low (suc zero) n h = absurd (n refl)
-kind_low (suc (suc zero)) n h = refl
-kind_low (suc (suc (suc zero))) n h = refl
-kind_low (suc (suc (suc (suc k)))) n h = absurd (omega arith)
-
-pub kind_high : (k : ℕ) → (k ≡ 4 → ⊥) → 4 ≤ k → kind_text (kind_of_byte k) ≡ kind_text SN
-kind_high zero n h = absurd (omega arith)
-kind_high (suc zero) n h = absurd (omega arith)
-kind_high (suc (suc zero)) n h = absurd (omega arith)
-kind_high (suc (suc (suc zero))) n h = absurd (omega arith)
-kind_high (suc (suc (suc (suc zero)))) n h = absurd (n refl)
-kind_high (suc (suc (suc (suc (suc k))))) n h = refl
-
-pub source_0 : (s : ℕ) → s ≡ 0 → source_text (source_of_byte s) ≡ source_text lock
-source_0 s e = rw e refl
-
-pub source_1 : (s : ℕ) → s ≡ 1 → source_text (source_of_byte s) ≡ source_text (irq hard_irq)
-source_1 s e = rw e refl
-
-pub source_more : (s : ℕ) → (s ≡ 0 → ⊥) → (s ≡ 1 → ⊥) → source_text (source_of_byte s) ≡ source_text (irq soft_irq)
-source_more zero a b = absurd (a refl)
-source_more (suc zero) a b = absurd (b refl)
-source_more (suc (suc s)) a b = refl
 
 pub length_kind : (k : ℕ) → length (kind_text (kind_of_byte k)) ≡ 4
 length_kind zero = refl

@@ -1,12 +1,13 @@
 -- A text put behind another. Assumes nothing.
-use mathlib.Core.Path.{◌≡◌, refl, ap, ◌∙◌}
+use mathlib.Core.Path.{◌≡◌, refl, sym, ap, ◌∙◌}
 use mathlib.Core.List.{List, [], ◌∷◌, ◌++◌}
 use Prim.Native.Nat.{ℕ, suc, ◌+◌, ◌/◌, ◌%◌, ◌<◌, ◌≤◌}
 use native.Mathlib.Nat.{add-zero, add-suc, suc-add}
-use native.Mathlib.Numerals.{add-one}
 use native.Mathlib.Omega.{arith}
-use lib.ListN.{length, get_or, set, take, length-append, length-set}
-use lib.Seq.{sets, take-suc, take-length, length-take-le}
+use lib.ListN.{length, set, length-append, length-set}
+use lib.Seq.{sets, sets-eq, length-sets, take-length}
+use borrow.Rule.Slice.PartMut.{put_mid}
+use Rattle.std.proofs.lemmas.Slice.{put_mid-paste}
 use Rattle.log_text.specs.Text.{digits, Appended}
 use Rattle.log_text.proofs.Digits.{digits_one, digits_more}
 
@@ -23,22 +24,12 @@ appended_both {before} {middle} {after} {x} {y} {at} {e} {f} p q =
       inside = q.inside;
     }
 
--- One byte behind what stands already.
-pub one_byte_more : (b : List ℕ) (at : ℕ) (x : List ℕ) (v : ℕ) → set (sets b at x) (at + length x) v ≡ sets b at (x ++ v ∷ [])
-one_byte_more b at x v = sets_append b at x (v ∷ [])
-
--- A turn of the loop that copies a word.
-pub copy_more : (b : List ℕ) (at : ℕ) (word : List ℕ) (i : ℕ) → i < length word
-    → set (sets b at (take i word)) (at + i) (get_or word i 0) ≡ sets b at (take (i + 1) word)
-copy_more b at word i h =
-    let l : length (take i word) ≡ i = length-take-le i word (omega arith) in
-    rw (add-one, take-suc word i 0 h) (rw l at (one_byte_more b at (take i word) (get_or word i 0)))
-
--- Its end.
-pub copied : (b : List ℕ) (at : ℕ) (word : List ℕ) (i : ℕ) (after : List ℕ) → i ≡ length word → after ≡ sets b at (take i word)
-    → at + i ≤ length after → Appended b at word after (at + i)
-copied b at word i after e q h =
-    record { end_is = ap (λ (n : ℕ). at + n) e; bytes = q ∙ rw (e, take-length) refl; inside = h }
+-- A word copied into the part of its length.
+pub copied : (b : List ℕ) (at : ℕ) (word now : List ℕ) (k : ℕ) → now ≡ word → k ≡ length word → at + length word ≤ length b
+    → Appended b at word (put_mid at k b now) (at + length word)
+copied b at word now k e l h =
+    let bytes : put_mid at k b now ≡ sets b at word = put_mid-paste at k b now word (length word) e (sym l) refl ∙ rw take-length (sym (sets-eq word b at h)) in
+    record { end_is = refl; bytes = bytes; inside = rw (bytes, length-sets) h }
 
 -- A number of one digit.
 pub one_placed : (b : List ℕ) (at n v : ℕ) → n < 10 → at + length (digits n) ≤ length b → v ≡ 48 + n → Appended b at (digits n) (set b at v) (at + 1)

@@ -14,22 +14,13 @@ use outcome::Outcome;
 // Room for the longest text: a line, and a line for each entry of a cycle.
 pub const TEXT_SIZE: usize = 64 + 16 * MAX_CLASSES;
 
-pub fn wide(byte: u8) -> u64
-    ensures { result ≡ byte }
-{
-    byte as u64
-}
-
 pub fn put_word(out: &mut [u8], at: usize, word: &[u8]) -> usize
     requires { at + length word.now ≤ length out.old }
     ensures { Appended out.old at word.now out.new result }
 {
-    let mut i = 0;
-    while i < word.len() {
-        out[at + i] = word[i];
-        i += 1;
-    }
-    at + i
+    let end = at + word.len();
+    out[at..end].copy_from_slice(word);
+    end
 }
 
 // A digit's character.
@@ -37,7 +28,7 @@ fn numeral(d: u64) -> u8
     requires { d < 10 }
     ensures { result ≡ 48 + d }
 {
-    48 + (d as u8)
+    b'0' + d as u8
 }
 
 // The decimal digits of a number.
@@ -70,7 +61,7 @@ fn put_refused(out: &mut [u8], at: usize, answer: u8, number: u64) -> usize
     ensures { Appended out.old at (refused_text answer number) out.new result }
 {
     let a = put_word(out, at, b"refused ");
-    let b = put_number(out, a, wide(answer));
+    let b = put_number(out, a, u64::from(answer));
     let c = put_word(out, b, b" at record ");
     let d = put_number(out, c, number);
     put_word(out, d, b"\n")
@@ -82,7 +73,7 @@ pub fn put_refusal(out: &mut [u8], answer: u8) -> usize
     ensures { Appended out.old 0 (refused_line answer) out.new result }
 {
     let word = put_word(out, 0, b"refused ");
-    let end = put_number(out, word, wide(answer));
+    let end = put_number(out, word, u64::from(answer));
     put_word(out, end, b"\n")
 }
 
@@ -101,16 +92,12 @@ fn put_kind(out: &mut [u8], at: usize, kind: u8) -> usize
     requires { at + 4 ≤ length out.old }
     ensures { Appended out.old at (kind_text (kind_of_byte kind)) out.new result }
 {
-    if kind == 1 {
-        return put_word(out, at, b" ER ");
+    match kind {
+        1 => put_word(out, at, b" ER "),
+        4 => put_word(out, at, b" SR "),
+        0..=3 => put_word(out, at, b" EN "),
+        _ => put_word(out, at, b" SN "),
     }
-    if kind == 4 {
-        return put_word(out, at, b" SR ");
-    }
-    if kind < 4 {
-        return put_word(out, at, b" EN ");
-    }
-    put_word(out, at, b" SN ")
 }
 
 // The source of a dependency, at the end of its line.
@@ -118,13 +105,11 @@ fn put_source(out: &mut [u8], at: usize, source: u8) -> usize
     requires { at + 6 ≤ length out.old }
     ensures { Appended out.old at (source_text (source_of_byte source)) out.new result }
 {
-    if source == 0 {
-        return put_word(out, at, b" hold\n");
+    match source {
+        0 => put_word(out, at, b" hold\n"),
+        1 => put_word(out, at, b" hard\n"),
+        _ => put_word(out, at, b" soft\n"),
     }
-    if source == 1 {
-        return put_word(out, at, b" hard\n");
-    }
-    put_word(out, at, b" soft\n")
 }
 
 // An entry of a cycle, as "1 EN 2 hold".
@@ -132,9 +117,9 @@ fn put_entry(out: &mut [u8], at: usize, class: u8, kind: u8, source: u8, to: u8)
     requires { at + entry_line_size ≤ length out.old }
     ensures { EntryPut out.old at class kind source to out.new result }
 {
-    let a = put_number(out, at, wide(class));
+    let a = put_number(out, at, u64::from(class));
     let b = put_kind(out, a, kind);
-    let c = put_number(out, b, wide(to));
+    let c = put_number(out, b, u64::from(to));
     put_source(out, c, source)
 }
 
@@ -156,8 +141,7 @@ pub fn put_cycle(out: &mut [u8], at: usize, slip: &[u8]) -> usize
 {
     let n = slip[COUNT_AT] as usize;
     let mut end = at;
-    let mut i = 0;
-    while i < n {
+    for i in 0..n {
         let entry = ENTRIES_AT + ENTRY_SIZE * i;
         let to = next_entry(n, i);
         end = put_entry(
@@ -168,7 +152,6 @@ pub fn put_cycle(out: &mut [u8], at: usize, slip: &[u8]) -> usize
             slip[entry + 2],
             slip[to],
         );
-        i += 1;
     }
     end
 }

@@ -25,7 +25,7 @@ use Rattle.layout.proofs.Numbers.{number_is}
 use Rattle.numbers.specs.Numbers.{NumberPut}
 use Rattle.held.specs.Frames.{FrameBytes, SmallLocks}
 use Rattle.update.specs.Update.{drawn_from}
-use Rattle.numbering.specs.Numbering.{Numbered}
+use Rattle.numbering.specs.Numbering.{PairNumbered, Numbered}
 use Rattle.held.proofs.Prefixes.{one_more, all_places, lock_at_lem}
 
 -- ---- Where an acquire draws.
@@ -63,6 +63,12 @@ some_drawn hs class mode f t l =
 
 pub put_as : {before after : List ℕ} {at n m : ℕ} → n ≡ m → NumberPut before at n after → NumberPut before at m after
 put_as {before} {after} {at} e P = subst (λ (v : ℕ). NumberPut before at v after) e P
+
+pub pair_as : {before after : List ℕ} {at n m : ℕ} → n ≡ m → PairNumbered before at n after → PairNumbered before at m after
+pair_as {before} {after} {at} e P = subst (λ (v : ℕ). PairNumbered before at v after) e P
+
+pub pair_long : {before after : List ℕ} {at n : ℕ} → PairNumbered before at n after → length after ≡ length before
+pair_long {before} {at = at} P = elim (ℕ_discrete (low_first number_size before at) 0) [ yes z ↦ (P.numbered z).long | no z ↦ ap length (P.had z) ]
 
 pub same_seen : {K : ℕ} {buffer : List ℕ} (s s' : ℕ → ℕ → ℕ) → ((f t : ℕ) → s f t ≡ s' f t) → SeenBytes K s buffer → SeenBytes K s' buffer
 same_seen {K} {buffer} s s' e b = subst (λ (x : ℕ → ℕ → ℕ). SeenBytes K x buffer) (fun_ext (λ f. fun_ext (λ t. e f t))) b
@@ -214,7 +220,7 @@ module _ (desk : List ℕ) (K n class : ℕ) (before : List ℕ) where
           by true e false e' = rw (e, e') refl
           by false e y e' = rw e refl
 
-    pub numbering_put : (after : List ℕ) → low_first number_size now cell ≡ 0 → NumberPut now cell (suc (accepted_of desk)) after
+    numbering_put : (after : List ℕ) → low_first number_size now cell ≡ 0 → NumberPut now cell (suc (accepted_of desk)) after
         → Numbering desk K n class before (p + 1) after
     numbering_put after z P =
         record {
@@ -232,7 +238,7 @@ module _ (desk : List ℕ) (K n class : ℕ) (before : List ℕ) where
               (D.numbered hs F small seen most b) (rw c at P)));
         }
 
-    pub numbering_kept : (low_first number_size now cell ≡ 0 → ⊥) → Numbering desk K n class before (p + 1) now
+    numbering_kept : (low_first number_size now cell ≡ 0 → ⊥) → Numbering desk K n class before (p + 1) now
     numbering_kept z =
         record {
           keeps = D.keeps;
@@ -241,6 +247,13 @@ module _ (desk : List ℕ) (K n class : ℕ) (before : List ℕ) where
               (same_seen (sofar hs F small seen most b) (next hs F small seen most b)
               (kept_there hs F small seen most b (ne_eqb _ 0 (λ e. z (stands hs F small seen most b ∙ e)))) (D.numbered hs F small seen most b));
         }
+
+    pub numbering_step : (after : List ℕ) → PairNumbered now cell (suc (accepted_of desk)) after → Numbering desk K n class before (p + 1) after
+    numbering_step after P =
+        elim (ℕ_discrete (low_first number_size now cell) 0) [
+          | yes z ↦ numbering_put after z (P.numbered z)
+          | no z ↦ subst (λ (s : List ℕ). Numbering desk K n class before (p + 1) s) (sym (P.had z)) (numbering_kept z)
+        ]
 
   pub numbering_done : (mode : ℕ) → mode < held_modes → (d : ℕ) (now : List ℕ) → Numbering desk K n class before d now → d ≡ depth_of desk n
       → Numbered desk K n class mode before now

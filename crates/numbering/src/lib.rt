@@ -1,16 +1,27 @@
 // What an accepted record adds to the numbers: the count in the desk, and those of the pairs at which it draws.
 #![tactic(auto)]
 
-ghost use Rattle.std.specs.Prelude.{suc, ◌<◌, ◌≤◌, length};
+ghost use Rattle.std.specs.Prelude.{suc, ◌+◌, ◌<◌, ◌≤◌, length};
 ghost use Rattle.rules.specs.Limits.{max_accepted};
-ghost use Rattle.layout.specs.Layout.{accepted_at, desk_size, seen_size, accepted_of};
+ghost use Rattle.layout.specs.Layout.{accepted_at, number_size, desk_size, seen_size, accepted_of};
 ghost use Rattle.numbers.specs.Numbers.{NumberPut};
 ghost use Rattle.held.specs.Frames.{HeldIn};
-ghost use Rattle.numbering.specs.Numbering.{Numbered};
+ghost use Rattle.numbering.specs.Numbering.{PairNumbered, Numbered};
 
-use layout::{ACCEPTED_AT, DEPTHS_AT, HELD_AT, MAX_DEPTH, NUMBER_SIZE};
+use held::held_bytes;
+use layout::{ACCEPTED_AT, NUMBER_SIZE};
 use numbers::{number_at, put_number};
 use update::TRY;
+
+// A pair of classes that has no number yet gets one.
+pub fn number_pair(seen: &mut [u8], at: usize, number: u32)
+    requires { at + number_size ≤ length seen.old }
+    ensures { PairNumbered seen.old at number seen.new }
+{
+    if number_at(seen, at) == 0 {
+        put_number(seen, at, number);
+    }
+}
 
 // Where a pair of classes has no number yet and the acquire draws a dependency, the pair gets the record's number.
 pub fn number_pairs(desk: &[u8], seen: &mut [u8], k: usize, frame: usize, class: usize, mode: usize)
@@ -21,15 +32,10 @@ pub fn number_pairs(desk: &[u8], seen: &mut [u8], k: usize, frame: usize, class:
         return;
     }
     let number = number_at(desk, ACCEPTED_AT) + 1;
-    let d = desk[DEPTHS_AT + frame] as usize;
-    let mut p: usize = 0;
-    while p < d {
-        let held = desk[HELD_AT + MAX_DEPTH * frame + p] as usize;
+    for held in held_bytes(desk, frame) {
+        let held = *held as usize;
         let at = NUMBER_SIZE * ((held % 64) * k + class);
-        if number_at(seen, at) == 0 {
-            put_number(seen, at, number);
-        }
-        p += 1;
+        number_pair(seen, at, number);
     }
 }
 

@@ -1,13 +1,14 @@
 // Document 01, "Opening": a fresh desk, two empty sheets and an empty history.
 #![tactic(auto)]
 
-ghost use Rattle.std.specs.Prelude.{◌≡◌, ℕ, ◌<◌, ◌≤◌, length, replicate};
+ghost use Rattle.std.specs.Prelude.{◌≡◌, ℕ, ◌<◌, ◌≤◌, length};
 ghost use Rattle.rules.specs.Limits.{core_count};
 ghost use Rattle.rules.specs.Context.{task_both_on};
 ghost use Rattle.layout.specs.Layout.{desk_size, state_of};
+ghost use Rattle.answers.specs.Numbers.{refused_number};
 ghost use Rattle.opening.specs.Open.{opened_desk, Opened};
 
-use answers::{BAD_OPENING, OK};
+use answers::Refusal;
 use context::CoreState;
 use cross_fit::declares_below;
 use layout::{
@@ -15,25 +16,13 @@ use layout::{
 };
 use numbers::put_word;
 
-fn fill(bytes: &mut [u8], value: u8)
-    ensures { bytes.new ≡ replicate (length bytes.old) value }
-{
-    let mut i: usize = 0;
-    while i < bytes.len() {
-        bytes[i] = value;
-        i += 1;
-    }
-}
-
 // Every core of a zeroed desk is fresh: this changes no byte, since the fresh state is 0.
 fn seat_cores(desk: &mut [u8])
     requires { (desk_size ≤ length desk.old) × ((i : ℕ) → i < core_count → state_of desk.old i ≡ task_both_on) }
     ensures { desk.new ≡ desk.old }
 {
-    let mut i: usize = 0;
-    while i < CORES {
+    for i in 0..CORES {
         desk[STATES_AT + i] = u8::from(CoreState::fresh());
-        i += 1;
     }
 }
 
@@ -42,7 +31,7 @@ pub fn fresh_desk(classes: u8, declared: u64, desk: &mut [u8])
     requires { desk_size ≤ length desk.old }
     ensures { desk.new ≡ opened_desk classes declared desk.old }
 {
-    fill(&mut desk[0..DESK_SIZE], 0);
+    desk[..DESK_SIZE].fill(0);
     seat_cores(desk);
     desk[CLASSES_AT] = classes;
     put_word(desk, DECLARED_AT, declared);
@@ -56,37 +45,25 @@ pub fn open(
     sheet: &mut [u8],
     seen: &mut [u8],
     history: &mut [u8],
-) -> u8
-    ensures { Opened classes declared desk.old sheet.old seen.old history.old result desk.new sheet.new seen.new history.new }
+) -> Result<(), Refusal>
+    ensures { Opened classes declared desk.old sheet.old seen.old history.old (refused_number result) desk.new sheet.new seen.new history.new }
 {
     let k = classes as usize;
-    if k < 1 {
-        return BAD_OPENING;
-    }
-    if MAX_CLASSES < k {
-        return BAD_OPENING;
-    }
-    if !declares_below(k, declared) {
-        return BAD_OPENING;
-    }
-    if desk.len() < DESK_SIZE {
-        return BAD_OPENING;
+    if k < 1 || MAX_CLASSES < k || !declares_below(k, declared) {
+        return Err(Refusal::BadOpening);
     }
     let size = k * k;
-    let whole = sheet.len();
-    if whole < size {
-        return BAD_OPENING;
-    }
     let numbers = NUMBER_SIZE * size;
-    if seen.len() < numbers {
-        return BAD_OPENING;
-    }
-    if history.len() < HISTORY_SIZE {
-        return BAD_OPENING;
+    if desk.len() < DESK_SIZE
+        || sheet.len() < size
+        || seen.len() < numbers
+        || history.len() < HISTORY_SIZE
+    {
+        return Err(Refusal::BadOpening);
     }
     fresh_desk(k as u8, declared, desk);
-    fill(&mut sheet[0..size], 0);
-    fill(&mut seen[0..numbers], 0);
-    fill(&mut history[0..HISTORY_SIZE], 0);
-    OK
+    sheet[..size].fill(0);
+    seen[..numbers].fill(0);
+    history[..HISTORY_SIZE].fill(0);
+    Ok(())
 }

@@ -22,23 +22,16 @@ pub enum Outcome {
 pub fn outcome_of(answer: u8, number: u64) -> Outcome
     ensures { result ≡ outcome_of answer number }
 {
-    if answer == OK {
-        return Outcome::Clean(number);
+    match answer {
+        OK => Outcome::Clean(number),
+        FAULT => Outcome::Fault(number),
+        _ => Outcome::Refused(answer, number),
     }
-    if answer == FAULT {
-        return Outcome::Fault(number);
-    }
-    Outcome::Refused(answer, number)
 }
 
 // Whether the text is an answer, for standard output, or a complaint, for standard error.
 pub fn is_answer(outcome: Outcome) -> bool
     ensures { result ≡ is_answer outcome }
 {
-    match outcome {
-        Outcome::Clean(_records) => true,
-        Outcome::Refused(_answer, _at) => true,
-        Outcome::Fault(_at) => true,
-        Outcome::Unread => false,
-    }
+    !matches!(outcome, Outcome::Unread)
 }

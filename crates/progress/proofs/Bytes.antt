@@ -1,19 +1,21 @@
 -- The bytes of a feed, and the loose ones in an array. Assumes nothing.
-use mathlib.Core.Path.{◌≡◌, refl, sym, ap, ap₂, ◌∙◌}
+use mathlib.Core.Path.{◌≡◌, refl, ap, ap₂, ◌∙◌}
 use mathlib.Core.Bool.{Bool, true, false}
-use mathlib.Core.List.{List, [], ◌∷◌, ◌++◌, map, append_assoc}
+use mathlib.Core.List.{List, [], ◌∷◌, ◌++◌, append_assoc}
 use Prim.Native.Nat.{ℕ, zero, suc, ◌+◌, ◌*◌, ◌-◌, ◌/◌, ◌%◌, ◌^◌, ◌≤◌, ◌<◌}
 use native.Mathlib.Nat.{not-suc-le-zero, le_of_suc-le-suc}
-use native.Mathlib.Numerals.{add-one}
 use native.Mathlib.Omega.{arith}
 use lib.Dec.{eqb}
-use lib.ListN.{length, get_or, set, take, drop, length-map, length-drop, length-append}
-use lib.Seq.{take-take, take_at, take-length, take-append-le, length-take-le, get_or-take}
+use lib.ListN.{length, get_or, set, take, drop, replicate, length-drop, length-append}
+use borrow.Rule.Slice.PartMut.{put_mid}
+use Rattle.std.proofs.Common.{w64}
+use Rattle.std.specs.Int.{from_bool, to_le_bytes}
+use lib.Seq.{drop-drop, take-take, take_at, take-append-le, length-take-le}
 use borrow.Author.Tests.{eq-eqb, ne_eqb, lt-ltb, le-ltb}
 use Rattle.words.specs.Bits.{flag}
 use Rattle.rules.specs.Decision.{tabulate}
 use Rattle.rules.specs.Number.{low_first}
-use Rattle.progress.specs.Feed.{Feed, longest, most_loose, answer_at, opened_at, count_at, loose_at, number_at, number_size, feed_size, view, byte_of}
+use Rattle.progress.specs.Feed.{Feed, longest, most_loose, answer_at, opened_at, count_at, loose_at, number_at, number_size, feed_size, view, byte_of, bytes_of}
 use Rattle.progress.specs.Code.{LooseIn}
 
 -- ---- Byte i of a feed, by its place.
@@ -42,20 +44,50 @@ module _ (f : Feed) (i : ℕ) where
         unfolding byte_of
         number_byte h = simp (ne_eqb i 0 n0, ne_eqb i 1 n1, ne_eqb i 2 n2, le-ltb i number_at h)
 
--- A list written from the front.
-tab_suc : (n : ℕ) (g : ℕ → ℕ) (d : List ℕ) → n < length d → set (tabulate n g ++ drop n d) n (g n) ≡ tabulate (suc n) g ++ drop (suc n) d
-tab_suc n g [] l = absurd (not-suc-le-zero l)
-tab_suc zero g (x ∷ d) l = refl
-tab_suc (suc n) g (x ∷ d) l = ap (λ (t : List ℕ). g 0 ∷ t) (tab_suc n (λ i. g (suc i)) d (le_of_suc-le-suc l))
+-- ---- Written part by part.
 
-pub tab_more : (n : ℕ) (g : ℕ → ℕ) (d : List ℕ) → n < length d → set (tabulate n g ++ drop n d) n (g n) ≡ tabulate (n + 1) g ++ drop (n + 1) d
-tab_more n g d l = rw add-one (tab_suc n g d l)
+-- The first three bytes.
+first_three : (feed : List ℕ) (a o n : ℕ) → 3 ≤ length feed → set (set (set feed 0 a) 1 o) 2 n ≡ a ∷ o ∷ n ∷ drop 3 feed
+first_three [] a o n h = absurd (omega arith)
+first_three (x ∷ []) a o n h = absurd (omega arith)
+first_three (x ∷ y ∷ []) a o n h = absurd (omega arith)
+first_three (x ∷ y ∷ z ∷ feed) a o n h = refl
+
+-- The loose bytes over zeros.
+only_zeros : (m : ℕ) (r : List ℕ) → replicate m 0 ++ r ≡ tabulate m (λ j. get_or [] j 0) ++ r
+only_zeros zero r = refl
+only_zeros (suc m) r = ap (λ (t : List ℕ). 0 ∷ t) (only_zeros m r)
+
+over_zeros : (l : List ℕ) (m : ℕ) (r : List ℕ) → length l ≤ m → l ++ drop (length l) (replicate m 0 ++ r) ≡ tabulate m (λ j. get_or l j 0) ++ r
+over_zeros [] m r h = only_zeros m r
+over_zeros (x ∷ l) zero r h = absurd (not-suc-le-zero h)
+over_zeros (x ∷ l) (suc m) r h = ap (λ (t : List ℕ). x ∷ t) (over_zeros l m r (le_of_suc-le-suc h))
+
+-- The number's bytes.
+digits : (n : ℕ) → to_le_bytes w64 n ≡ tabulate number_size (λ i. n / 2 ^ (8 * i) % 256)
+digits n = let e : n / 1 ≡ n = omega arith in rw e refl
+
+parts_written : (f : Feed) (feed : List ℕ) → feed_size ≤ length feed → length f.loose ≤ most_loose
+    → put_mid number_at number_size (put_mid loose_at (length f.loose) (put_mid loose_at most_loose (set (set (set feed answer_at f.answer) opened_at (flag f.opened)) count_at (length f.loose)) (replicate most_loose 0)) f.loose) (to_le_bytes w64 f.number)
+    ≡ bytes_of f ++ drop feed_size feed
+unfolding byte_of
+parts_written f feed long few =
+    let l = f.loose in
+    let r = drop 11 (drop 3 feed) in
+    ap (λ (t : List ℕ). put_mid 14 8 (put_mid 3 (length l) (put_mid 3 11 t (replicate 11 0)) l) (to_le_bytes w64 f.number)) (first_three feed f.answer (flag f.opened) (length l) (omega arith))
+    ∙ ap (λ (t : List ℕ). put_mid 14 8 (f.answer ∷ flag f.opened ∷ length l ∷ t) (to_le_bytes w64 f.number)) (over_zeros l 11 r few)
+    ∙ ap₂ (λ (d t : List ℕ). f.answer ∷ flag f.opened ∷ length l ∷ (tabulate 11 (λ j. get_or l j 0) ++ (d ++ t))) (digits f.number) (drop-drop 8 11 (drop 3 feed) ∙ drop-drop 19 3 feed)
+
+from_flag : (b : Bool) → from_bool b ≡ flag b
+from_flag true = refl
+from_flag false = refl
+
+pub written : (f : Feed) (feed zeros digits : List ℕ) (o n k : ℕ) → feed_size ≤ length feed → n ≡ length f.loose → n ≤ most_loose → k ≡ n → o ≡ from_bool f.opened → zeros ≡ replicate most_loose 0 → digits ≡ to_le_bytes w64 f.number
+    → put_mid number_at number_size (put_mid loose_at k (put_mid loose_at most_loose (set (set (set feed answer_at f.answer) opened_at o) count_at n) zeros) f.loose) digits
+    ≡ bytes_of f ++ drop feed_size feed
+written f feed zeros digits o n k long e few same p z d = rw (same, e, p, from_flag f.opened, z, d) (parts_written f feed long (omega arith))
 
 -- ---- The loose bytes.
-
--- What is known of an array in a struct, as a plain length.
-pub twelve : (array : List ℕ) → length (map (λ (v : ℕ). v) array) ≡ longest → length array ≡ longest
-twelve array h = simp length-map at h
 
 pub length_loose : (array : List ℕ) (count : ℕ) → length array ≡ longest → count ≤ most_loose → length (take count array) ≡ count
 length_loose array count l h = length-take-le count array (omega arith)
@@ -65,9 +97,6 @@ pub past_end : (l : List ℕ) (i : ℕ) → length l ≤ i → 0 ≡ get_or l i 
 past_end [] i h = refl
 past_end (x ∷ l) zero h = absurd (not-suc-le-zero h)
 past_end (x ∷ l) (suc i) h = past_end l i (le_of_suc-le-suc h)
-
-pub unused_byte : (array : List ℕ) (count i : ℕ) → length array ≡ longest → count ≤ most_loose → count ≤ i → 0 ≡ get_or (take count array) i 0
-unused_byte array count i l h k = past_end (take count array) i (omega (arith, length_loose array count l h))
 
 -- A part copied behind the loose bytes.
 pub part_behind : (array part rest : List ℕ) (count : ℕ) → count ≤ length array

@@ -1,18 +1,21 @@
 -- The fit test of a feed, condition by condition. Assumes nothing.
-use mathlib.Core.Path.{◌≡◌, refl, sym, ◌∙◌}
-use mathlib.Core.Bool.{Bool, true, false, cond, not, ◌&&◌, ◌||◌, and-true, and-false, or-true}
+use mathlib.Core.Path.{◌≡◌, refl, sym, ap, ◌∙◌}
+use mathlib.Core.Bool.{Bool, true, false, cond, not, ◌&&◌, ◌||◌, and-false, or-true}
 use mathlib.Core.List.{List}
-use Prim.Native.Nat.{ℕ, ◌+◌, ◌≤◌, ◌<◌}
-use native.Mathlib.Decide.{ℕ_discrete, dec_lt}
+use Prim.Native.Nat.{ℕ, ◌+◌, ◌-◌, ◌≤◌, ◌<◌}
+use native.Mathlib.Decide.{dec_lt}
 use native.Mathlib.Omega.{arith}
 use lib.Dec.{leb, ltb, eqb}
-use lib.ListN.{length, get_or}
+use lib.ListN.{length, get_or, take, drop, length-drop}
+use lib.Seq.{get_or-take, get_or-drop, length-take-le}
+use Rattle.std.proofs.Common.{MatchBool}
+use Rattle.std.specs.List.{AllWithin, HoldsAt}
 use borrow.Author.Tests.{eq-eqb, ne_eqb, lt-ltb, le-ltb, le-leb, lt-leb, ltb-true, leb-true, eqb-true}
 use Rattle.rules.proofs.Booleans.{and_cases}
 use Rattle.rules.specs.Log.{unit_size}
 use Rattle.layout.specs.Fit.{all_below}
-use Rattle.layout.proofs.AllBelow.{all_at}
-use Rattle.progress.specs.Feed.{Feed, most_loose, opened_at, count_at, loose_at, feed_size, view, any_of, is_step_answer, stands_with, well_formed, unused_zero, fits}
+use Rattle.layout.proofs.AllBelow.{all_at, all_of}
+use Rattle.progress.specs.Feed.{Feed, most_loose, opened_at, count_at, loose_at, number_at, feed_size, view, any_of, is_step_answer, stands_with, well_formed, unused_zero, fits}
 
 -- ---- The step's answers.
 
@@ -64,47 +67,28 @@ high_answer a h =
           )
     ]
 
-pub two : (a : ℕ) → a ≡ 2 → false ≡ is_step_answer a
-unfolding is_step_answer any_of
-two a e = rw e refl
+module _ (a : ℕ) where
+  pub two : a ≡ 2 → false ≡ is_step_answer a
+  unfolding is_step_answer any_of
+  two e = rw e refl
 
--- ---- The answer and the number.
+  -- Past 11 by their places.
+  pub below_late : 11 < a → a < 15 → false ≡ is_step_answer a
+  below_late h k = rw (lt-leb 15 a k) at (high_answer a h)
 
-module _ (opened : Bool) (a n : ℕ) where
-  pub clean_stands : opened ≡ true → a ≡ 0 → true ≡ stands_with opened a n
-  unfolding is_step_answer
-  clean_stands o e = rw (o, e) refl
+  pub late : 15 ≤ a → a ≤ 19 → true ≡ is_step_answer a
+  late h k = rw (le-leb 15 a h, le-leb a 19 k) at (high_answer a (omega arith))
 
-  pub stands_without : opened ≡ true → (a ≡ 0 → ⊥) → n ≡ 0 → false ≡ stands_with opened a n
-  stands_without o h e = simp (o, ne_eqb a 0 h, e, and-false)
-
-  pub stands_at : opened ≡ true → (a ≡ 0 → ⊥) → (n ≡ 0 → ⊥) → is_step_answer a ≡ stands_with opened a n
-  stands_at o h k = simp (o, ne_eqb a 0 h, le-leb 1 n (omega arith), and-true)
-
-  pub header_numbered : opened ≡ false → (n ≡ 0 → ⊥) → false ≡ stands_with opened a n
-  header_numbered o k = simp (o, ne_eqb n 0 k, and-false)
-
-  pub header_waits : opened ≡ false → n ≡ 0 → a ≡ 0 → true ≡ stands_with opened a n
-  header_waits o k e = rw (o, k, e) refl
-
-  pub header_refused : opened ≡ false → n ≡ 0 → (a ≡ 0 → ⊥) → eqb a 2 ≡ stands_with opened a n
-  header_refused o k h = simp (o, k, ne_eqb a 0 h, and-true)
+  pub past_late : 19 < a → false ≡ is_step_answer a
+  past_late h = sym (none_above a h)
 
 -- ---- A feed that can be, where it has `count` loose bytes.
 
 module _ (f : Feed) (count : ℕ) (l : length f.loose ≡ count) where
-  pub too_many : unit_size f.opened f.loose ≤ count → false ≡ well_formed f
-  unfolding well_formed
-  too_many h = simp (l, le-ltb count (unit_size f.opened f.loose) h)
-
   module _ (few : count < unit_size f.opened f.loose) where
     pub going_on : f.answer ≡ 0 → stands_with f.opened f.answer f.number ≡ well_formed f
     unfolding well_formed
     going_on e = rw (l, lt-ltb count (unit_size f.opened f.loose) few, eq-eqb f.answer 0 e) refl
-
-    pub loose_with_answer : (f.answer ≡ 0 → ⊥) → (count ≡ 0 → ⊥) → false ≡ well_formed f
-    unfolding well_formed
-    loose_with_answer n m = rw (l, lt-ltb count (unit_size f.opened f.loose) few, ne_eqb f.answer 0 n, ne_eqb count 0 m) refl
 
     pub at_unit : (f.answer ≡ 0 → ⊥) → count ≡ 0 → stands_with f.opened f.answer f.number ≡ well_formed f
     unfolding well_formed
@@ -118,10 +102,6 @@ used_zero feed j h = rw (lt-ltb j (get_or feed count_at 0) h) refl
 pub is_zero : (feed : List ℕ) (j : ℕ) → get_or feed (loose_at + j) 0 ≡ 0 → unused_zero feed j ≡ true
 is_zero feed j e = simp (eq-eqb (get_or feed (loose_at + j) 0) 0 e, or-true)
 
-pub one_zero_more : (feed : List ℕ) (i : ℕ) → ((j : ℕ) → j < i → unused_zero feed j ≡ true) → get_or feed (loose_at + i) 0 ≡ 0
-    → (j : ℕ) → j < i + 1 → unused_zero feed j ≡ true
-one_zero_more feed i h e j l = elim (ℕ_discrete j i) [ yes q ↦ rw q (is_zero feed i e) | no n ↦ h j (omega arith) ]
-
 pub not_zero : (feed : List ℕ) (j : ℕ) → get_or feed count_at 0 ≤ j → j < most_loose → (get_or feed (loose_at + j) 0 ≡ 0 → ⊥) → false ≡ all_below most_loose (unused_zero feed)
 not_zero feed j h k n = by (all_below most_loose (unused_zero feed)) refl
   where
@@ -129,27 +109,31 @@ not_zero feed j h k n = by (all_below most_loose (unused_zero feed)) refl
     by false e = refl
     by true e = sym (rw (le-ltb j (get_or feed count_at 0) h, ne_eqb (get_or feed (loose_at + j) 0) 0 n) refl) ∙ all_at most_loose (unused_zero feed) e j k
 
-module _ (feed : List ℕ) where
-  pub too_short : length feed < feed_size → false ≡ fits feed
-  unfolding fits
-  too_short h = simp (lt-leb feed_size (length feed) h)
+-- What the search for another byte than 0 behind the loose ones finds.
+module _ (feed : List ℕ) (long : feed_size ≤ length feed) (few : get_or feed count_at 0 ≤ most_loose) where
+  abbrev pub behind : List ℕ
+  behind = take (number_at - (loose_at + get_or feed count_at 0)) (drop (loose_at + get_or feed count_at 0) feed)
 
-  pub odd_opened : 1 < get_or feed opened_at 0 → false ≡ fits feed
-  unfolding fits
-  odd_opened h = simp (lt-leb (get_or feed opened_at 0) 1 h, and-false)
+  behind_length : length behind ≡ most_loose - get_or feed count_at 0
+  behind_length = length-take-le (number_at - (loose_at + get_or feed count_at 0)) (drop (loose_at + get_or feed count_at 0) feed) (simp length-drop (omega arith)) ∙ omega arith
 
-  pub odd_count : most_loose < get_or feed count_at 0 → false ≡ fits feed
-  unfolding fits
-  odd_count h = simp (lt-leb (get_or feed count_at 0) most_loose h, and-false)
+  behind_at : (k : ℕ) → k < length behind → get_or behind k 0 ≡ get_or feed (loose_at + (get_or feed count_at 0 + k)) 0
+  behind_at k h =
+      get_or-take (number_at - (loose_at + get_or feed count_at 0)) (drop (loose_at + get_or feed count_at 0) feed) k 0 (omega (arith, h, behind_length))
+      ∙ get_or-drop (loose_at + get_or feed count_at 0) feed k 0 ∙ ap (λ (i : ℕ). get_or feed i 0) (omega arith)
 
-  pub odd_unused : all_below most_loose (unused_zero feed) ≡ false → false ≡ fits feed
-  unfolding fits
-  odd_unused h = simp (h, and-false)
-
-  pub fits_by : feed_size ≤ length feed → get_or feed opened_at 0 ≤ 1 → get_or feed count_at 0 ≤ most_loose → all_below most_loose (unused_zero feed) ≡ true
-      → well_formed (view feed) ≡ fits feed
-  unfolding fits
-  fits_by l o k u = simp (le-leb feed_size (length feed) l, le-leb (get_or feed opened_at 0) 1 o, le-leb (get_or feed count_at 0) most_loose k, u)
+  pub zeros_behind : (r : Bool) → MatchBool r (AllWithin (λ b. b ≡ 0) behind 0 (length behind)) ((k : ℕ) × (k < length behind) × HoldsAt (λ b. b ≡ 0 → ⊥) behind k)
+      → r ≡ all_below most_loose (unused_zero feed)
+  zeros_behind true h =
+      sym (all_of most_loose (unused_zero feed) (λ j l. elim (dec_lt j (get_or feed count_at 0)) [
+        | yes q ↦ used_zero feed j q
+        | no q ↦
+            let k = j - get_or feed count_at 0 in
+            let i : k < length behind = omega (arith, behind_length) in
+            is_zero feed j (ap (λ (n : ℕ). get_or feed (loose_at + n) 0) (omega arith) ∙ sym (behind_at k i) ∙ h k 0 (omega arith) i)
+      ]))
+  zeros_behind false h =
+      not_zero feed (get_or feed count_at 0 + h.0) (omega arith) (omega (arith, h.1, behind_length)) (λ e. h.2 0 (behind_at h.0 h.1 ∙ e))
 
 -- What a fit buffer has.
 pub record FitFacts (feed : List ℕ) : Type 0 where

@@ -1,28 +1,26 @@
 -- A feed's bytes and what they stand for, both ways. Assumes nothing.
-use mathlib.Core.Path.{◌≡◌, refl, sym, ap, subst, ◌∙◌}
-use mathlib.Core.Bool.{Bool, true, false, ◌||◌, or-true}
+use mathlib.Core.Path.{◌≡◌, refl, sym, ap, ◌∙◌}
+use mathlib.Core.Bool.{Bool, true, false}
 use mathlib.Core.List.{List, [], ◌∷◌, ◌++◌}
 use Prim.Native.Nat.{ℕ, zero, suc, ◌+◌, ◌*◌, ◌-◌, ◌/◌, ◌%◌, ◌^◌, ◌≤◌, ◌<◌}
 use native.Mathlib.Nat.{not-suc-le-zero, le_of_suc-le-suc, div-div-eq-div-mul, add-zero}
 use native.Mathlib.Decide.{ℕ_discrete, dec_lt}
 use native.Mathlib.Omega.{arith}
-use lib.Dec.{eqb, ltb}
+use lib.Dec.{eqb}
 use lib.Pow.{pow-add}
 use lib.ListN.{length, get_or, take, drop, length-append, length-drop, get_or-append}
 use lib.Seq.{ext_get_or, get_or-append-add, get_or-drop, get_or-take, length-take-le}
-use borrow.Author.Tests.{eq-eqb, lt-ltb, le-ltb, le-leb}
+use borrow.Author.Tests.{le-leb}
 use Rattle.words.specs.Bits.{flag}
 use Rattle.rules.specs.Decision.{tabulate}
 use Rattle.rules.proofs.Booleans.{and_both}
 use Rattle.rules.proofs.Closure.{length_tabulate, get_d_tabulate}
-use Rattle.rules.specs.Log.{unit_size}
 use Rattle.layout.specs.Layout.{AreBytes}
-use Rattle.layout.specs.Fit.{all_below}
 use Rattle.layout.proofs.AllBelow.{all_of}
 use Rattle.rules.specs.Number.{low_first}
 use Rattle.progress.specs.Feed.{Feed, most_loose, answer_at, opened_at, count_at, loose_at, number_at, number_size, feed_size, view, byte_of, bytes_of, well_formed, unused_zero, fits}
 use Rattle.progress.proofs.Bytes.{answer_byte, opened_byte, count_byte, loose_byte, number_byte, past_end}
-use Rattle.progress.proofs.Fitness.{fit_facts, formed_loose, used_zero, is_zero}
+use Rattle.progress.proofs.Fitness.{fit_facts, used_zero, is_zero}
 
 -- ---- The number in eight bytes.
 

@@ -1,14 +1,13 @@
 -- The size of a unit, by the bytes of it that are there: three tell which header it is. Assumes nothing.
-use mathlib.Core.Path.{◌≡◌, refl, sym, ◌∙◌}
+use mathlib.Core.Path.{◌≡◌, refl}
 use mathlib.Core.Bool.{Bool, true, false, cond}
 use mathlib.Core.List.{List, ◌++◌}
-use Prim.Native.Nat.{ℕ, ◌+◌, ◌≤◌, ◌<◌}
+use Prim.Native.Nat.{ℕ, ◌≤◌, ◌<◌}
 use native.Mathlib.Decide.{dec_lt}
 use native.Mathlib.Omega.{arith}
-use lib.ListN.{length, get_or, take, length-take, get_or-append}
-use lib.Seq.{get_or-take}
+use lib.ListN.{length, get_or, get_or-append}
 use borrow.Author.Tests.{eq-eqb, ne_eqb}
-use Rattle.rules.specs.Log.{plain_size, word_size, declares, header_size, unit_size}
+use Rattle.rules.specs.Log.{plain_size, declares, header_size, unit_size}
 use Rattle.progress.specs.Feed.{longest}
 use Rattle.progress.proofs.Bytes.{past_end}
 
@@ -24,18 +23,6 @@ module _ (bytes : List ℕ) where
   -- It is not there yet.
   pub not_told : length bytes ≤ 2 → header_size bytes ≡ plain_size
   not_told h = let z = past_end bytes 2 h in plain (omega arith)
-
--- Of the first bytes of an array.
-module _ (opened : Bool) (array : List ℕ) (count : ℕ) (o : opened ≡ false) where
-  pub before_third : count ≤ 2 → plain_size ≡ unit_size opened (take count array)
-  before_third h = rw o (sym (not_told (take count array) (omega (arith, length-take count array))))
-
-  module _ (h : 2 < count) where
-    pub third_declares : get_or array 2 0 ≡ 2 → longest ≡ unit_size opened (take count array)
-    third_declares e = rw o (sym (declaring (take count array) (get_or-take count array 2 0 h ∙ e)))
-
-    pub third_plain : (get_or array 2 0 ≡ 2 → ⊥) → plain_size ≡ unit_size opened (take count array)
-    third_plain n = rw o (sym (plain (take count array) (λ e. n (sym (get_or-take count array 2 0 h) ∙ e))))
 
 -- ---- How many.
 

@@ -1,13 +1,13 @@
 // How far a feed has come, and the lent buffer in which it is kept between calls. specs/Feed.antt says what its bytes stand for.
 #![tactic(auto)]
 
-ghost use Rattle.std.specs.Prelude.{◌≡◌, ◌++◌, ◌+◌, ◌≤◌, ◌<◌, length, get_or, drop, take};
+ghost use Rattle.std.specs.Prelude.{◌≡◌, ◌++◌, ◌+◌, ◌≤◌, length, get_or, drop};
 ghost use Rattle.rules.specs.Log.{unit_size};
 ghost use Rattle.layout.specs.Fit.{all_below};
-ghost use Rattle.progress.specs.Feed.{feed_size, longest, most_loose, count_at, byte_of, bytes_of, view, is_step_answer, stands_with, well_formed, unused_zero, fits, unit_begun, with_part};
+ghost use Rattle.progress.specs.Feed.{feed_size, longest, most_loose, count_at, bytes_of, view, is_step_answer, stands_with, well_formed, unused_zero, fits, unit_begun, with_part};
 ghost use Rattle.progress.specs.Code.{feed_of, Counted, LooseIn};
 
-use answers::{BAD_OPENING, HISTORY_FULL, OK, UNFIT, WRONG_SORT};
+use answers::{Refusal, Verdict};
 use numbers::word_at;
 use record::SIZE;
 
@@ -23,7 +23,20 @@ pub const UNIT_SIZE: usize = PLAIN_SIZE + 8;
 
 const MOST_LOOSE: usize = UNIT_SIZE - 1;
 
-const MOST_COUNT: u8 = MOST_LOOSE as u8;
+// Answers as a feed keeps them.
+pub const CLEAN: u8 = Verdict::Clean as u8;
+
+const FAULT: u8 = Verdict::Fault as u8;
+
+const BAD_OPENING: u8 = Refusal::BadOpening as u8;
+
+const MALFORMED: u8 = Refusal::Malformed as u8;
+
+const UNFIT: u8 = Refusal::Unfit as u8;
+
+const WRONG_SORT: u8 = Refusal::WrongSort as u8;
+
+const HISTORY_FULL: u8 = Refusal::HistoryFull as u8;
 
 // The layout of a feed.
 const ANSWER_AT: usize = 0;
@@ -43,6 +56,7 @@ pub const FEED_SIZE: usize = NUMBER_AT + NUMBER_SIZE;
 // A feed by value: the first `count` bytes of the array are the loose ones.
 #[derive(Clone, Copy)]
 pub struct Progress {
+    // Kept: `load` promises the view of any byte that stands in the buffer, and such a byte need be no answer.
     pub answer: u8,
     pub opened: bool,
     pub loose: [u8; UNIT_SIZE],
@@ -56,15 +70,12 @@ pub fn unit_size(p: Progress) -> usize
     ensures { result ≡ unit_size p.opened (feed_of p).loose }
 {
     if p.opened {
-        return SIZE;
+        SIZE
+    } else if VERSION_AT < p.count && p.loose[VERSION_AT] == DECLARING {
+        UNIT_SIZE
+    } else {
+        PLAIN_SIZE
     }
-    if p.count <= VERSION_AT {
-        return PLAIN_SIZE;
-    }
-    if p.loose[VERSION_AT] == DECLARING {
-        return UNIT_SIZE;
-    }
-    PLAIN_SIZE
 }
 
 // Between two units: no loose bytes.
@@ -85,16 +96,10 @@ pub fn with_part(p: Progress, part: &[u8]) -> Progress
     requires { p.count + length part.now ≤ longest }
     ensures { (feed_of result ≡ with_part (feed_of p) part.now) × (result.count ≡ p.count + length part.now) }
 {
-    let count = p.count;
+    let count = p.count + part.len();
     let mut loose = p.loose;
-    loose[count..count + part.len()].copy_from_slice(part);
-    Progress {
-        answer: p.answer,
-        opened: p.opened,
-        loose,
-        count: count + part.len(),
-        number: p.number,
-    }
+    loose[p.count..count].copy_from_slice(part);
+    Progress { loose, count, ..p }
 }
 
 fn loose_of(feed: &[u8]) -> [u8; UNIT_SIZE]
@@ -102,7 +107,7 @@ fn loose_of(feed: &[u8]) -> [u8; UNIT_SIZE]
     ensures { LooseIn feed.now result }
 {
     let mut loose = [0; UNIT_SIZE];
-    loose[..NUMBER_AT - LOOSE_AT].copy_from_slice(&feed[LOOSE_AT..NUMBER_AT]);
+    loose[..MOST_LOOSE].copy_from_slice(&feed[LOOSE_AT..NUMBER_AT]);
     loose
 }
 
@@ -120,69 +125,36 @@ pub fn load(feed: &[u8]) -> Progress
     }
 }
 
-// Byte i of a feed.
-fn byte_of(p: Progress, i: usize) -> u8
-    requires { (i < feed_size) × (p.count ≤ most_loose) }
-    ensures { result ≡ byte_of (feed_of p) i }
-{
-    if i == ANSWER_AT {
-        return p.answer;
-    }
-    if i == OPENED_AT {
-        return if p.opened { 1 } else { 0 };
-    }
-    let count = p.count;
-    if i == COUNT_AT {
-        return count as u8;
-    }
-    if i < NUMBER_AT {
-        let place = i - LOOSE_AT;
-        if place < count {
-            return p.loose[place];
-        }
-        return 0;
-    }
-    ((p.number >> (8 * ((i - NUMBER_AT) as u32))) % 256) as u8
-}
-
 // Writes a feed into its buffer.
 pub fn save(feed: &mut [u8], p: Progress)
     requires { (feed_size ≤ length feed.old) × (p.count ≤ most_loose) }
     ensures { feed.new ≡ bytes_of (feed_of p) ++ drop feed_size feed.old }
 {
-    let mut i = 0;
-    while i < FEED_SIZE {
-        feed[i] = byte_of(p, i);
-        i += 1;
-    }
+    feed[ANSWER_AT] = p.answer;
+    feed[OPENED_AT] = u8::from(p.opened);
+    feed[COUNT_AT] = p.count as u8;
+    feed[LOOSE_AT..NUMBER_AT].fill(0);
+    feed[LOOSE_AT..LOOSE_AT + p.count].copy_from_slice(&p.loose[..p.count]);
+    feed[NUMBER_AT..FEED_SIZE].copy_from_slice(&p.number.to_le_bytes());
 }
 
 // Zeros behind the loose bytes.
 fn unused_zero(feed: &[u8]) -> bool
-    requires { feed_size ≤ length feed.now }
+    requires { (feed_size ≤ length feed.now) × (get_or feed.now count_at 0 ≤ most_loose) }
     ensures { result ≡ all_below most_loose (unused_zero feed.now) }
 {
-    let mut i = feed[COUNT_AT] as usize;
-    while i < MOST_LOOSE {
-        if feed[LOOSE_AT + i] != 0 {
-            return false;
-        }
-        i += 1;
-    }
-    true
+    let count = feed[COUNT_AT] as usize;
+    feed[LOOSE_AT + count..NUMBER_AT].iter().all(|b| *b == 0)
 }
 
 // The step's answers.
 fn is_step_answer(answer: u8) -> bool
     ensures { result ≡ is_step_answer answer }
 {
-    if answer == BAD_OPENING {
-        return false;
-    }
-    if answer <= UNFIT {
-        return true;
-    }
-    (WRONG_SORT <= answer) & (answer <= HISTORY_FULL)
+    matches!(
+        answer,
+        CLEAN..=FAULT | MALFORMED..=UNFIT | WRONG_SORT..=HISTORY_FULL
+    )
 }
 
 // Whether the standing answer and the number go together.
@@ -190,54 +162,30 @@ fn stands_with(opened: bool, answer: u8, number: u64) -> bool
     ensures { result ≡ stands_with opened answer number }
 {
     if opened {
-        if answer == OK {
-            return true;
-        }
-        if number == 0 {
-            return false;
-        }
-        return is_step_answer(answer);
+        is_step_answer(answer) && (answer == CLEAN || 1 <= number)
+    } else {
+        (answer == CLEAN || answer == BAD_OPENING) && number == 0
     }
-    if number != 0 {
-        return false;
-    }
-    if answer == OK {
-        return true;
-    }
-    answer == BAD_OPENING
 }
 
+#[tactic(auto, unfolding(crate::specs::Feed::well_formed))]
 fn well_formed(p: Progress) -> bool
     requires { p.count ≤ most_loose }
     ensures { result ≡ well_formed (feed_of p) }
 {
-    if unit_size(p) <= p.count {
-        return false;
-    }
-    if p.answer == OK {
-        return stands_with(p.opened, p.answer, p.number);
-    }
-    if p.count != 0 {
-        return false;
-    }
-    stands_with(p.opened, p.answer, p.number)
+    p.count < unit_size(p)
+        && (p.answer == CLEAN || p.count == 0)
+        && stands_with(p.opened, p.answer, p.number)
 }
 
 // The fit test.
+#[tactic(auto, unfolding(crate::specs::Feed::fits))]
 pub fn fits_feed(feed: &[u8]) -> bool
     ensures { result ≡ fits feed.now }
 {
-    if feed.len() < FEED_SIZE {
-        return false;
-    }
-    if 1 < feed[OPENED_AT] {
-        return false;
-    }
-    if MOST_COUNT < feed[COUNT_AT] {
-        return false;
-    }
-    if !unused_zero(feed) {
-        return false;
-    }
-    well_formed(load(feed))
+    FEED_SIZE <= feed.len()
+        && feed[OPENED_AT] <= 1
+        && feed[COUNT_AT] as usize <= MOST_LOOSE
+        && unused_zero(feed)
+        && well_formed(load(feed))
 }

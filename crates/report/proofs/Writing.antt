@@ -2,8 +2,9 @@
 use mathlib.Core.Path.{◌≡◌, refl, sym, ap, ap₂, ◌∙◌, subst}
 use mathlib.Core.List.{List, [], ◌∷◌, ◌++◌}
 use mathlib.Core.Logic.{inl, inr}
-use Prim.Native.Nat.{ℕ, zero, suc, ◌+◌, ◌*◌, ◌/◌, ◌^◌, ◌<◌, ◌≤◌}
-use native.Mathlib.Decide.{ℕ_discrete}
+use Prim.Native.Nat.{ℕ, zero, suc, ◌+◌, ◌*◌, ◌/◌, ◌%◌, ◌^◌, ◌<◌, ◌≤◌, min}
+use Rattle.std.proofs.Math.Nat.{mod_self, mod-eq_of_lt}
+use native.Mathlib.Decide.{ℕ_discrete, dec_lt}
 use native.Mathlib.Omega.{arith}
 use lib.ListN.{length, get_or, set, length-set}
 use lib.Pow.{pow_mono}
@@ -17,7 +18,7 @@ use Rattle.rules.specs.Number.{bytes_of}
 use Rattle.layout.specs.Layout.{number_size, entries_at, entry_number_at, entry_size, number_of, KeepsPast}
 use Rattle.layout.specs.Decoding.{number_by, entry_seen}
 use Rattle.layout.specs.Slip.{next_place}
-use Rattle.layout.proofs.Slips.{next_below}
+use Rattle.layout.proofs.Slips.{next_below, next_more, next_last}
 use Rattle.numbers.specs.Numbers.{NumberPut}
 use Rattle.shortest.specs.Shortest.{found_entry, found_entries}
 use Rattle.shortest.specs.declared.Found.{Found}
@@ -45,6 +46,25 @@ module _ (rank : ℕ) where
 
   pub kind_3 : ¬ (rank < 9) → 8 ≡ kind_bit (kind_at rank)
   kind_3 n = ap kind_bit (sym (from_5 (2 ^ (rank / 3)) (let l : 2 ^ 3 ≤ 2 ^ (rank / 3) = pow_mono {i = 3} {j = rank / 3} (omega arith) in omega arith)))
+
+pub kind_law : (rank m : ℕ) → m ≡ min (rank / 3) 3 → 1 * 2 ^ m % 256 ≡ kind_bit (kind_at rank)
+kind_law rank m e = elim (dec_lt rank 3) [
+  | yes l ↦ let z : m ≡ 0 = omega arith in rw z (kind_0 rank l)
+  | no a ↦ elim (dec_lt rank 6) [
+    | yes l ↦ let z : m ≡ 1 = omega arith in rw z (kind_1 rank a l)
+    | no b ↦ elim (dec_lt rank 9) [
+      | yes l ↦ let z : m ≡ 2 = omega arith in rw z (kind_2 rank b l)
+      | no d ↦ let z : m ≡ 3 = omega arith in rw z (kind_3 rank d)
+    ]
+  ]
+]
+
+-- The place after i in a cycle, as a remainder.
+pub next_by_rem : (n i : ℕ) → i < n → (i + 1) % n ≡ next_place n i
+next_by_rem n i l = elim (dec_lt (i + 1) n) [
+  | yes h ↦ mod-eq_of_lt h ∙ sym (next_more n i h)
+  | no h ↦ let e : i + 1 ≡ n = omega arith in rw (e, mod_self n) (sym (next_last n i (omega arith)))
+]
 
 -- ---- One entry.
 

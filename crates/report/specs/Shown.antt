@@ -3,12 +3,12 @@ use Rattle.std.specs.Prelude.{◌≡◌, List, [], ◌∷◌, ◌++◌, ℕ, ◌
 use Rattle.rules.specs.Number.{bytes_of}
 use Rattle.layout.specs.Layout.{number_size, slip_size, entries_at, entry_size, number_of, KeepsPast}
 use Rattle.layout.specs.Decoding.{SlipBytes}
-use Rattle.shortest.specs.Shortest.{found_entries}
+use Rattle.shortest.specs.Shortest.{found_at, found_entries}
 use Rattle.shortest.specs.declared.Found.{Found}
 
 -- The classes of a cycle are below K.
 pub record Ranged (K : ℕ) (f : Found) : Type 0 where
-  pub below : (i : ℕ) → i < f.n → get_or f.classes i 0 < K
+  pub below : (i : ℕ) → i < f.n → (found_at f i).class < K
 
 -- The seven bytes of entry i, and only they may differ.
 pub record EntryWritten (before : List ℕ) (i class kind source number : ℕ) (after : List ℕ) : Type 0 where

@@ -6,27 +6,17 @@ ghost use Rattle.rules.specs.Graph.{kind_bit, source_number};
 ghost use Rattle.rules.specs.Ranks.{kind_at, source_at};
 ghost use Rattle.layout.specs.Layout.{entries_at, entry_size, slip_size, seen_size, number_of};
 ghost use Rattle.layout.specs.Decoding.{number_by};
-ghost use Rattle.layout.specs.Slip.{next_place};
 ghost use Rattle.report.specs.Shown.{Ranged, EntryWritten, Shown};
 
 use layout::{COUNT_AT, ENTRIES_AT, ENTRY_NUMBER_AT, ENTRY_SIZE, NUMBER_SIZE};
 use numbers::{number_at, put_number};
-use shortest::Found;
+use shortest::{Found, Ranked};
 
 // The kind's bit of a rank.
 fn kind_byte(rank: u8) -> u8
     ensures { result ≡ kind_bit (kind_at rank) }
 {
-    if rank < 3 {
-        return 1;
-    }
-    if rank < 6 {
-        return 2;
-    }
-    if rank < 9 {
-        return 4;
-    }
-    8
+    1 << (rank / 3).min(3)
 }
 
 // The source of a rank: 0 lock dependency, 1 hard interrupt, 2 soft interrupt.
@@ -41,10 +31,14 @@ fn number_by(source: u8, seen: &[u8], k: usize, from: u8, to: u8) -> u32
     requires { (k ≤ 64) × (from < k) × (to < k) × (seen_size k ≤ length seen.now) }
     ensures { result ≡ number_by source (number_of seen.now k from to) }
 {
-    if source != 0 {
-        return 0;
+    if source == 0 {
+        number_at(
+            seen,
+            NUMBER_SIZE * (usize::from(from) * k + usize::from(to)),
+        )
+    } else {
+        0
     }
-    number_at(seen, NUMBER_SIZE * (from as usize * k + to as usize))
 }
 
 fn write_entry(slip: &mut [u8], i: usize, class: u8, kind: u8, source: u8, number: u32)
@@ -58,41 +52,17 @@ fn write_entry(slip: &mut [u8], i: usize, class: u8, kind: u8, source: u8, numbe
     put_number(slip, at + ENTRY_NUMBER_AT, number);
 }
 
-// The number of dependencies as a byte.
-fn count_byte(n: usize) -> u8
-    requires { n ≤ 64 }
-    ensures { result ≡ n }
-{
-    n as u8
-}
-
-// The place after i in a cycle.
-fn next_place(n: usize, i: usize) -> usize
-    requires { (i < n) × (n ≤ 64) }
-    ensures { result ≡ next_place n i }
-{
-    if i + 1 < n {
-        return i + 1;
-    }
-    0
-}
-
 // Writes the cycle.
-pub fn show(slip: &mut [u8], seen: &[u8], k: usize, found: Found)
-    requires { (k ≤ 64) × (found.n ≤ k) × Ranged k found × (seen_size k ≤ length seen.now) × (slip_size found.n ≤ length slip.old) }
-    ensures { Shown found k seen.now slip.old slip.new }
+pub fn show(slip: &mut [u8], seen: &[u8], k: usize, found: &Found)
+    requires { (k ≤ 64) × (found.now.n ≤ k) × Ranged k found.now × (seen_size k ≤ length seen.now) × (slip_size found.now.n ≤ length slip.old) }
+    ensures { Shown found.now k seen.now slip.old slip.new }
 {
-    let n = found.n;
-    let classes = found.classes;
-    let ranks = found.ranks;
-    slip[COUNT_AT] = count_byte(n);
-    let mut i = 0;
-    while i < n {
-        let rank = ranks[i];
+    slip[COUNT_AT] = found.n as u8;
+    for i in 0..found.n {
+        let Ranked { class, rank } = found.dependencies[i];
+        let next = found.dependencies[(i + 1) % found.n];
         let source = source_byte(rank);
-        let class = classes[i];
-        let number = number_by(source, seen, k, class, classes[next_place(n, i)]);
+        let number = number_by(source, seen, k, class, next.class);
         write_entry(slip, i, class, kind_byte(rank), source, number);
-        i += 1;
     }
 }

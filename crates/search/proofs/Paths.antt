@@ -3,16 +3,17 @@ use mathlib.Core.Path.{◌≡◌, refl, subst}
 use mathlib.Core.Bool.{Bool, true, false}
 use mathlib.Core.Logic.{inl, inr, ⊎_elim}
 use mathlib.Core.List.{List}
-use Prim.Native.Nat.{ℕ, ◌-◌, ◌<◌}
+use Prim.Native.Nat.{ℕ, ◌<◌}
 use native.Mathlib.Omega.{arith}
-use Rattle.words.specs.Bits.{bit, Without}
+use Rattle.words.specs.Bits.{bit}
 use Rattle.rules.specs.HeldLocks.{First, Second, E, S, R, N}
 use Rattle.rules.specs.Graph.{Kind, Graph}
 use Rattle.rules.specs.StrongPath.{strong_joint, StrongPath, one, more, Reaches}
 use Rattle.search.specs.Rows.{Successor, Rows, Ranged, Reached}
-use Rattle.search.specs.Arrivals.{word_by, none, In, size, Fits, Put, kind_by, Union, Onward, After}
+use Rattle.search.specs.Arrivals.{none, In, Fits, Put, kind_by, Union, Onward, After, Next}
+use Rattle.search.specs.Letters.{Successors, Joined, Less, HasNone}
 use Rattle.search.specs.declared.Arrivals.{Arrivals}
-use Rattle.search.proofs.Sets.{no_arrival, size_bound, none_left}
+use Rattle.search.proofs.Sets.{no_arrival, none_left, first_onward, onward_law}
 use Rattle.search.proofs.Visits.{after_N, snoc}
 
 -- Class t ends a strong path from class c, and is arrived at by a.
@@ -38,6 +39,20 @@ after_n o p =
       only = λ j b h. ⊎_elim (λ y. ⊎_elim (λ z. inl z) (λ m. inr (E, refl, m)) (o.only j b y)) (λ m. inr (S, refl, m)) (p.only j b h);
     }
 
+pub next_r : {rows : List ℕ} {x : ℕ} {t : Arrivals} → Successors rows x E t → Fits t → Next rows x R t
+next_r e f = record { after = after_r (first_onward e); fits = f }
+
+pub next_n : {rows : List ℕ} {x : ℕ} {t u v : Arrivals} → Successors rows x E t → Successors rows x S u → Joined t u v → Fits v → Next rows x N v
+next_n e s h f = record { after = after_n (first_onward e) (onward_law s h); fits = f }
+
+pub after_joined : {rows : List ℕ} {x : ℕ} {a : Second} {s t u : Arrivals} → Next rows x a t → Joined s t u → After rows x a s u
+after_joined o h =
+    record {
+      kept = λ j b. (h b).left j;
+      all = λ j f b z m. (h b).right j (o.after.all j f b z m);
+      only = λ j b m. ⊎_elim (λ y. inl y) (λ y. ⊎_elim (λ z. absurd (no_arrival j b z)) (λ n. inr n) (o.after.only j b y)) ((h b).only j m);
+    }
+
 -- What is reached from class c so far, and what of it is expanded.
 pub record Progress (rows : List ℕ) (K c : ℕ) (s e : Arrivals) : Type 0 where
   pub inside : (j : ℕ) (b : Second) → In s j b → j < K
@@ -45,9 +60,6 @@ pub record Progress (rows : List ℕ) (K c : ℕ) (s e : Arrivals) : Type 0 wher
   pub first : (j : ℕ) (f : First) (b : Second) → Successor rows c (kind_by f b) j → In s j b
   pub next_place : (i : ℕ) (a : Second) → In e i a → (j : ℕ) (f : First) (b : Second) → strong_joint a f ≡ true → Successor rows i (kind_by f b) j → In s j b
   pub fits : Fits e
-
-pub progress_less : {e d : Arrivals} {i : ℕ} (a : Second) → Put i a e d → bit (word_by e a) i ≡ 0 → 128 - size d < 128 - size e
-progress_less a p z = omega (arith, p.more z, size_bound p.fits)
 
 module _ {rows : List ℕ} {K c : ℕ} (ranged : Ranged K rows) (less : c < K) where
   pub progress_none : {s : Arrivals} → After rows c N none s → Progress rows K c s none
@@ -84,17 +96,15 @@ module _ {rows : List ℕ} {K c : ℕ} (ranged : Ranged K rows) (less : c < K) w
       }
 
 module _ {rows : List ℕ} {K c : ℕ} where
-  pub reached_law : {s e : Arrivals} {w r n : ℕ} → Ranged K rows → Progress rows K c s e → Without s.r e.r r → r ≡ 0 → Without s.n e.n n → n ≡ 0
-      → Union s.r s.n w → Reached K rows c w
-  reached_law {s} {e} {w} ranged p wr zr wn zn u =
+  pub reached_law : {s e d : Arrivals} {w : ℕ} → Ranged K rows → Progress rows K c s e → Less s e d → HasNone d → Union s.r s.n w → Reached K rows c w
+  reached_law {s} {e} {w = w} ranged p h z u =
       record {
         sound = λ g r t h. ⊎_elim (λ m. reaches g r t R m) (λ m. reaches g r t N m) (u.only t h);
         complete = λ g r t q. in_word t q.ends.second (along g r q.path (λ j b. p.first j q.begins.first b));
       }
     where
       all : (j : ℕ) (b : Second) → In s j b → In e j b
-      all j R m = none_left wr zr j (omega (arith, p.inside j R m, ranged.few)) m
-      all j N m = none_left wn zn j (omega (arith, p.inside j N m, ranged.few)) m
+      all j b m = none_left h z j b (omega (arith, p.inside j b m, ranged.few)) m
 
       reaches : (g : Graph) → Rows K g rows → (t : ℕ) (b : Second) → In s t b → Reaches K g c t
       reaches g r t b m = let a = p.sound g r t b m in record { begins = a.begins; ends = a.ends_by; path = a.path }

@@ -1,20 +1,20 @@
 -- Laws of sets of arrivals. Assumes nothing.
-use mathlib.Core.Path.{◌≡◌, refl, sym, ap, ◌∙◌}
-use mathlib.Core.Bool.{true, false, false≢true}
+use mathlib.Core.Path.{◌≡◌, refl, sym}
+use mathlib.Core.Bool.{Bool, true, false, not, false≢true}
+use Rattle.std.proofs.Common.{nat_eq}
+use Rattle.std.proofs.Math.Dec.{eqb-suc-zero}
 use mathlib.Core.Logic.{inl, inr, ⊎_elim}
 use mathlib.Core.List.{List}
-use Prim.Native.Nat.{ℕ, zero, suc, ◌+◌, ◌*◌, ◌^◌, ◌<◌, ◌≤◌}
+use Prim.Native.Nat.{ℕ, zero, suc, ◌+◌, ◌^◌, ◌<◌, ◌≤◌}
 use native.Mathlib.Omega.{arith}
-use lib.ListN.{get_or, set, length-set}
-use lib.Seq.{get_or-set_same, get_or-set_other}
 use lib.Bits.{bit_or}
 use lib.Count.{ones-le}
-use Rattle.words.specs.Bits.{bit, With, Without, Both}
+use Rattle.words.specs.Bits.{bit, Both}
 use Rattle.words.proofs.Words.{bit_zero, bit_cases, bit_two, bit_or_lem, some_bit, ones_mono, ones_more}
-use Rattle.rules.specs.HeldLocks.{Second, R, N}
-use Rattle.search.specs.Rows.{first_index, first_at, row_at}
-use Rattle.search.specs.Arrivals.{word_by, none, In, size, Fits, Put, kind_by, Union, Onward}
-use Rattle.search.specs.Walk.{arrivals, done_of, Words, Meets, Finished}
+use Rattle.rules.specs.HeldLocks.{First, Second, R, N}
+use Rattle.search.specs.Arrivals.{word_by, none, In, size, Fits, Put, Union, Onward}
+use Rattle.search.specs.Letters.{Successors, Joined, Less, HasNone}
+use Rattle.search.specs.Walk.{words_of, Meets, Finished}
 use Rattle.search.specs.declared.Arrivals.{Arrivals}
 
 -- ---- Words and sets of arrivals.
@@ -25,29 +25,13 @@ not_in w j n = ⊎_elim (λ y. absurd (n y)) (λ y. y) (bit_cases w j)
 pub empty : {w : ℕ} (j : ℕ) → w ≡ 0 → bit w j ≡ 1 → ⊥
 empty {w} j e h = let z : bit w j ≡ 0 = rw e (bit_zero j) in omega arith
 
+pub no_member : (w : ℕ) → w < 2 ^ 64 → ((j : ℕ) → bit w j ≡ 1 → ⊥) → w ≡ 0
+no_member zero l n = refl
+no_member (suc w) l n = let m = some_bit 64 (suc w) (omega arith) l in absurd (n m.0 m.2)
+
 pub no_arrival : (j : ℕ) (b : Second) → In none j b → ⊥
 no_arrival j R h = empty j refl h
 no_arrival j N h = empty j refl h
-
-pub put_r : {s : Arrivals} {c x : ℕ} → Fits s → c < 64 → With s.r c x → Put c R s (record { r = x; n = s.n })
-put_r f l w =
-    record {
-      there = w.there;
-      kept = λ j. elim [ R ↦ λ h. w.kept j h | N ↦ λ h. h ];
-      only = λ j. elim [ R ↦ λ h. ⊎_elim (λ y. inl y) (λ e. inr (e, refl)) (w.only j h) | N ↦ λ h. inl h ];
-      more = λ z. let e = w.more z in omega arith;
-      fits = record { r = w.within 64 f.r l; n = f.n };
-    }
-
-pub put_n : {s : Arrivals} {c x : ℕ} → Fits s → c < 64 → With s.n c x → Put c N s (record { r = s.r; n = x })
-put_n f l w =
-    record {
-      there = w.there;
-      kept = λ j. elim [ N ↦ λ h. w.kept j h | R ↦ λ h. h ];
-      only = λ j. elim [ N ↦ λ h. ⊎_elim (λ y. inl y) (λ e. inr (e, refl)) (w.only j h) | R ↦ λ h. inl h ];
-      more = λ z. let e = w.more z in omega arith;
-      fits = record { r = f.r; n = w.within 64 f.n l };
-    }
 
 pub size_bound : {s : Arrivals} → Fits s → size s ≤ 128
 size_bound {s} f = omega (arith, ones-le 64 s.r f.r, ones-le 64 s.n f.n)
@@ -60,8 +44,8 @@ grows {s} t {c} R f l k o m =
 grows {s} t {c} N f l k o m =
     omega (arith, ones_more s.n t.n c f.n l (λ j h. k j N h) o m, ones_mono 64 s.r t.r f.r (λ j h. k j R h))
 
-pub none_left : {w v r : ℕ} → Without w v r → r ≡ 0 → (j : ℕ) → j < 64 → bit w j ≡ 1 → bit v j ≡ 1
-none_left {v = v} wo e j l m = ⊎_elim (λ y. y) (λ y. absurd (empty j e (wo.all j l m y))) (bit_cases v j)
+pub none_left : {s t d : Arrivals} → Less s t d → HasNone d → (j : ℕ) (b : Second) → j < 64 → In s j b → In t j b
+none_left {t = t} h e j b l m = ⊎_elim (λ y. y) (λ y. absurd (e j b ((h b).all j l m y))) (bit_cases (word_by t b) j)
 
 pub union_law : (w v : ℕ) → Union w v (bit_or w v)
 union_law w v =
@@ -73,29 +57,18 @@ union_law w v =
 
 -- ---- The words of a class.
 
-pub first_small : (first : ℕ) → first ≡ first_index (first_at first) → first ≤ 2
-first_small zero e = omega arith
-first_small (suc n) e = omega arith
+pub onward_law : {rows : List ℕ} {x : ℕ} {f : First} {s t u : Arrivals} → Successors rows x f t → Joined s t u → Onward rows x f s u
+onward_law e h = record { kept = λ j b. (h b).left j; all = λ j b m. (h b).right j (rw e m); only = λ j b m. ⊎_elim (λ y. inl y) (λ y. inr (rw e at y)) ((h b).only j m) }
 
-module _ (rows : List ℕ) (x first : ℕ) (e : first ≡ first_index (first_at first)) where
-  pub row_r : get_or rows (4 * x + first) 0 ≡ row_at rows x (kind_by (first_at first) R)
-  row_r = ap (λ (i : ℕ). get_or rows i 0) (omega arith)
-
-  pub row_n : get_or rows (4 * x + first + 1) 0 ≡ row_at rows x (kind_by (first_at first) N)
-  row_n = ap (λ (i : ℕ). get_or rows i 0) (omega arith)
-
-  pub onward_law : {s t : Arrivals} → Union s.r (get_or rows (4 * x + first) 0) t.r → Union s.n (get_or rows (4 * x + first + 1) 0) t.n
-      → Onward rows x (first_at first) s t
-  onward_law r n =
-      let r = rw row_r at r in
-      let n = rw row_n at n in
-      record {
-        kept = λ j. elim [ R ↦ r.left j | N ↦ n.left j ];
-        all = λ j. elim [ R ↦ r.right j | N ↦ n.right j ];
-        only = λ j. elim [ R ↦ r.only j | N ↦ n.only j ];
-      }
+pub first_onward : {rows : List ℕ} {x : ℕ} {f : First} {t : Arrivals} → Successors rows x f t → Onward rows x f none t
+first_onward e = record { kept = λ j b h. absurd (no_arrival j b h); all = λ j b m. rw e m; only = λ j b m. inr (rw e at m) }
 
 -- ---- The walk's sets.
+
+-- A test for 0, both ways.
+pub by_zero : (P : Bool → Type 0) (w : ℕ) → ((w ≡ 0 → ⊥) → P true) → (w ≡ 0 → P false) → P (not (nat_eq w 0))
+by_zero P zero f t = t refl
+by_zero P (suc w) f t = rw eqb-suc-zero (f (λ e. omega arith))
 
 pub meets_by : {s t : Arrivals} {w : ℕ} (b : Second) → Both (word_by s b) (word_by t b) w → w < 2 ^ 64 → (w ≡ 0 → ⊥) → Meets s t true
 meets_by {w = w} b h l n =
@@ -106,14 +79,5 @@ pub meets_not : {s t : Arrivals} {r n : ℕ} → Both s.r t.r r → r ≡ 0 → 
 meets_not hr zr hn zn =
     record { some = λ z. absurd (false≢true z); none = λ _ j. elim [ R ↦ λ x y. empty j zr (hr.all j x y) | N ↦ λ x y. empty j zn (hn.all j x y) ] }
 
-pub finished_r : {done : List ℕ} {c x : ℕ} → Words done → c < 64 → With (get_or done 0 0) c x → Finished done c R (set done 0 x)
-finished_r {done} {c} {x} d l w =
-    let p = put_r d.fits l w in
-    let e : done_of (set done 0 x) ≡ arrivals x (get_or done 1 0) = rw (get_or-set_same done 0 x 0 (omega (arith, d.long)), get_or-set_other done 0 1 x 0 (λ z. omega arith)) refl in
-    record { words = record { long = length-set done 0 x ∙ d.long; fits = rw e p.fits }; put = rw e p }
-
-pub finished_n : {done : List ℕ} {c x : ℕ} → Words done → c < 64 → With (get_or done 1 0) c x → Finished done c N (set done 1 x)
-finished_n {done} {c} {x} d l w =
-    let p = put_n d.fits l w in
-    let e : done_of (set done 1 x) ≡ arrivals (get_or done 0 0) x = rw (get_or-set_same done 1 x 0 (omega (arith, d.long)), get_or-set_other done 1 0 x 0 (λ z. omega arith)) refl in
-    record { words = record { long = length-set done 1 x ∙ d.long; fits = rw e p.fits }; put = rw e p }
+pub finished : {s t : Arrivals} {c : ℕ} {a : Second} → Put c a s t → Finished (words_of s) c a (words_of t)
+finished p = record { words = record { long = refl; fits = p.fits }; put = p }

@@ -3,10 +3,9 @@ use mathlib.Core.Path.{◌≡◌, refl, sym, subst₂}
 use mathlib.Core.Bool.{Bool, true, false, false≢true}
 use mathlib.Core.Logic.{⊎_elim}
 use mathlib.Core.List.{List}
-use Prim.Native.Nat.{ℕ, ◌-◌, ◌<◌, ◌≤◌}
+use Prim.Native.Nat.{ℕ, ◌-◌, ◌^◌, ◌<◌}
 use native.Mathlib.Omega.{arith}
-use lib.ListN.{length}
-use Rattle.words.specs.Bits.{bit, Without, Lowest}
+use Rattle.words.specs.Bits.{bit}
 use Rattle.words.proofs.Words.{bit_zero, bit_low}
 use Rattle.rules.specs.HeldLocks.{First, Second, E, S, R, N}
 use Rattle.rules.specs.Graph.{Kind, Graph}
@@ -14,10 +13,11 @@ use Rattle.rules.specs.StrongPath.{strong_joint, Dependency, Joint, StrongPath, 
 use Rattle.rules.specs.Decision.{cyclic}
 use Rattle.rules.proofs.Decided.{in_range, cyclic_sound, cyclic_complete}
 use Rattle.search.specs.Rows.{Successor, Rows}
-use Rattle.search.specs.Arrivals.{word_by, none, In, size, Put, kind_by, Next}
-use Rattle.search.specs.Walk.{done_of, Words, Ends, ends, Settled, Grown, LeadsTo, Meets, Finished, Given, Visited, Decided}
+use Rattle.search.specs.Arrivals.{word_by, none, In, size, Fits, Put, kind_by, Next}
+use Rattle.search.specs.Letters.{Less, HasNone, Taken}
+use Rattle.search.specs.Walk.{done_of, words_of, Words, Ends, ends, Settled, Grown, LeadsTo, Meets, Finished, Given, Visited, Decided}
 use Rattle.search.specs.declared.Arrivals.{Arrivals}
-use Rattle.search.proofs.Sets.{not_in, no_arrival, size_bound, grows, none_left}
+use Rattle.search.proofs.Sets.{not_in, no_arrival, size_bound, grows, none_left, finished}
 
 pub after_N : (f : First) → strong_joint N f ≡ true
 after_N E = refl
@@ -48,16 +48,18 @@ pub record Undone (rows : List ℕ) (x : ℕ) (a : Second) (done : List ℕ) (y 
   pub goes : Follows rows x a y b
   pub new : bit (word_by (done_of done) b) y ≡ 0
 
-pub undone_law : {rows done : List ℕ} {x y w : ℕ} {a : Second} {t : Arrivals} (b : Second) → Next rows x a t
-    → Without (word_by t b) (word_by (done_of done) b) w → Lowest w y → Undone rows x a done y b
-undone_law {y = y} b o h l = record { small = l.small; goes = follows o y b (h.from y l.member); new = h.out y l.member }
+pub undone_law : {rows : List ℕ} {done : Arrivals} {x y : ℕ} {a b : Second} {t d : Arrivals} → Next rows x a t → Less t done d → Taken d y b
+    → Undone rows x a (words_of done) y b
+undone_law {y = y} {b = b} o h l = record { small = l.small; goes = follows o y b ((h b).from y l.member); new = (h b).out y l.member }
+
+fits_by : {t : Arrivals} → Fits t → (b : Second) → word_by t b < 2 ^ 64
+fits_by f R = f.r
+fits_by f N = f.n
 
 -- Nothing that follows is undone.
-pub all_done : (done : List ℕ) {rows : List ℕ} {x r n : ℕ} {a : Second} {t u : Arrivals} → Next rows x a t → Next rows x a u
-    → Without t.r (done_of done).r r → r ≡ 0 → Without u.n (done_of done).n n → n ≡ 0 → (y : ℕ) (b : Second)
-    → Follows rows x a y b → In (done_of done) y b
-all_done done {t = t} o p wr zr wn zn y R m = let h = o.after.all y m.0 R m.1 m.2 in none_left wr zr y (bit_low t.r y o.fits.r h) h
-all_done done {u = u} o p wr zr wn zn y N m = let h = p.after.all y m.0 N m.1 m.2 in none_left wn zn y (bit_low u.n y p.fits.n h) h
+pub all_done : {rows : List ℕ} {done : Arrivals} {x : ℕ} {a : Second} {t d : Arrivals} → Next rows x a t → Less t done d → HasNone d
+    → (y : ℕ) (b : Second) → Follows rows x a y b → In done y b
+all_done {t = t} o h e y b m = let i = o.after.all y m.0 b m.1 m.2 in none_left h e y b (bit_low (word_by t b) y (fits_by o.fits b) i) i
 
 -- ---- A visit of class x, arrived at by a, which is put on the path.
 
@@ -68,11 +70,12 @@ pub record Visiting (rows : List ℕ) (x : ℕ) (a : Second) (on here : Arrivals
   pub none_back : (y : ℕ) (b : Second) → Follows rows x a y b → In here y b → ⊥
 
 module _ {rows : List ℕ} where
-  pub grown_trans : {s t u : List ℕ} → Grown rows s t → Grown rows t u → Grown rows s u
-  grown_trans c d = record { settled = d.settled; kept = λ j b h. d.kept j b (c.kept j b h) }
-
   pub ends_r : {x : ℕ} → Ends rows x N → Ends rows x R
   ends_r (ends h) = ends (λ j k i s. h j k (after_N k.first) s)
+
+  also_r : {x : ℕ} (a : Second) → Ends rows x a → Ends rows x R
+  also_r R h = h
+  also_r N h = ends_r h
 
   grown_more : {s t u : List ℕ} {x : ℕ} {a : Second} → Grown rows s t → Finished t x a u → Ends rows x a → Grown rows s u
   grown_more c f e =
@@ -122,16 +125,16 @@ module _ {rows : List ℕ} where
     visiting g p o h e = record { given = g; pushed = p; none_back = λ y b m k. h.none e y b (o.after.all y m.0 b m.1 m.2) k }
 
     module _ {done : List ℕ} {left : ℕ} (v : Visiting rows x a on here done left) where
-      pub some_left : 1 ≤ left
-      some_left = omega (arith, v.given.enough, v.pushed.more v.given.fresh, size_bound v.pushed.fits)
+      pub deeper : 128 - size here < 128 - size on
+      deeper = omega (arith, v.pushed.more v.given.fresh, size_bound v.pushed.fits)
 
-      pub call_given : {u : List ℕ} {y : ℕ} {b : Second} → Grown rows done u → Undone rows x a u y b → Given rows y b here u (left - 1)
+      pub call_given : {u : List ℕ} {y : ℕ} {b : Second} → Grown rows done u → Undone rows x a u y b → Given rows y b here u (128 - size here)
       call_given {y = y} {b} c n =
           record {
             class = n.small;
             fresh = not_in (word_by here b) y (v.none_back y b n.goes);
             fits = v.pushed.fits;
-            enough = omega (arith, v.given.enough, v.pushed.more v.given.fresh, size_bound v.pushed.fits);
+            enough = omega (arith, size_bound v.pushed.fits);
             settled = c.settled;
           }
 
@@ -154,30 +157,25 @@ module _ {rows : List ℕ} where
 
   -- ---- The visit's end.
 
-  pub finish_r : {x left : ℕ} {on here : Arrivals} {done u w : List ℕ} → Visiting rows x R on here done left → Grown rows done u
-      → ((y : ℕ) (b : Second) → Follows rows x R y b → In (done_of u) y b) → Finished u x R w → Visited rows x R on done false w
-  finish_r v c all f = record { closed = λ z. absurd (false≢true z); settled = λ _. (grown_more c f (ends_here v c all), f.put.there) }
-
-  pub finish_n : {x left : ℕ} {on here : Arrivals} {done u w z : List ℕ} → Visiting rows x N on here done left → Grown rows done u
-      → ((y : ℕ) (b : Second) → Follows rows x N y b → In (done_of u) y b) → Finished u x R w → Finished w x N z → Visited rows x N on done false z
-  finish_n v c all f l =
+  pub finish : {x left : ℕ} {a : Second} {on here : Arrivals} {done : List ℕ} {u w z : Arrivals} → Visiting rows x a on here done left
+      → Grown rows done (words_of u) → ((y : ℕ) (b : Second) → Follows rows x a y b → In u y b) → Put x R u w → Put x a w z
+      → Visited rows x a on done false (words_of z)
+  finish {a = a} v c all f l =
       let e = ends_here v c all in
-      record { closed = λ z. absurd (false≢true z); settled = λ _. (grown_more (grown_more c f (ends_r e)) l e, l.put.there) }
+      record { closed = λ z. absurd (false≢true z); settled = λ _. (grown_more (grown_more c (finished f) (also_r a e)) (finished l) e, l.there) }
 
 -- ---- All classes.
 
-pub start_given : {rows done : List ℕ} {x : ℕ} → x < 64 → Settled rows done → Given rows x N none done 128
-start_given {x = x} l s = record { class = l; fresh = bit_zero x; fits = record { r = omega arith; n = omega arith }; enough = omega arith; settled = s }
+pub start_given : {rows done : List ℕ} {x : ℕ} → x < 64 → Settled rows done → Given rows x N none done (128 - size none)
+start_given {x = x} l s =
+    let f : Fits none = record { r = omega arith; n = omega arith } in
+    record { class = l; fresh = bit_zero x; fits = f; enough = omega (arith, size_bound f); settled = s }
 
 pub already : {rows done : List ℕ} {x : ℕ} → Settled rows done → In (done_of done) x N → Visited rows x N none done false done
 already s h = record { closed = λ z. absurd (false≢true z); settled = λ _. (record { settled = s; kept = λ j b m. m }, h) }
 
-pub none_done : {rows done : List ℕ} → length done ≡ 2 → done_of done ≡ none → Settled rows done
-none_done l e =
-    record {
-      words = record { long = l; fits = rw e (record { r = omega arith; n = omega arith }) };
-      over = λ j b h. absurd (no_arrival j b (rw e at h));
-    }
+pub none_done : {rows : List ℕ} → Settled rows (words_of none)
+none_done = record { words = record { long = refl; fits = record { r = omega arith; n = omega arith } }; over = λ j b h. absurd (no_arrival j b h) }
 
 module _ {K : ℕ} {g : Graph} {rows : List ℕ} (r : Rows K g rows) where
   -- Where all strong paths end there is no closed one.

@@ -1,3 +1,4 @@
 pub mod Rows
 pub mod Arrivals
 pub mod Walk
+pub mod Letters

@@ -1,5 +1,5 @@
 -- What the walk is given and gives: whether there is a closed strong path.
-use Rattle.std.specs.Prelude.{◌≡◌, Bool, true, false, List, ℕ, ◌+◌, ◌<◌, ◌≤◌, length, get_or}
+use Rattle.std.specs.Prelude.{◌≡◌, Bool, true, false, List, [], ◌∷◌, ℕ, ◌+◌, ◌<◌, ◌≤◌, length, get_or}
 use Rattle.words.specs.Bits.{bit}
 use Rattle.rules.specs.HeldLocks.{Second}
 use Rattle.rules.specs.Graph.{Kind, Graph}
@@ -15,6 +15,10 @@ arrivals r n = record { r = r; n = n }
 -- What is done, as two words.
 abbrev pub done_of : List ℕ → Arrivals
 done_of done = arrivals (get_or done 0 0) (get_or done 1 0)
+
+-- A set as the two words that the laws of the walk speak of: done_of (words_of s) is s.
+abbrev pub words_of : Arrivals → List ℕ
+words_of s = s.r ∷ s.n ∷ []
 
 pub record Words (done : List ℕ) : Type 0 where
   pub long : length done ≡ 2

@@ -2,13 +2,28 @@
 // where the kinds ER, EN, SR, SN are 0, 1, 2, 3.
 #![tactic(auto)]
 
-ghost use Rattle.std.specs.Prelude.{◌≡◌, ◌+◌, ◌-◌, ◌*◌, ◌<◌, ◌≤◌};
-ghost use Rattle.rules.specs.HeldLocks.{E, S, R, N};
-ghost use Rattle.search.specs.Rows.{first_at, first_index, Ranged, Reached};
-ghost use Rattle.search.specs.Arrivals.{none, Put, Union, Onward, Next};
-ghost use Rattle.search.specs.Walk.{arrivals, Words, Settled, Meets, Finished, Given, Visited, Decided};
+ghost use Rattle.std.specs.Prelude.{◌≡◌, ◌+◌, ◌-◌, ◌*◌, ◌<◌, ◌≤◌, IsTrue, ◌↔◌, MatchOption};
+ghost use Rattle.rules.specs.HeldLocks.{N};
+ghost use Rattle.search.specs.Rows.{Ranged, Reached};
+ghost use Rattle.search.specs.Arrivals.{none, word_by, In, Put, Next, size};
+ghost use Rattle.search.specs.Letters.{first_letter, second_letter, Joined, Less, Successors, HasNone, Taken};
+ghost use Rattle.search.specs.Walk.{Settled, Meets, Given, Visited, Decided, words_of};
 
 use words::{both, lowest, with, without};
+
+// The first letter of a dependency: E from an exclusive holder, S from a shared one. Its number is the place of its kinds.
+#[derive(Clone, Copy)]
+pub enum FirstLetter {
+    E = 0,
+    S = 2,
+}
+
+// The second letter: R to a recursive reader who waits, N to anyone else.
+#[derive(Clone, Copy)]
+pub enum SecondLetter {
+    R,
+    N,
+}
 
 // A set of arrivals: the classes arrived at by a dependency whose second letter is R, and those by N.
 #[derive(Clone, Copy)]
@@ -17,180 +32,146 @@ pub struct Arrivals {
     pub n: u64,
 }
 
-fn with_r(s: Arrivals, class: u32) -> Arrivals
-    requires { class < 64 }
-    ensures { Put class R s result }
-{
-    Arrivals {
-        r: with(s.r, class),
-        n: s.n,
+impl Arrivals {
+    pub const NONE: Arrivals = Arrivals { r: 0, n: 0 };
+
+    // The classes arrived at by the letter.
+    pub fn by(self, letter: SecondLetter) -> u64
+        ensures { result ≡ word_by self (second_letter letter) }
+    {
+        match letter {
+            SecondLetter::R => self.r,
+            SecondLetter::N => self.n,
+        }
+    }
+
+    // The set with class put in under the letter.
+    pub fn with(self, class: u32, letter: SecondLetter) -> Arrivals
+        requires { class < 64 }
+        ensures { Put class (second_letter letter) self result }
+    {
+        match letter {
+            SecondLetter::R => Arrivals {
+                r: with(self.r, class),
+                n: self.n,
+            },
+            SecondLetter::N => Arrivals {
+                r: self.r,
+                n: with(self.n, class),
+            },
+        }
+    }
+
+    pub fn union(self, other: Arrivals) -> Arrivals
+        ensures { Joined self other result }
+    {
+        Arrivals {
+            r: self.r | other.r,
+            n: self.n | other.n,
+        }
+    }
+
+    fn without(self, other: Arrivals) -> Arrivals
+        ensures { Less self other result }
+    {
+        Arrivals {
+            r: without(self.r, other.r),
+            n: without(self.n, other.n),
+        }
+    }
+
+    // Whether an arrival is in both sets.
+    pub fn meets(self, other: Arrivals) -> bool
+        ensures { Meets self other result }
+    {
+        both(self.r, other.r) != 0 || both(self.n, other.n) != 0
+    }
+
+    pub fn contains(self, class: u32, letter: SecondLetter) -> bool
+        requires { class < 64 }
+        ensures { IsTrue result ↔ In self class (second_letter letter) }
+    {
+        (self.by(letter) >> class) % 2 == 1
+    }
+
+    pub fn is_empty(self) -> bool
+        ensures { IsTrue result ↔ HasNone self }
+    {
+        self.r == 0 && self.n == 0
+    }
+
+    // An arrival of the set: the lowest class of those by N, or else of those by R.
+    fn first(self) -> Option<(u32, SecondLetter)>
+        ensures { MatchOption result (HasNone self) (λ a. Taken self a.0 (second_letter a.1)) }
+    {
+        if self.n != 0 {
+            Some((lowest(self.n), SecondLetter::N))
+        } else if self.r != 0 {
+            Some((lowest(self.r), SecondLetter::R))
+        } else {
+            None
+        }
     }
 }
 
-fn with_n(s: Arrivals, class: u32) -> Arrivals
+// The arrivals to which a dependency with the first letter goes from class.
+pub fn successors(rows: &[u64; 256], class: u32, first: FirstLetter) -> Arrivals
     requires { class < 64 }
-    ensures { Put class N s result }
-{
-    Arrivals {
-        r: s.r,
-        n: with(s.n, class),
-    }
-}
-
-fn union(word: u64, other: u64) -> u64
-    ensures { Union word other result }
-{
-    word | other
-}
-
-// The arrivals s, and those to which a dependency with the first letter goes from class.
-fn onward(rows: &[u64; 256], class: u32, first: u32, s: Arrivals) -> Arrivals
-    requires { (class < 64) × (first ≡ first_index (first_at first)) }
-    ensures { Onward rows.now class (first_at first) s result }
+    ensures { Successors rows.now class (first_letter first) result }
 {
     let i = 4 * class as usize + first as usize;
-    let to_r = rows[i];
-    let to_n = rows[i + 1];
     Arrivals {
-        r: union(s.r, to_r),
-        n: union(s.n, to_n),
+        r: rows[i],
+        n: rows[i + 1],
     }
 }
 
-// The arrivals that follow class, arrived at by R: only a dependency whose first letter is E goes on.
-fn after_r(rows: &[u64; 256], class: u32) -> Arrivals
+// The arrivals that follow class, arrived at by the letter: after R only a dependency whose first letter is E goes on, after N every one.
+fn after(rows: &[u64; 256], class: u32, letter: SecondLetter) -> Arrivals
     requires { class < 64 }
-    ensures { Next rows.now class R result }
+    ensures { Next rows.now class (second_letter letter) result }
 {
-    onward(rows, class, 0, Arrivals { r: 0, n: 0 })
-}
-
-// The arrivals that follow class, arrived at by N: every dependency goes on.
-fn after_n(rows: &[u64; 256], class: u32) -> Arrivals
-    requires { class < 64 }
-    ensures { Next rows.now class N result }
-{
-    onward(
-        rows,
-        class,
-        2,
-        onward(rows, class, 0, Arrivals { r: 0, n: 0 }),
-    )
+    let by_e = successors(rows, class, FirstLetter::E);
+    match letter {
+        SecondLetter::R => by_e,
+        SecondLetter::N => by_e.union(successors(rows, class, FirstLetter::S)),
+    }
 }
 
 // ---- The walk: is there a closed strong path?
 
-// Whether an arrival of the set is among those on the path to here.
-fn meets(s: Arrivals, on_r: u64, on_n: u64) -> bool
-    ensures { Meets s (arrivals on_r on_n) result }
+// Whether a strong path goes on from class, arrived at by the letter, to an arrival on the path to here. done: the arrivals whose strong paths
+// all end. What ends after N ends after R too.
+fn visit(
+    rows: &[u64; 256],
+    class: u32,
+    letter: SecondLetter,
+    on: Arrivals,
+    done: &mut Arrivals,
+) -> bool
+    requires { Given rows.now class (second_letter letter) on (words_of done.old) (128 - size on) }
+    ensures { Visited rows.now class (second_letter letter) on (words_of done.old) result (words_of done.new) }
 {
-    if both(s.r, on_r) != 0 {
+    let here = on.with(class, letter);
+    if after(rows, class, letter).meets(here) {
         return true;
     }
-    if both(s.n, on_n) != 0 {
-        return true;
+    while let Some((next, by)) = after(rows, class, letter).without(*done).first() {
+        if visit(rows, next, by, here, done) {
+            return true;
+        }
     }
+    *done = done.with(class, SecondLetter::R).with(class, letter);
     false
 }
 
-// done: the arrivals whose strong paths all end, done[0] by R and done[1] by N.
-fn finish_r(done: &mut [u64; 2], class: u32)
-    requires { Words done.old × (class < 64) }
-    ensures { Finished done.old class R done.new }
-{
-    done[0] = with(done[0], class);
-}
-
-fn finish_n(done: &mut [u64; 2], class: u32)
-    requires { Words done.old × (class < 64) }
-    ensures { Finished done.old class N done.new }
-{
-    done[1] = with(done[1], class);
-}
-
-// Whether a strong path goes on from class, arrived at by R, to an arrival on the path to here (on_r, on_n). left: how many dependencies the
-// path may still have.
-#[cycle(walk)]
-fn arrived_by_r(
-    rows: &[u64; 256],
-    class: u32,
-    on_r: u64,
-    on_n: u64,
-    done: &mut [u64; 2],
-    left: u32,
-) -> bool
-    requires { Given rows.now class R (arrivals on_r on_n) done.old left }
-    ensures { Visited rows.now class R (arrivals on_r on_n) done.old result done.new }
-{
-    let here = with(on_r, class);
-    if meets(after_r(rows, class), here, on_n) {
-        return true;
-    }
-    loop {
-        let by_n = without(after_r(rows, class).n, done[1]);
-        if by_n != 0 {
-            if arrived_by_n(rows, lowest(by_n), here, on_n, done, left - 1) {
-                return true;
-            }
-        } else {
-            let by_r = without(after_r(rows, class).r, done[0]);
-            if by_r == 0 {
-                finish_r(done, class);
-                return false;
-            }
-            if arrived_by_r(rows, lowest(by_r), here, on_n, done, left - 1) {
-                return true;
-            }
-        }
-    }
-}
-
-// The same from class, arrived at by N.
-#[cycle(walk)]
-fn arrived_by_n(
-    rows: &[u64; 256],
-    class: u32,
-    on_r: u64,
-    on_n: u64,
-    done: &mut [u64; 2],
-    left: u32,
-) -> bool
-    requires { Given rows.now class N (arrivals on_r on_n) done.old left }
-    ensures { Visited rows.now class N (arrivals on_r on_n) done.old result done.new }
-{
-    let here = with(on_n, class);
-    if meets(after_n(rows, class), on_r, here) {
-        return true;
-    }
-    loop {
-        let by_n = without(after_n(rows, class).n, done[1]);
-        if by_n != 0 {
-            if arrived_by_n(rows, lowest(by_n), on_r, here, done, left - 1) {
-                return true;
-            }
-        } else {
-            let by_r = without(after_n(rows, class).r, done[0]);
-            if by_r == 0 {
-                finish_r(done, class);
-                finish_n(done, class);
-                return false;
-            }
-            if arrived_by_r(rows, lowest(by_r), on_r, here, done, left - 1) {
-                return true;
-            }
-        }
-    }
-}
-
 // Whether a closed strong path is met from class. Classes that are done are not visited again.
-fn met_from(rows: &[u64; 256], class: u32, done: &mut [u64; 2]) -> bool
-    requires { (class < 64) × Settled rows.now done.old }
-    ensures { Visited rows.now class N none done.old result done.new }
+fn met_from(rows: &[u64; 256], class: u32, done: &mut Arrivals) -> bool
+    requires { (class < 64) × Settled rows.now (words_of done.old) }
+    ensures { Visited rows.now class N none (words_of done.old) result (words_of done.new) }
 {
-    if (done[1] >> class) % 2 == 1 {
-        return false;
-    }
-    arrived_by_n(rows, class, 0, 0, done, 128)
+    !done.contains(class, SecondLetter::N)
+        && visit(rows, class, SecondLetter::N, Arrivals::NONE, done)
 }
 
 // Whether there is a closed strong path.
@@ -198,13 +179,11 @@ pub fn is_cyclic(rows: &[u64; 256], k: u32) -> bool
     requires { k ≤ 64 }
     ensures { Decided k rows.now result }
 {
-    let mut done = [0u64; 2];
-    let mut class: u32 = 0;
-    while class < k {
+    let mut done = Arrivals::NONE;
+    for class in 0..k {
         if met_from(rows, class, &mut done) {
             return true;
         }
-        class += 1;
     }
     false
 }
@@ -216,21 +195,11 @@ pub fn reach(rows: &[u64; 256], k: u32, class: u32) -> u64
     requires { Ranged k rows.now × (class < k) }
     ensures { Reached k rows.now class result }
 {
-    let mut reached = after_n(rows, class);
-    let mut expanded = Arrivals { r: 0, n: 0 };
-    loop {
-        let todo_n = without(reached.n, expanded.n);
-        let todo_r = without(reached.r, expanded.r);
-        if todo_n != 0 {
-            let c = lowest(todo_n);
-            expanded = with_n(expanded, c);
-            reached = onward(rows, c, 2, onward(rows, c, 0, reached));
-        } else if todo_r != 0 {
-            let c = lowest(todo_r);
-            expanded = with_r(expanded, c);
-            reached = onward(rows, c, 0, reached);
-        } else {
-            return union(reached.r, reached.n);
-        }
+    let mut reached = after(rows, class, SecondLetter::N);
+    let mut expanded = Arrivals::NONE;
+    while let Some((next, by)) = reached.without(expanded).first() {
+        expanded = expanded.with(next, by);
+        reached = reached.union(after(rows, next, by));
     }
+    reached.r | reached.n
 }

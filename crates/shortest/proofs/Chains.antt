@@ -6,8 +6,8 @@ use mathlib.Core.Logic.{inl, inr}
 use Prim.Native.Nat.{ℕ, zero, suc, ◌+◌, ◌-◌, ◌*◌, ◌/◌, ◌%◌, ◌<◌, ◌≤◌}
 use native.Mathlib.Omega.{arith}
 use native.Mathlib.Decide.{ℕ_discrete, dec_lt}
-use lib.ListN.{length, length-append}
-use lib.Seq.{get_or-append-add}
+use lib.ListN.{length, set, get_or, length-append}
+use lib.Seq.{get_or-append-add, get_or-set_same, get_or-set_other}
 use Rattle.words.specs.Bits.{bit}
 use Rattle.rules.specs.HeldLocks.{Second, R, N}
 use Rattle.rules.specs.Graph.{Kind, Graph, Source, dependency_by}
@@ -25,16 +25,30 @@ use Rattle.search.specs.declared.Arrivals.{Arrivals}
 use Rattle.search.proofs.Visits.{after_N}
 use Rattle.routes.specs.Routes.{widest, Step, Home, rank_of, Chosen, Greedy, done, choose}
 use Rattle.starts.specs.Levels.{letter_at, Above, level_at, Level, Filled}
-use Rattle.starts.specs.Starts.{Begun}
-use Rattle.shortest.specs.Shortest.{Encoded, ByRank, RankWords, ranks_after, Hit, Picked, found_entry, Written, Letter, Prepared, Chained, Shortest}
-use Rattle.starts.specs.declared.Begin.{Begin}
+use Rattle.starts.specs.Starts.{Begin, begins, Begun, start_of}
+use Rattle.shortest.specs.Shortest.{Encoded, ByRank, RankWords, ranks_after, Hit, Picked, letter_number, found_entry, Written, Letter, Prepared, Chained, Shortest}
+use Rattle.starts.specs.declared.Begin as code
 use Rattle.shortest.specs.declared.Choice.{Choice}
 use Rattle.shortest.specs.declared.Found.{Found}
+use Rattle.shortest.specs.declared.Ranked.{Ranked}
+use Rattle.std.specs.Prelude.{Some}
+use Rattle.search.specs.Letters.{second_letter}
+use Rattle.search.specs.declared.SecondLetter.{SecondLetter}
+use Rattle.search.specs.declared.SecondLetter.TheVariants as letter
 use Rattle.routes.proofs.Routes.{first_E, place_E, step, stays, home_round, least_law}
 use Rattle.starts.proofs.Levels.{home_first}
-use Rattle.starts.proofs.Starts.{above_round, begun_start, begun_some}
+use Rattle.starts.proofs.Starts.{same_start, above_round, begun_start, begun_some}
 use Rattle.shortest.proofs.Words.{place_of_E}
 use Rattle.shortest.proofs.Picks.{ranks_few}
+
+pub letter_is_number : (l : SecondLetter) → letter_at (letter_number l) ≡ second_letter l
+letter_is_number letter.R = refl
+letter_is_number letter.N = refl
+
+pub picked_by_number : {words : List ℕ} {s : Arrivals} {p : Choice} (l : SecondLetter) → Picked words (ranks_after (second_letter l)) s p
+    → Picked words (ranks_after (letter_at (letter_number l))) s p
+picked_by_number letter.R k = k
+picked_by_number letter.N k = k
 
 -- A rank is low enough exactly if its first letter may follow.
 rank_after : (b : Second) (k : Kind) (o : Source) → strong_joint b k.first ≡ true → rank k o < ranks_after b
@@ -179,6 +193,33 @@ module _ {desk sheet : List ℕ} {K size start by : ℕ} {levels : List ℕ} {i 
   pub going_more : Going desk sheet K size start by levels (i + 1) f' p.to letter'
   going_more = record { n = w.n ∙ o.n; inside = to_less; home = next_home; route = next_route; on = next_on }
 
+pub written : (f : Found) (i class rank : ℕ) → i < length f.dependencies
+    → Written f i class rank (record { n = f.n; dependencies = set f.dependencies i (record { class = class; rank = rank }) })
+written f i class rank l =
+    let e = get_or-set_same f.dependencies i (record { class = class; rank = rank }) (record { class = 0; rank = 0 }) l in
+    record {
+      n = refl;
+      class_at = ap (λ (x : Ranked). x.class) e;
+      rank_at = ap (λ (x : Ranked). x.rank) e;
+      classes = λ j k. ap (λ (x : Ranked). x.class) (other j k);
+      ranks = λ j k. ap (λ (x : Ranked). x.rank) (other j k);
+    }
+  where
+    other : (j : ℕ) → j < i
+        → get_or (set f.dependencies i (record { class = class; rank = rank })) j (record { class = 0; rank = 0 }) ≡ get_or f.dependencies j (record { class = 0; rank = 0 })
+    other j k = get_or-set_other f.dependencies i j (record { class = class; rank = rank }) (record { class = 0; rank = 0 }) (λ e. omega arith)
+
+-- With the graph there is always a choice.
+pub lost : {desk sheet : List ℕ} {K size start by : ℕ} {levels : List ℕ} {i : ℕ} {f : Found} {class letter m : ℕ} {words : List ℕ} {p : Choice}
+    → Going desk sheet K size start by levels i f class letter → i < size → m ≡ size - 1 - i → RankWords desk sheet K class words
+    → Picked words (ranks_after (letter_at letter)) (level_at levels m) p → i < length f.dependencies → p.rank ≡ rank_count
+    → Chained desk sheet K size start by levels f
+lost {i = i} {f = f} {class = class} {p = p} o l q s k room z =
+    record {
+      n = o.n;
+      greedy = λ g rows h. absurd (some {letter' = 0} o l q s k (written f i class p.rank room) (record { is = λ u. absurd (omega arith) }) g rows h z);
+    }
+
 pub chained : {desk sheet : List ℕ} {K size start by : ℕ} {levels : List ℕ} {i : ℕ} {f : Found} {class letter : ℕ}
     → Going desk sheet K size start by levels i f class letter → i ≡ size → Chained desk sheet K size start by levels f
 chained {K = K} {size = size} {start = start} {by = by} {i = i} {f = f} {class = class} {letter = letter} o e =
@@ -235,3 +276,18 @@ module _ {desk sheet rows : List ℕ} {K limit n : ℕ} {b : Begin} {levels : Li
         some = λ g w es c l. omega (arith, h.n, positive some);
         least = λ l g v w. least_law (begun_start w o (positive some)) (h.greedy g rows (prepared g v w)) (length_tabulate f.n (found_entry f) ∙ h.n);
       }
+
+-- The same where the start is the code's.
+pub found_law : {desk sheet rows : List ℕ} {K limit n : ℕ} {levels : List ℕ} {f : Found} (b : code.Begin) → Begun rows K limit (2 * K) (begins limit (Some b)) → 0 < b.n
+    → Filled rows K b.class (second_letter b.letter) b.n n levels → Chained desk sheet K b.n b.class (letter_number b.letter) levels f → Shortest desk sheet rows K limit f
+found_law {desk} {sheet} {rows} {K} {n = n} {levels = levels} {f = f} b o l t h =
+    let s = start_of b.class (second_letter b.letter) in
+    let p = same_start b.class s (second_letter b.letter) refl in
+    let q : letter_number b.letter ≡ s % 2 = number_of b.letter in
+    some_found o (λ z. omega (arith, l, z))
+    (subst (λ (x : ℕ). Filled rows K x (letter_at (s % 2)) b.n n levels) p.0 (subst (λ (d : Second). Filled rows K b.class d b.n n levels) p.1 t))
+    (subst (λ (x : ℕ). Chained desk sheet K b.n x (s % 2) levels f) p.0 (subst (λ (x : ℕ). Chained desk sheet K b.n b.class x levels f) q h))
+  where
+    number_of : (d : SecondLetter) → letter_number d ≡ start_of b.class (second_letter d) % 2
+    number_of letter.R = omega arith
+    number_of letter.N = omega arith

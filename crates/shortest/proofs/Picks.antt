@@ -1,7 +1,7 @@
 -- Laws of the choice by rank. Assumes nothing.
 use mathlib.Core.Path.{◌≡◌, refl, sym, subst}
 use mathlib.Core.List.{List}
-use Prim.Native.Nat.{ℕ, zero, suc, ◌+◌, ◌/◌, ◌%◌, ◌<◌, ◌≤◌}
+use Prim.Native.Nat.{ℕ, ◌+◌, ◌<◌, ◌≤◌}
 use native.Mathlib.Omega.{arith}
 use native.Mathlib.Decide.{ℕ_discrete}
 use lib.ListN.{get_or}
@@ -9,23 +9,7 @@ use Rattle.words.specs.Bits.{bit, Both, Lowest}
 use Rattle.words.proofs.Words.{bit_zero}
 use Rattle.rules.specs.HeldLocks.{Second, R, N}
 use Rattle.search.specs.declared.Arrivals.{Arrivals}
-use Rattle.starts.specs.Levels.{letter_at}
 use Rattle.shortest.specs.Shortest.{Side, ranks_after, Hit, Picked}
-use Rattle.shortest.proofs.Words.{place_of_R, place_of_N}
-
-pub side_r : (s : Arrivals) (j : ℕ) → j < 12 → j / 3 % 2 ≡ 0 → s.r ≡ Side s j
-side_r s j l e = rw (place_of_R (j / 3) (omega arith) e) refl
-
-pub side_n : (s : Arrivals) (j : ℕ) → j < 12 → (j / 3 % 2 ≡ 0 → ⊥) → s.n ≡ Side s j
-side_n s j l n = rw (place_of_N (j / 3) (omega arith) n) refl
-
-pub ranks_r : (l : ℕ) → l ≡ 0 → 6 ≡ ranks_after (letter_at l)
-ranks_r zero e = refl
-ranks_r (suc l) e = absurd (omega arith)
-
-pub ranks_n : (l : ℕ) → (l ≡ 0 → ⊥) → 12 ≡ ranks_after (letter_at l)
-ranks_n zero e = absurd (e refl)
-ranks_n (suc l) e = refl
 
 pub ranks_few : (b : Second) → ranks_after b ≤ 12
 ranks_few R = omega arith

@@ -7,7 +7,7 @@ use native.Mathlib.Decide.{ℕ_discrete, dec_lt}
 use lib.ListN.{get_or, set, length, length-set}
 use lib.Seq.{get_or-set_same, get_or-set_other}
 use Rattle.words.specs.Bits.{bit, flag}
-use Rattle.rules.specs.HeldLocks.{First, E, S, R, N}
+use Rattle.rules.specs.HeldLocks.{E, R, N}
 use Rattle.rules.specs.Marks.{Level, hard_irq, soft_irq, safe, unsafe}
 use Rattle.rules.specs.Graph.{Graph, Source, lock, irq, dependency_by}
 use Rattle.rules.specs.Ranks.{kind_of_place, kind_at, source_at}
@@ -25,18 +25,6 @@ use Rattle.shortest.specs.Shortest.{Encoded, lock_at, safe_word_at, unsafe_at, d
 
 -- ---- By the kind's place.
 
-pub lock_0 : (w : KindWords) (q : ℕ) → q ≡ 0 → w.er ≡ lock_at w q
-lock_0 w q e = rw e refl
-
-pub lock_1 : (w : KindWords) (q : ℕ) → q ≡ 1 → w.en ≡ lock_at w q
-lock_1 w q e = rw e refl
-
-pub lock_2 : (w : KindWords) (q : ℕ) → q ≡ 2 → w.sr ≡ lock_at w q
-lock_2 w q e = rw e refl
-
-pub lock_3 : (w : KindWords) (q : ℕ) → q < 4 → (q ≡ 0 → ⊥) → (q ≡ 1 → ⊥) → (q ≡ 2 → ⊥) → w.sn ≡ lock_at w q
-lock_3 w q l a b c = let e : q ≡ 3 = omega arith in rw e refl
-
 -- The letters of a kind's place.
 pub letter_law : (q : ℕ) → q < 4 → letter_at (q % 2) ≡ (kind_of_place q).second
 letter_law zero l = refl
@@ -50,52 +38,11 @@ place_of_E zero l = refl
 place_of_E (suc zero) l = refl
 place_of_E (suc (suc q)) l = absurd (omega arith)
 
-place_of_S : (q : ℕ) → q < 4 → (q < 2 → ⊥) → (kind_of_place q).first ≡ S
-place_of_S zero l n = absurd (n (omega arith))
-place_of_S (suc zero) l n = absurd (n (omega arith))
-place_of_S (suc (suc zero)) l n = refl
-place_of_S (suc (suc (suc zero))) l n = refl
-place_of_S (suc (suc (suc (suc q)))) l n = absurd (omega arith)
-
 pub place_of_R : (q : ℕ) → q < 4 → q % 2 ≡ 0 → (kind_of_place q).second ≡ R
 place_of_R q l e = sym (letter_law q l) ∙ ap letter_at e
 
 pub place_of_N : (q : ℕ) → q < 4 → (q % 2 ≡ 0 → ⊥) → (kind_of_place q).second ≡ N
 place_of_N q l n = let e : q % 2 ≡ 1 = omega arith in sym (letter_law q l) ∙ ap letter_at e
-
-pub safe_r : (w : SafeWords) (q : ℕ) → q < 4 → q % 2 ≡ 0 → w.r ≡ safe_word_at w q
-safe_r w q l e = rw (place_of_R q l e) refl
-
-pub safe_n : (w : SafeWords) (q : ℕ) → q < 4 → (q % 2 ≡ 0 → ⊥) → w.n ≡ safe_word_at w q
-safe_n w q l n = rw (place_of_N q l n) refl
-
-pub unsafe_e : (q : ℕ) → q < 2 → 2 ≡ unsafe_at q
-unsafe_e q l = rw (place_of_E q l) refl
-
-pub unsafe_s : (q : ℕ) → q < 4 → (q < 2 → ⊥) → 3 ≡ unsafe_at q
-unsafe_s q l n = rw (place_of_S q l n) refl
-
-pub unsafe_small : (q : ℕ) → unsafe_at q < 4
-unsafe_small q = by (kind_of_place q).first
-  where
-    by : (a : First) → usage_digit (unsafe a) < 4
-    by E = omega arith
-    by S = omega arith
-
--- ---- By rank.
-
-module _ {mark : ℕ} {locks : KindWords} {hard soft : SafeWords} {j word : ℕ} where
-  pub rank_lock : j % 3 ≡ 0 → word ≡ lock_at locks (j / 3) → RankWord mark locks hard soft j word
-  rank_lock e w = record { at = λ t. rw (e, w) refl }
-
-  pub rank_hard : {d w : ℕ} → j % 3 ≡ 1 → d ≡ unsafe_at (j / 3) → w ≡ safe_word_at hard (j / 3) → ((t : ℕ) → bit word t ≡ min (bit mark (d + 0)) (bit w t)) → RankWord mark locks hard soft j word
-  rank_hard {d} {w} e f z h = record { at = λ t. rw e (h t ∙ ap₂ (λ (x y : ℕ). min (bit mark x) (bit y t)) (let q : d + 0 ≡ unsafe_at (j / 3) + 0 = omega arith in q) z) }
-
-  pub rank_soft : {d w : ℕ} → (j % 3 ≡ 0 → ⊥) → (j % 3 ≡ 1 → ⊥) → d ≡ unsafe_at (j / 3) → w ≡ safe_word_at soft (j / 3) → ((t : ℕ) → bit word t ≡ min (bit mark (d + 4)) (bit w t))
-      → RankWord mark locks hard soft j word
-  rank_soft {d} {w} a b f z h =
-      let e : j % 3 ≡ 2 = omega arith in
-      record { at = λ t. rw e (h t ∙ ap₂ (λ (x y : ℕ). min (bit mark x) (bit y t)) (let q : d + 4 ≡ unsafe_at (j / 3) + 4 = omega arith in q) z) }
 
 -- ---- The words.
 

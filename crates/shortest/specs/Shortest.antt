@@ -1,5 +1,5 @@
 -- The dependencies of a class by rank, the choice among them, and the cycle.
-use Rattle.std.specs.Prelude.{◌≡◌, Bool, true, List, ℕ, ◌+◌, ◌/◌, ◌<◌, ◌≤◌, min, length, get_or}
+use Rattle.std.specs.Prelude.{Option, None, Some, [], ◌≡◌, Bool, true, List, ℕ, ◌+◌, ◌/◌, ◌<◌, ◌≤◌, min, length, get_or}
 use Rattle.words.specs.Bits.{bit}
 use Rattle.rules.specs.HeldLocks.{Second, R, N, Core}
 use Rattle.rules.specs.Marks.{hard_irq, soft_irq, unsafe}
@@ -13,13 +13,17 @@ use Rattle.search.specs.Rows.{Rows}
 use Rattle.search.specs.Arrivals.{word_by}
 use Rattle.search.specs.declared.Arrivals.{Arrivals}
 use Rattle.successors.specs.Column.{kind_word}
-use Rattle.successors.specs.Successors.{level_digit, usage_digit, safe_of}
+use Rattle.successors.specs.Successors.{level_digit, usage_digit, mark_number, safe_of}
 use Rattle.successors.specs.declared.KindWords.{KindWords}
 use Rattle.successors.specs.declared.SafeWords.{SafeWords}
 use Rattle.routes.specs.Routes.{Home, Start, Greedy}
 use Rattle.starts.specs.Levels.{letter_at, level_at, Level}
 use Rattle.shortest.specs.declared.Choice.{Choice}
 use Rattle.shortest.specs.declared.Found.{Found}
+use Rattle.shortest.specs.declared.Ranked.{Ranked}
+use Rattle.shortest.specs.declared.Sources.{Sources}
+use Rattle.search.specs.declared.SecondLetter.{SecondLetter}
+use Rattle.search.specs.declared.SecondLetter.TheVariants as code
 
 -- ---- The words of a class.
 
@@ -38,6 +42,13 @@ safe_word_at w p = safe_of w (kind_of_place p).second
 
 abbrev pub unsafe_at : ℕ → ℕ
 unsafe_at p = usage_digit (unsafe (kind_of_place p).first)
+
+-- What the dependencies of a kind's place come from.
+pub record OfPlace (locks : KindWords) (hard soft : SafeWords) (p : ℕ) (of : Sources) : Type 0 where
+  pub by_lock : of.lock ≡ lock_at locks p
+  pub by_mark : mark_number of.mark ≡ unsafe_at p
+  pub by_hard : of.hard ≡ safe_word_at hard p
+  pub by_soft : of.soft ≡ safe_word_at soft p
 
 -- The dependency of a source and of a kind's place to class t, as a binary digit.
 abbrev pub digit_by : Source → (mark : ℕ) → KindWords → (hard soft : SafeWords) → (p t : ℕ) → ℕ
@@ -83,20 +94,39 @@ pub record Picked (words : List ℕ) (n : ℕ) (s : Arrivals) (c : Choice) : Typ
   pub first : (j t : ℕ) → j < c.rank → j < n → Hit words s j t → ⊥
   pub lowest : (c.rank ≡ rank_count → ⊥) → (t : ℕ) → t < c.to → Hit words s c.rank t → ⊥
 
+-- A choice that may be none: then rank 12 to class 0.
+abbrev pub choice_of : Option Choice → Choice
+choice_of None = record { rank = 12; to = 0 }
+choice_of (Some c) = c
+
 -- ---- The cycle.
 
+-- A second letter as a number.
+abbrev pub letter_number : SecondLetter → ℕ
+letter_number code.R = 0
+letter_number code.N = 1
+
+-- Dependency i of a cycle: its class and its rank.
+abbrev pub found_at : Found → ℕ → Ranked
+found_at f i = get_or f.dependencies i (record { class = 0; rank = 0 })
+
 abbrev pub found_entry : Found → ℕ → Entry
-found_entry f i = record { class = get_or f.classes i 0; kind = kind_at (get_or f.ranks i 0); source = source_at (get_or f.ranks i 0) }
+found_entry f i = record { class = (found_at f i).class; kind = kind_at (found_at f i).rank; source = source_at (found_at f i).rank }
+
+-- A cycle that may be none: then one of no dependencies.
+abbrev pub found_of : Option Found → Found
+found_of None = record { n = 0; dependencies = [] }
+found_of (Some f) = f
 
 abbrev pub found_entries : Found → List Entry
 found_entries f = tabulate f.n (found_entry f)
 
 pub record Written (f : Found) (i class rank : ℕ) (r : Found) : Type 0 where
   pub n : r.n ≡ f.n
-  pub class_at : get_or r.classes i 0 ≡ class
-  pub rank_at : get_or r.ranks i 0 ≡ rank
-  pub classes : (j : ℕ) → j < i → get_or r.classes j 0 ≡ get_or f.classes j 0
-  pub ranks : (j : ℕ) → j < i → get_or r.ranks j 0 ≡ get_or f.ranks j 0
+  pub class_at : (found_at r i).class ≡ class
+  pub rank_at : (found_at r i).rank ≡ rank
+  pub classes : (j : ℕ) → j < i → (found_at r j).class ≡ (found_at f j).class
+  pub ranks : (j : ℕ) → j < i → (found_at r j).rank ≡ (found_at f j).rank
 
 pub record Letter (rank letter : ℕ) : Type 0 where
   pub is : rank < rank_count → letter_at letter ≡ (kind_at rank).second

@@ -2,19 +2,17 @@
 // dependency, by kind, source and next class, from which the start is reached again in time.
 #![tactic(auto)]
 
-ghost use Rattle.std.specs.Prelude.{◌≡◌, ◌+◌, ◌*◌, ◌/◌, ◌%◌, ◌<◌, ◌≤◌, length};
+ghost use Rattle.std.specs.Prelude.{◌≡◌, ◌+◌, ◌*◌, ◌/◌, ◌%◌, ◌<◌, ◌≤◌, length, IfSome};
+ghost use Rattle.rules.specs.Ranks.{kind_at};
+ghost use Rattle.search.specs.Letters.{second_letter};
 ghost use Rattle.successors.specs.Column.{Columns};
 ghost use Rattle.successors.specs.Successors.{Ready, SafeColumns};
-ghost use Rattle.starts.specs.Levels.{letter_at};
-ghost use Rattle.shortest.specs.Shortest.{lock_at, safe_word_at, unsafe_at, Side, ranks_after, Picked, RankWord, RankWords, Written, Letter, Chained, Shortest};
+ghost use Rattle.shortest.specs.Shortest.{ranks_after, letter_number, choice_of, found_of, OfPlace, Picked, RankWord, RankWords, Chained, Shortest};
 
 use layout::{MARKS_AT, MAX_CLASSES};
-use search::Arrivals;
+use search::{Arrivals, SecondLetter};
 use starts::{Begin, LEVELS, fill, first_start, level};
-use successors::{
-    HARD_DIGITS, KindWords, ROWS, SOFT_DIGITS, SafeWords, UNSAFE_E, UNSAFE_S, column_of, picked,
-    safe_words,
-};
+use successors::{Irq, KindWords, Mark, ROWS, SafeWords, column_of, picked, safe_words};
 use words::{both, lowest};
 
 // ---- The dependencies of a class by rank: three times the kind's place (ER 0, EN 1, SR 2, SN 3) and the source. Ranks are in the order of
@@ -25,68 +23,70 @@ const RANKS: usize = 12;
 // The ranks of ER and EN.
 const RANKS_OF_E: usize = 6;
 
-fn lock_word(locks: KindWords, place: usize) -> u64
-    requires { place < 4 }
-    ensures { result ≡ lock_at locks place }
-{
-    if place == 0 {
-        return locks.er;
-    }
-    if place == 1 {
-        return locks.en;
-    }
-    if place == 2 {
-        return locks.sr;
-    }
-    locks.sn
+// What the dependencies of a kind come from: the word of the lock dependencies, the unsafe mark of the first letter, and the safe words of the
+// second.
+#[derive(Drop)]
+struct Sources {
+    lock: u64,
+    mark: Mark,
+    hard: u64,
+    soft: u64,
 }
 
-fn safe_word(safe: SafeWords, place: usize) -> u64
+fn sources_of(locks: KindWords, hard: SafeWords, soft: SafeWords, place: usize) -> Sources
     requires { place < 4 }
-    ensures { result ≡ safe_word_at safe place }
+    ensures { OfPlace locks hard soft place result }
 {
-    if place % 2 == 0 {
-        return safe.r;
+    match place {
+        0 => Sources {
+            lock: locks.er,
+            mark: Mark::UnsafeE,
+            hard: hard.r,
+            soft: soft.r,
+        },
+        1 => Sources {
+            lock: locks.en,
+            mark: Mark::UnsafeE,
+            hard: hard.n,
+            soft: soft.n,
+        },
+        2 => Sources {
+            lock: locks.sr,
+            mark: Mark::UnsafeS,
+            hard: hard.r,
+            soft: soft.r,
+        },
+        _ => Sources {
+            lock: locks.sn,
+            mark: Mark::UnsafeS,
+            hard: hard.n,
+            soft: soft.n,
+        },
     }
-    safe.n
-}
-
-// The digit of the hard-unsafe mark of the kind's first letter.
-fn unsafe_digit(place: usize) -> u32
-    requires { place < 4 }
-    ensures { result ≡ unsafe_at place }
-{
-    if place < 2 {
-        return UNSAFE_E;
-    }
-    UNSAFE_S
 }
 
 fn rank_word(mark: u8, locks: KindWords, hard: SafeWords, soft: SafeWords, rank: usize) -> u64
     requires { rank < 12 }
     ensures { RankWord mark locks hard soft rank result }
 {
-    let place = rank / 3;
-    if rank % 3 == 0 {
-        return lock_word(locks, place);
+    let of = sources_of(locks, hard, soft, rank / 3);
+    match rank % 3 {
+        0 => of.lock,
+        1 => picked(mark, Irq::Hard, of.mark, of.hard),
+        _ => picked(mark, Irq::Soft, of.mark, of.soft),
     }
-    let d = unsafe_digit(place);
-    if rank % 3 == 1 {
-        return picked(mark, d + HARD_DIGITS, safe_word(hard, place));
-    }
-    picked(mark, d + SOFT_DIGITS, safe_word(soft, place))
 }
 
-// The lock dependencies of a class, whose row of the sheet starts at a place, a kind at a time: once a log, where `successors` is quicker in every step.
-fn row_words(sheet: &[u8], at: usize, k: usize) -> KindWords
-    requires { (at + k ≤ length sheet.now) × (k ≤ 64) }
-    ensures { Columns sheet.now at k result }
+// The lock dependencies of a class by its row of the sheet, a kind at a time: once a log, where `successors` is quicker in every step.
+fn row_words(row: &[u8]) -> KindWords
+    requires { length row.now ≤ 64 }
+    ensures { Columns row.now 0 (length row.now) result }
 {
     KindWords {
-        er: column_of(sheet, at, k, 0),
-        en: column_of(sheet, at, k, 1),
-        sr: column_of(sheet, at, k, 2),
-        sn: column_of(sheet, at, k, 3),
+        er: column_of(row, 0),
+        en: column_of(row, 1),
+        sr: column_of(row, 2),
+        sn: column_of(row, 3),
     }
 }
 
@@ -103,120 +103,104 @@ fn rank_words(
     ensures { RankWords desk.now sheet.now k class result }
 {
     let mark = desk[MARKS_AT + class];
-    let locks = row_words(sheet, class * k, k);
+    let locks = row_words(&sheet[class * k..(class + 1) * k]);
     let mut words = [0u64; RANKS];
-    let mut rank = 0;
-    while rank < RANKS {
+    for rank in 0..RANKS {
         words[rank] = rank_word(mark, locks, hard, soft, rank);
-        rank += 1;
     }
     words
 }
 
 // ---- The choice at a class.
 
-// A dependency of a rank to a class. rank RANKS: none.
-#[derive(Drop)]
+// A dependency of a rank to a class.
+#[derive(Clone, Copy)]
 struct Choice {
     pub rank: usize,
     pub to: u32,
 }
 
-// The word of the set that the rank's second letter asks for.
-fn side(s: Arrivals, rank: usize) -> u64
+// The second letter of a rank.
+fn letter_of(rank: usize) -> SecondLetter
     requires { rank < 12 }
-    ensures { result ≡ Side s rank }
+    ensures { second_letter result ≡ (kind_at rank).second }
 {
     if rank / 3 % 2 == 0 {
-        return s.r;
+        SecondLetter::R
+    } else {
+        SecondLetter::N
     }
-    s.n
 }
 
 // The ranks that may follow: after R only E.
-fn ranks(letter: u32) -> usize
-    ensures { result ≡ ranks_after (letter_at letter) }
+fn ranks(letter: SecondLetter) -> usize
+    ensures { result ≡ ranks_after (second_letter letter) }
 {
-    if letter == 0 {
-        return RANKS_OF_E;
+    match letter {
+        SecondLetter::R => RANKS_OF_E,
+        SecondLetter::N => RANKS,
     }
-    RANKS
 }
 
 // The first dependency, by rank and then by class, that goes into the set.
-fn pick(words: &[u64; RANKS], letter: u32, to: Arrivals) -> Choice
-    ensures { Picked words.now (ranks_after (letter_at letter)) to result }
+fn pick(words: &[u64; RANKS], letter: SecondLetter, to: Arrivals) -> Option<Choice>
+    ensures { Picked words.now (ranks_after (second_letter letter)) to (choice_of result) × IfSome result (λ c. c.rank < 12) }
 {
-    let end = ranks(letter);
-    let mut rank = 0;
-    while rank < end {
+    for rank in 0..ranks(letter) {
         let word = words[rank];
-        let hit = both(word, side(to, rank));
+        let hit = both(word, to.by(letter_of(rank)));
         if hit != 0 {
-            return Choice {
+            return Some(Choice {
                 rank,
                 to: lowest(hit),
-            };
+            });
         }
-        rank += 1;
     }
-    Choice { rank: RANKS, to: 0 }
+    None
 }
 
 // ---- The cycle.
 
-// A cycle of n dependencies: of each the class where it starts, and its rank. n 0: none.
+// A dependency of a cycle: the class where it starts, and its rank.
+#[derive(Clone, Copy)]
+pub struct Ranked {
+    pub class: u8,
+    pub rank: u8,
+}
+
+// A cycle of n dependencies.
 #[derive(Drop)]
 pub struct Found {
     pub n: usize,
-    pub classes: [u8; MAX_CLASSES],
-    pub ranks: [u8; MAX_CLASSES],
+    pub dependencies: [Ranked; MAX_CLASSES],
 }
 
-fn put(f: Found, i: usize, class: u32, rank: usize) -> Found
-    requires { (i < 64) × (class < 64) × (rank ≤ 12) }
-    ensures { Written f i class rank result }
-{
-    let mut g = f;
-    g.classes[i] = class as u8;
-    g.ranks[i] = rank as u8;
-    g
-}
-
-// The second letter of a rank: 0 for R, 1 for N.
-fn letter_of(rank: usize) -> u32
-    requires { rank ≤ 12 }
-    ensures { Letter rank result }
-{
-    let place = rank / 3;
-    (place % 2) as u32
-}
-
-// From the start on, at each class the first dependency that leads to the end in time.
+// From the start on, at each class the first dependency that leads to the end in time: there is one, if desk and sheet are the graph that was searched.
 fn chain(desk: &[u8], sheet: &[u8], k: usize, b: Begin, levels: &[u64; LEVELS]) -> Found
-    requires { Ready desk.now sheet.now k × (b.n ≤ k) × (b.start < 2 * k) }
-    ensures { Chained desk.now sheet.now k b.n (b.start / 2) (b.start % 2) levels.now result }
+    requires { Ready desk.now sheet.now k × (b.n ≤ k) × (b.class < k) }
+    ensures { Chained desk.now sheet.now k b.n b.class (letter_number b.letter) levels.now result }
 {
-    let hard = safe_words(desk, k, HARD_DIGITS);
-    let soft = safe_words(desk, k, SOFT_DIGITS);
-    let n = b.n;
-    let mut f = Found {
-        n,
-        classes: [0u8; MAX_CLASSES],
-        ranks: [0u8; MAX_CLASSES],
+    let hard = safe_words(desk, k, Irq::Hard);
+    let soft = safe_words(desk, k, Irq::Soft);
+    let mut found = Found {
+        n: b.n,
+        dependencies: [Ranked { class: 0, rank: 0 }; MAX_CLASSES],
     };
-    let mut class = b.start / 2;
-    let mut letter = b.start % 2;
-    let mut i = 0;
-    while i < n {
+    let mut class = b.class;
+    let mut letter = b.letter;
+    for i in 0..b.n {
         let words = rank_words(desk, sheet, k, class as usize, hard, soft);
-        let c = pick(&words, letter, level(levels, n - 1 - i));
-        f = put(f, i, class, c.rank);
+        let Some(c) = pick(&words, letter, level(levels, b.n - 1 - i)) else {
+            return found;
+        };
+        found.dependencies[i] = Ranked {
+            class: class as u8,
+            rank: c.rank as u8,
+        };
         class = c.to;
         letter = letter_of(c.rank);
-        i += 1;
     }
-    f
+    found
 }
 
 // The cycle that is shown, if one has at most limit dependencies. At most 2 * k starts, limit levels each, and k classes each level.
@@ -226,19 +210,12 @@ pub fn shortest_cycle(
     rows: &[u64; ROWS],
     k: usize,
     limit: usize,
-) -> Found
+) -> Option<Found>
     requires { Ready desk.now sheet.now k × (limit ≤ k) }
-    ensures { Shortest desk.now sheet.now rows.now k limit result }
+    ensures { Shortest desk.now sheet.now rows.now k limit (found_of result) }
 {
     let mut levels = [0u64; LEVELS];
-    let b = first_start(rows, k as u32, limit, &mut levels);
-    if b.n == 0 {
-        return Found {
-            n: 0,
-            classes: [0u8; MAX_CLASSES],
-            ranks: [0u8; MAX_CLASSES],
-        };
-    }
-    fill(rows, k as u32, b.start / 2, b.start % 2, b.n, &mut levels);
-    chain(desk, sheet, k, b, &levels)
+    let b = first_start(rows, k as u32, limit, &mut levels)?;
+    let _ = fill(rows, k as u32, b.class, b.letter, b.n, &mut levels);
+    Some(chain(desk, sheet, k, b, &levels))
 }

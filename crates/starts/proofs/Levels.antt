@@ -1,15 +1,14 @@
 -- Laws of the sets of arrivals from which dependencies lead home. Assumes nothing.
 use mathlib.Core.Path.{◌≡◌, refl, sym, ◌∙◌, subst}
-use mathlib.Core.Bool.{true, false, false≢true}
-use mathlib.Core.Logic.{◌⊎◌, inl, inr, ⊎_elim}
+use mathlib.Core.Bool.{Bool, true, false, false≢true}
+use mathlib.Core.Logic.{inl, inr, ⊎_elim}
 use mathlib.Core.List.{List, [], ◌∷◌}
-use Prim.Native.Nat.{ℕ, zero, suc, ◌+◌, ◌-◌, ◌*◌, ◌/◌, ◌%◌, ◌^◌, ◌<◌, ◌≤◌}
+use Prim.Native.Nat.{ℕ, zero, suc, ◌+◌, ◌-◌, ◌*◌, ◌<◌, ◌≤◌}
 use native.Mathlib.Omega.{arith}
 use native.Mathlib.Decide.{ℕ_discrete, dec_le}
 use lib.ListN.{get_or, set, length, drop, length-set, length-drop}
 use lib.Seq.{get_or-set_same, get_or-set_other}
-use Rattle.words.specs.Bits.{bit, With, Both}
-use Rattle.words.proofs.Words.{bit_shift, some_bit}
+use Rattle.words.specs.Bits.{bit}
 use Rattle.rules.specs.HeldLocks.{First, Second, E, S, R, N}
 use Rattle.rules.specs.Graph.{Graph, dependency_by}
 use Rattle.rules.specs.StrongPath.{strong_joint}
@@ -19,35 +18,24 @@ use Rattle.rules.proofs.Cycles.{some_source}
 use Rattle.rules.proofs.CycleExists.{source_of}
 use Rattle.rules.proofs.Decided.{in_range}
 use Rattle.rules.proofs.Rounds.{cut}
-use Rattle.search.specs.Rows.{first_at, first_index, Successor}
-use Rattle.search.specs.Arrivals.{none, In}
+use Rattle.search.specs.Rows.{Successor}
+use Rattle.search.specs.Arrivals.{none, In, Put}
+use Rattle.search.specs.Letters.{Successors, HasNone}
+use Rattle.search.specs.Walk.{Meets}
 use Rattle.search.specs.declared.Arrivals.{Arrivals}
-use Rattle.search.proofs.Sets.{empty, no_arrival, row_r, row_n}
+use Rattle.search.proofs.Sets.{no_arrival}
 use Rattle.routes.specs.Routes.{widest, Step, Home}
-use Rattle.starts.specs.Levels.{letter_at, LeadsInto, LeadsBy, Widened, Behind, AtHome, IsIn, IsEmpty, Above, stored, level_at, Level, NoneUpTo, Filled}
+use Rattle.starts.specs.Levels.{LeadsInto, LeadsBy, Widened, Behind, AtHome, Above, stored, level_at, Level, NoneUpTo, Filled}
 use Rattle.routes.proofs.Routes.{after_E, stays}
 
 -- ---- One class.
 
-module _ (rows : List ℕ) (x first : ℕ) (e : first ≡ first_index (first_at first)) where
-  pub leads_r : {s : Arrivals} {to : ℕ} → Both (get_or rows (4 * x + first) 0) s.r to → (to ≡ 0 → ⊥) → to < 2 ^ 64 → LeadsBy rows x (first_at first) s true
-  leads_r {to = to} o n l =
-      let p = some_bit 64 to (omega arith) l in
-      let q = rw (row_r rows x first e) at o in
-      record { yes' = λ _. (R, p.0, q.left p.0 p.2, q.right p.0 p.2); no' = λ z. absurd (false≢true (sym z)) }
-
-  pub leads_n : {s : Arrivals} {to : ℕ} → Both (get_or rows (4 * x + first + 1) 0) s.n to → (to ≡ 0 → ⊥) → to < 2 ^ 64 → LeadsBy rows x (first_at first) s true
-  leads_n {to = to} o n l =
-      let p = some_bit 64 to (omega arith) l in
-      let q = rw (row_n rows x first e) at o in
-      record { yes' = λ _. (N, p.0, q.left p.0 p.2, q.right p.0 p.2); no' = λ z. absurd (false≢true (sym z)) }
-
-  pub leads_none : {s : Arrivals} {r n : ℕ} → Both (get_or rows (4 * x + first) 0) s.r r → Both (get_or rows (4 * x + first + 1) 0) s.n n → r ≡ 0 → n ≡ 0
-      → LeadsBy rows x (first_at first) s false
-  leads_none p q zr zn =
-      let u = rw (row_r rows x first e) at p in
-      let v = rw (row_n rows x first e) at q in
-      record { yes' = λ z. absurd (false≢true z); no' = λ _. elim [ R ↦ λ y m k. empty y zr (u.all y m k) | N ↦ λ y m k. empty y zn (v.all y m k) ] }
+pub leads_by : {rows : List ℕ} {x : ℕ} {f : First} {s t : Arrivals} {r : Bool} → Successors rows x f t → Meets t s r → LeadsBy rows x f s r
+leads_by {rows} {x} {f} {s} {t} k m =
+    record {
+      yes' = λ e. let p = m.some e in (p.1, p.0, subst (λ (w : ℕ). bit w p.0 ≡ 1) (k p.1) p.2, p.3);
+      no' = λ e b y h i. m.none e y b (subst (λ (w : ℕ). bit w y ≡ 1) (sym (k b)) h) i;
+    }
 
 module _ {rows : List ℕ} {x : ℕ} {s : Arrivals} where
   by_E : LeadsBy rows x E s true → (b : Second) → LeadsInto rows s x b
@@ -75,23 +63,20 @@ module _ {rows : List ℕ} {x : ℕ} {s : Arrivals} where
       by E e = not_by E n N l e
       by S e = not_by S m N l e
 
-  pub widened_e : {out : Arrivals} {r n : ℕ} → LeadsBy rows x E s true → With out.r x r → With out.n x n → Widened rows x s out (record { r = r; n = n })
-  widened_e l wr wn =
+  pub widened_e : {out t r : Arrivals} → LeadsBy rows x E s true → Put x R out t → Put x N t r → Widened rows x s out r
+  widened_e l p q =
       record {
-        kept = λ j. elim [ R ↦ λ h. wr.kept j h | N ↦ λ h. wn.kept j h ];
-        there = elim [ R ↦ λ _. wr.there | N ↦ λ _. wn.there ];
-        only = λ j. elim [
-          | R ↦ λ h. ⊎_elim (λ y. inl y) (λ e. inr (e, by_E l R)) (wr.only j h)
-          | N ↦ λ h. ⊎_elim (λ y. inl y) (λ e. inr (e, by_E l N)) (wn.only j h)
-        ];
+        kept = λ j b h. q.kept j b (p.kept j b h);
+        there = elim [ R ↦ λ _. q.kept x R p.there | N ↦ λ _. q.there ];
+        only = λ j b h. ⊎_elim (λ y. ⊎_elim (λ z. inl z) (λ e. inr (e.0, by_E l b)) (p.only j b y)) (λ e. inr (e.0, by_E l b)) (q.only j b h);
       }
 
-  pub widened_s : {out : Arrivals} {n : ℕ} → LeadsBy rows x E s false → LeadsBy rows x S s true → With out.n x n → Widened rows x s out (record { r = out.r; n = n })
-  widened_s z l wn =
+  pub widened_s : {out r : Arrivals} → LeadsBy rows x E s false → LeadsBy rows x S s true → Put x N out r → Widened rows x s out r
+  widened_s z l p =
       record {
-        kept = λ j. elim [ R ↦ λ h. h | N ↦ λ h. wn.kept j h ];
-        there = elim [ R ↦ λ k. absurd (not_R z k) | N ↦ λ _. wn.there ];
-        only = λ j. elim [ R ↦ λ h. inl h | N ↦ λ h. ⊎_elim (λ y. inl y) (λ e. inr (e, by_S l)) (wn.only j h) ];
+        kept = λ j b h. p.kept j b h;
+        there = elim [ R ↦ λ k. absurd (not_R z k) | N ↦ λ _. p.there ];
+        only = λ j b h. ⊎_elim (λ y. inl y) (λ e. inr (e.0, subst (λ (d : Second). LeadsInto rows s x d) (sym e.1) (by_S l))) (p.only j b h);
       }
 
   pub widened_none : {out : Arrivals} → LeadsBy rows x E s false → LeadsBy rows x S s false → Widened rows x s out out
@@ -120,42 +105,25 @@ behind_more {rows} {from} {x} {s} {out} {r} o w =
 
 -- ---- Home.
 
-pub letter_r : (l : ℕ) → l ≡ 0 → letter_at l ≡ R
-letter_r zero e = refl
-letter_r (suc n) e = absurd (omega arith)
+put_one : {c j : ℕ} {a b : Second} {w : Arrivals} → Put c a none w → In w j b → (j ≡ c) × (b ≡ a)
+put_one {j = j} {b = b} p h = ⊎_elim (λ y. absurd (no_arrival j b y)) (λ e. e) (p.only j b h)
 
-pub letter_n : (l : ℕ) → (l ≡ 0 → ⊥) → letter_at l ≡ N
-letter_n zero n = absurd (n refl)
-letter_n (suc l) n = refl
+pub home_r : {c : ℕ} {t w : Arrivals} → Put c N none t → Put c R t w → AtHome c R w
+home_r p q =
+    record {
+      sound = λ x. elim [
+        | R ↦ λ h. ⊎_elim (λ y. ((put_one {b = R} p y).0, refl)) (λ e. (e.0, refl)) (q.only x R h)
+        | N ↦ λ h. ⊎_elim (λ y. ((put_one {b = N} p y).0, refl)) (λ e. (e.0, refl)) (q.only x N h)
+      ];
+      complete = elim [ R ↦ λ _. q.there | N ↦ λ _. q.kept _ N p.there ];
+    }
 
-put_one : {c w : ℕ} → With 0 c w → (j : ℕ) → bit w j ≡ 1 → j ≡ c
-put_one w j h = ⊎_elim (λ y. absurd (empty j refl y)) (λ e. e) (w.only j h)
-
-pub home_r : {c l r n : ℕ} → l ≡ 0 → With 0 c r → With 0 c n → AtHome c (letter_at l) (record { r = r; n = n })
-home_r {l = l} z wr wn =
-    rw (letter_r l z) (record {
-      sound = λ x. elim [ R ↦ λ h. (put_one wr x h, refl) | N ↦ λ h. (put_one wn x h, refl) ];
-      complete = elim [ R ↦ λ _. wr.there | N ↦ λ _. wn.there ];
-    })
-
-pub home_n : {c l n : ℕ} → (l ≡ 0 → ⊥) → With 0 c n → AtHome c (letter_at l) (record { r = 0; n = n })
-home_n {l = l} z wn =
-    rw (letter_n l z) (record {
-      sound = λ x. elim [ R ↦ λ h. absurd (empty x refl h) | N ↦ λ h. (put_one wn x h, refl) ];
-      complete = elim [ R ↦ λ k. absurd (false≢true k) | N ↦ λ _. wn.there ];
-    })
-
-pub in_r : {s : Arrivals} {c l : ℕ} → l ≡ 0 → s.r / 2 ^ c % 2 ≡ 1 → IsIn s c (letter_at l) true
-in_r {s} {c} {l} z h = rw (letter_r l z) (record { yes' = λ _. sym (bit_shift s.r c) ∙ h; no' = λ q. absurd (false≢true (sym q)) })
-
-pub not_in_r : {s : Arrivals} {c l : ℕ} → l ≡ 0 → (s.r / 2 ^ c % 2 ≡ 1 → ⊥) → IsIn s c (letter_at l) false
-not_in_r {s} {c} {l} z h = rw (letter_r l z) (record { yes' = λ q. absurd (false≢true q); no' = λ _ m. h (bit_shift s.r c ∙ m) })
-
-pub in_n : {s : Arrivals} {c l : ℕ} → (l ≡ 0 → ⊥) → s.n / 2 ^ c % 2 ≡ 1 → IsIn s c (letter_at l) true
-in_n {s} {c} {l} z h = rw (letter_n l z) (record { yes' = λ _. sym (bit_shift s.n c) ∙ h; no' = λ q. absurd (false≢true (sym q)) })
-
-pub not_in_n : {s : Arrivals} {c l : ℕ} → (l ≡ 0 → ⊥) → (s.n / 2 ^ c % 2 ≡ 1 → ⊥) → IsIn s c (letter_at l) false
-not_in_n {s} {c} {l} z h = rw (letter_n l z) (record { yes' = λ q. absurd (false≢true q); no' = λ _ m. h (bit_shift s.n c ∙ m) })
+pub home_n : {c : ℕ} {t : Arrivals} → Put c N none t → AtHome c N t
+home_n p =
+    record {
+      sound = λ x b h. let e = put_one p h in (e.0, subst (λ (d : Second). strong_joint d (widest N) ≡ true) (sym e.1) refl);
+      complete = elim [ R ↦ λ k. absurd (false≢true k) | N ↦ λ _. p.there ];
+    }
 
 -- ---- Levels.
 
@@ -297,30 +265,30 @@ module _ {rows : List ℕ} {K c m : ℕ} {h : Second} {s t : Arrivals} {levels a
     | no q ↦ let k : i < m = omega arith in rw (kept_level levels m i s k) (f.level_at_lem i k)
   ])
 
-  pub filling_more : IsIn t c h false → Filling rows K c h (m + 1) t after
+  pub filling_more : (In t c h → ⊥) → Filling rows K c h (m + 1) t after
   filling_more z =
       record {
         level = level_more f.level o;
         level_at_lem = levels_more;
         none = λ i l. elim (ℕ_discrete i (m + 1)) [
-          | yes q ↦ rw q (none_more (f.none m (omega arith)) (level_more f.level o) (z.no' refl))
+          | yes q ↦ rw q (none_more (f.none m (omega arith)) (level_more f.level o) z)
           | no q ↦ f.none i (omega arith)
         ];
       }
 
-  pub filled_empty : {limit : ℕ} → length levels ≡ 128 → IsIn t c h false → IsEmpty t true → Filled rows K c h limit 0 after
+  pub filled_empty : {limit : ℕ} → length levels ≡ 128 → (In t c h → ⊥) → HasNone t → Filled rows K c h limit 0 after
   filled_empty size z y =
       let f' = filling_more z in
       record {
         size = stored_long levels m s e size;
-        none = λ _. none_empty (omega arith) (f'.none (m + 1) (omega arith)) f'.level (y.none refl);
+        none = λ _. none_empty (omega arith) (f'.none (m + 1) (omega arith)) f'.level y;
         few = omega arith;
         shorter = λ i l. absurd (omega arith);
         level = λ i l. absurd (omega arith);
         home = λ l. absurd (omega arith);
       }
 
-  pub filled_some : {limit : ℕ} → length levels ≡ 128 → m < limit → IsIn t c h true → Filled rows K c h limit (m + 1) after
+  pub filled_some : {limit : ℕ} → length levels ≡ 128 → m < limit → In t c h → Filled rows K c h limit (m + 1) after
   filled_some size l z =
       record {
         size = stored_long levels m s e size;
@@ -328,14 +296,8 @@ module _ {rows : List ℕ} {K c m : ℕ} {h : Second} {s t : Arrivals} {levels a
         few = omega arith;
         shorter = λ i k. f.none i (omega arith);
         level = levels_more;
-        home = λ _ g r. (level_more f.level o).sound g r c h (z.yes' refl);
+        home = λ _ g r. (level_more f.level o).sound g r c h z;
       }
-
-pub empty_law : {s : Arrivals} → s.r ≡ 0 → s.n ≡ 0 → IsEmpty s true
-empty_law p q = record { none = λ _ x. elim [ R ↦ empty x p | N ↦ empty x q ] }
-
-pub not_empty : {s : Arrivals} → IsEmpty s false
-not_empty = record { none = λ z. absurd (false≢true z) }
 
 pub filled_none : {rows : List ℕ} {K c limit : ℕ} {h : Second} {s : Arrivals} {levels : List ℕ} → Filling rows K c h limit s levels → length levels ≡ 128 → Filled rows K c h limit 0 levels
 filled_none {limit = limit} f size =

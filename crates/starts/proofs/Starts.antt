@@ -1,10 +1,10 @@
 -- Laws of where the least cycle starts. Assumes nothing.
-use mathlib.Core.Path.{◌≡◌, refl, ap, ◌∙◌}
-use mathlib.Core.List.{List}
+use mathlib.Core.Path.{◌≡◌, refl, ap, ◌∙◌, subst}
+use mathlib.Core.List.{List, [], ◌∷◌}
 use Prim.Native.Nat.{ℕ, zero, suc, ◌+◌, ◌*◌, ◌/◌, ◌%◌, ◌<◌, ◌≤◌}
 use native.Mathlib.Omega.{arith}
 use native.Mathlib.Decide.{ℕ_discrete, dec_lt}
-use lib.ListN.{length}
+use lib.ListN.{length, get_or}
 use Rattle.rules.specs.HeldLocks.{Second, R, N}
 use Rattle.rules.specs.Graph.{Graph}
 use Rattle.rules.specs.Cycle.{Entry, entry_at, Cycle}
@@ -14,8 +14,12 @@ use Rattle.rules.proofs.Pigeons.{some_below}
 use Rattle.search.specs.Rows.{second_index, Rows}
 use Rattle.routes.specs.Routes.{Start}
 use Rattle.starts.specs.Levels.{letter_at, Above, NoneUpTo, Filled}
-use Rattle.starts.specs.Starts.{start_of, Better, Begun}
-use Rattle.starts.specs.declared.Begin.{Begin}
+use Rattle.starts.specs.Starts.{start_of, Begin, begins, Better, Begun}
+use Rattle.starts.specs.declared.Begin as code
+use Rattle.std.specs.Prelude.{Option, None, Some, IfSome, ◌-◌}
+use Rattle.search.specs.Letters.{second_letter}
+use Rattle.search.specs.declared.SecondLetter.{SecondLetter}
+use Rattle.search.specs.declared.SecondLetter.TheVariants as letter
 use Rattle.routes.proofs.Routes.{home_round, round_home, cycle_round}
 
 none_less : {rows : List ℕ} {K x m n : ℕ} {d : Second} → m ≤ n → NoneUpTo rows K x d n → NoneUpTo rows K x d m
@@ -83,6 +87,45 @@ module _ {rows : List ℕ} {K limit s n : ℕ} {b r : Begin} {levels : List ℕ}
 
   pub begun_more : Begun rows K limit (s + 1) r
   begun_more = elim (ℕ_discrete n 0) [ yes z ↦ not_found z | no z ↦ found z ]
+
+-- ---- The loop: the best start before s, and the most dependencies that a better one has.
+
+pub record Trying (rows : List ℕ) (K limit s : ℕ) (best : Option code.Begin) (most : ℕ) : Type 0 where
+  pub begun : Begun rows K limit s (begins limit best)
+  pub most_is : most ≡ (begins limit best).limit
+  pub some : IfSome best (λ b. (0 < b.n) × (b.class < K))
+
+pub trying_none : {rows : List ℕ} {K limit : ℕ} → limit ≤ K → Trying rows K limit 0 None limit
+trying_none few = record { begun = begun_none few; most_is = refl; some = tt }
+
+pub letter_place : (i : ℕ) (d : SecondLetter) → i < 2 → second_index (second_letter (get_or (letter.R ∷ letter.N ∷ []) i d)) ≡ i
+letter_place zero d l = refl
+letter_place (suc zero) d l = refl
+letter_place (suc (suc i)) d l = absurd (omega arith)
+
+module _ (letter : SecondLetter) {rows : List ℕ} {K limit class s most n : ℕ} {best : Option code.Begin} {levels : List ℕ}
+    (e : start_of class (second_letter letter) ≡ s) (o : Trying rows K limit s best most) (f : Filled rows K class (second_letter letter) most n levels) where
+  as_start : Filled rows K (s / 2) (letter_at (s % 2)) (begins limit best).limit n levels
+  as_start =
+      let p = same_start class s (second_letter letter) e in
+      subst (λ (x : ℕ). Filled rows K x (letter_at (s % 2)) (begins limit best).limit n levels) p.0
+      (subst (λ (d : Second). Filled rows K class d (begins limit best).limit n levels) p.1 (rw o.most_is at f))
+
+  pub tried_none : n ≡ 0 → Trying rows K limit (s + 1) best most
+  tried_none z =
+      record {
+        begun = begun_more o.begun as_start (record { none = λ _. refl; some = λ y. absurd (y z) });
+        most_is = o.most_is;
+        some = o.some;
+      }
+
+  pub tried_some : 0 < n → class < K → Trying rows K limit (s + 1) (Some (record { n = n; class = class; letter = letter })) (n - 1)
+  tried_some l k =
+      record {
+        begun = begun_more o.begun as_start (record { none = λ z. absurd (omega arith); some = λ _. (refl, e, omega arith) });
+        most_is = refl;
+        some = (l, k);
+      }
 
 -- ---- What the loop's end says.
 

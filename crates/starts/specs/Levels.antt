@@ -1,5 +1,5 @@
 -- The sets of arrivals from which a number of dependencies leads home.
-use Rattle.std.specs.Prelude.{◌≡◌, Bool, true, false, ◌⊎◌, List, ℕ, zero, suc, ◌+◌, ◌*◌, ◌<◌, ◌≤◌, get_or, set, length}
+use Rattle.std.specs.Prelude.{Option, None, Some, ◌≡◌, Bool, true, false, ◌⊎◌, List, ℕ, zero, suc, ◌+◌, ◌*◌, ◌<◌, ◌≤◌, get_or, set, length}
 use Rattle.rules.specs.HeldLocks.{First, Second, R, N}
 use Rattle.rules.specs.Graph.{Kind, Graph}
 use Rattle.rules.specs.StrongPath.{strong_joint}
@@ -12,6 +12,11 @@ use Rattle.routes.specs.Routes.{widest, Home}
 abbrev pub letter_at : ℕ → Second
 letter_at zero = R
 letter_at (suc n) = N
+
+-- A length that may be none as a number: 0 for none.
+abbrev pub length_number : Option ℕ → ℕ
+length_number None = 0
+length_number (Some n) = n
 
 -- A dependency goes on from class x, arrived at by b, into the set.
 pub record LeadsInto (rows : List ℕ) (s : Arrivals) (x : ℕ) (b : Second) : Type 0 where

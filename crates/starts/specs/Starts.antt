@@ -1,15 +1,28 @@
 -- The start of the least cycle.
-use Rattle.std.specs.Prelude.{◌≡◌, List, ℕ, ◌+◌, ◌*◌, ◌/◌, ◌%◌, ◌<◌, ◌≤◌}
+use Rattle.std.specs.Prelude.{Option, None, Some, ◌-◌, ◌≡◌, List, ℕ, ◌+◌, ◌*◌, ◌/◌, ◌%◌, ◌<◌, ◌≤◌}
 use Rattle.rules.specs.HeldLocks.{Second}
 use Rattle.rules.specs.Graph.{Graph}
 use Rattle.search.specs.Rows.{second_index, Rows}
 use Rattle.routes.specs.Routes.{Home}
 use Rattle.starts.specs.Levels.{letter_at, NoneUpTo}
-use Rattle.starts.specs.declared.Begin.{Begin}
+use Rattle.search.specs.Letters.{second_letter}
+use Rattle.starts.specs.declared.Begin as code
 
 -- The place of a class and a letter in the order of the starts.
 abbrev pub start_of : ℕ → Second → ℕ
 start_of x d = 2 * x + second_index d
+
+-- The best start so far: a cycle of n dependencies (0: none yet) from class start / 2 as after the letter start % 2. A better one has at most
+-- limit dependencies.
+pub record Begin : Type 0 where
+  pub n : ℕ
+  pub start : ℕ
+  pub limit : ℕ
+
+-- The best start that the code found, where a cycle may have at most limit dependencies.
+abbrev pub begins : ℕ → Option code.Begin → Begin
+begins limit None = record { n = 0; start = 0; limit = limit }
+begins limit (Some b) = record { n = b.n; start = start_of b.class (second_letter b.letter); limit = b.n - 1 }
 
 pub record Better (b : Begin) (n start : ℕ) (r : Begin) : Type 0 where
   pub none : n ≡ 0 → r ≡ b

@@ -1,7 +1,7 @@
 -- Laws of columns of binary digits. Assumes nothing.
 use mathlib.Core.Path.{◌≡◌, refl, sym, ap, ◌∙◌}
 use mathlib.Core.Bool.{Bool, true, ◌&&◌}
-use mathlib.Core.List.{List}
+use mathlib.Core.List.{List, reverse}
 use Prim.Native.Nat.{ℕ, zero, suc, ◌+◌, ◌-◌, ◌*◌, ◌/◌, ◌%◌, ◌^◌, ◌≤◌, ◌<◌}
 use native.Mathlib.Nat.{pow-suc, le_of_suc-le-suc, not-suc-le-zero, lt_of_lt_of_le, mul_assoc}
 use native.Mathlib.Omega.{arith}
@@ -10,7 +10,8 @@ use borrow.Author.Tests.{eqb-true}
 use Rattle.rules.proofs.Booleans.{and_cases}
 use lib.Bits.{bit_and}
 use lib.Pow.{pow_mono}
-use lib.ListN.{get_or}
+use lib.ListN.{get_or, length, take, drop}
+use Rattle.std.proofs.lemmas.List.{length-reverse, get_or-reverse, get_or_default, get_or-take, get_or-drop, length-take, length-drop}
 use Rattle.words.specs.Bits.{bit}
 use Rattle.words.proofs.Words.{bit_two, bit_high}
 use Rattle.successors.specs.Column.{column, spread_of, lanes, kind_word, Columns, Narrow, Joined}
@@ -39,6 +40,39 @@ spread_law b l =
 
 -- ---- Columns.
 
+-- The columns of a part of the bytes.
+column_same : (xs ys : List ℕ) (x y d n : ℕ) → ((i : ℕ) → i < n → get_or xs (x + i) 0 ≡ get_or ys (y + i) 0) → column xs x d n ≡ column ys y d n
+unfolding column
+column_same xs ys x y d zero h = refl
+column_same xs ys x y d (suc n) h =
+    let a : get_or xs x 0 ≡ get_or ys y 0 = let p : x + 0 ≡ x = omega arith in let q : y + 0 ≡ y = omega arith in rw (p, q) at (h 0 (omega arith)) in
+    let b : column xs (suc x) d n ≡ column ys (suc y) d n =
+    column_same xs ys (suc x) (suc y) d n (λ i l. let p : suc x + i ≡ x + suc i = omega arith in let q : suc y + i ≡ y + suc i = omega arith in rw (p, q) (h (suc i) (omega arith))) in
+    rw (a, b)
+
+pub column_part : (bytes : List ℕ) (at d n : ℕ) → at + n ≤ length bytes
+    → column (take n (drop at bytes)) 0 d (length (take n (drop at bytes))) ≡ column bytes at d n
+column_part bytes at d n h =
+    let l : length (take n (drop at bytes)) ≡ n = simp (length-take, length-drop) (omega arith) in
+    rw l (column_same _ _ 0 at d n (λ i m. let z : 0 + i ≡ i = omega arith in rw z (get_or-take n (drop at bytes) i 0 m ∙ get_or-drop at bytes i 0)))
+
+pub columns_part : (bytes : List ℕ) (at n : ℕ) (w : KindWords) → at + n ≤ length bytes
+    → Columns (take n (drop at bytes)) 0 (length (take n (drop at bytes))) w → Columns bytes at n w
+columns_part bytes at n w h x =
+    record {
+      er = x.er ∙ column_part bytes at 0 n h;
+      en = x.en ∙ column_part bytes at 1 n h;
+      sr = x.sr ∙ column_part bytes at 2 n h;
+      sn = x.sn ∙ column_part bytes at 3 n h;
+    }
+
+-- Of bytes that come from the end on, the one that comes behind n others.
+pub from_end : (xs : List ℕ) (n x : ℕ) → (n < length (reverse xs)) × (x ≡ get_or (reverse xs) n x) → (n < length xs) × (x ≡ get_or xs (length xs - (n + 1)) 0)
+from_end xs n x t =
+    let l : n < length xs = rw length-reverse at t.0 in
+    let e : length xs - 1 - n ≡ length xs - (n + 1) = omega arith in
+    (l, rw e at (t.1 ∙ get_or-reverse xs n x l ∙ get_or_default xs (length xs - 1 - n) x 0 (omega arith)))
+
 module _ (bytes : List ℕ) where
   pub column_lt : (d n at : ℕ) → column bytes at d n < 2 ^ n
   unfolding column
@@ -65,13 +99,13 @@ module _ (bytes : List ℕ) where
   pub column_out : (d n at j : ℕ) → n ≤ j → bit (column bytes at d n) j ≡ 0
   column_out d n at j l = bit_high n (column bytes at d n) j (column_lt d n at) l
 
-  -- One byte before, of the n from a place on.
-  pub column_step : (d at n t : ℕ) → 0 < t → t ≤ n
-      → column bytes (at + (t - 1)) d (n - (t - 1)) ≡ bit (get_or bytes (at + (t - 1)) 0) d + 2 * column bytes (at + t) d (n - t)
+  -- One byte before, of those at the end.
+  pub column_back : (d n : ℕ) → n < length bytes
+      → column bytes (length bytes - (n + 1)) d (n + 1) ≡ bit (get_or bytes (length bytes - (n + 1)) 0) d + 2 * column bytes (length bytes - n) d n
   unfolding column
-  column_step d at n t l h =
-      let y : n - (t - 1) ≡ suc (n - t) = omega arith in
-      let z : suc (at + (t - 1)) ≡ at + t = omega arith in
+  column_back d n l =
+      let y : n + 1 ≡ suc n = omega arith in
+      let z : suc (length bytes - suc n) ≡ length bytes - n = omega arith in
       rw (y, z)
 
   pub column_none : (d at : ℕ) → column bytes at d 0 ≡ 0
@@ -106,24 +140,20 @@ module _ (bytes : List ℕ) where
       rw (y, z) (column_append d 16 (k - 16 * b) (at + 16 * (b - 1)))
 
   -- One byte before, in all four lanes, which have room for 16.
-  pub lanes_step : (at n t : ℕ) → 0 < t → t ≤ n → n ≤ 16
-      → (lanes bytes (at + t) (n - t) * 2 + spread_of (get_or bytes (at + (t - 1)) 0) ≡ lanes bytes (at + (t - 1)) (n - (t - 1)))
-      × (lanes bytes (at + (t - 1)) (n - (t - 1)) < 18446744073709551616)
-  lanes_step at n t l h r =
-      let room : n - (t - 1) ≤ 16 = omega arith in
-      let m = n - (t - 1) in
-      let s = at + (t - 1) in (
-        omega (arith, column_step 0 at n t l h, column_step 1 at n t l h, column_step 2 at n t l h, column_step 3 at n t l h),
-        omega (arith, column_bound 0 m s 16 room, column_bound 1 m s 16 room, column_bound 2 m s 16 room, column_bound 3 m s 16 room),
+  pub lanes_back : (n : ℕ) → n < length bytes → length bytes ≤ 16
+      → (lanes bytes (length bytes - n) n * 2 + spread_of (get_or bytes (length bytes - (n + 1)) 0) ≡ lanes bytes (length bytes - (n + 1)) (n + 1))
+      × (lanes bytes (length bytes - (n + 1)) (n + 1) < 18446744073709551616)
+  lanes_back n l r =
+      let room : n + 1 ≤ 16 = omega arith in
+      let s = length bytes - (n + 1) in (
+        omega (arith, column_back 0 n l, column_back 1 n l, column_back 2 n l, column_back 3 n l),
+        omega (arith, column_bound 0 (n + 1) s 16 room, column_bound 1 (n + 1) s 16 room, column_bound 2 (n + 1) s 16 room, column_bound 3 (n + 1) s 16 room),
       )
 
-  pub lanes_split : (at n t w : ℕ) → t ≡ 0 → n ≤ 16 → w ≡ lanes bytes (at + t) (n - t)
+  pub lanes_split : (at n w : ℕ) → n ≤ 16 → w ≡ lanes bytes at n
       → Columns bytes at n
       (record { er = w % 65536; en = w / 65536 % 65536; sr = w / 4294967296 % 65536; sn = w / 281474976710656 })
-  lanes_split at n t w z r e =
-      let y : at + t ≡ at = omega arith in
-      let x : n - t ≡ n = omega arith in
-      let f : w ≡ lanes bytes at n = rw (y, x) at e in
+  lanes_split at n w r e =
       let b0 = column_bound 0 n at 16 r in
       let b1 = column_bound 1 n at 16 r in
       let b2 = column_bound 2 n at 16 r in

@@ -11,6 +11,10 @@ use Rattle.search.specs.Rows.{kind_index, row_at, Rows, Ranged}
 use Rattle.successors.specs.Column.{column, kind_word}
 use Rattle.successors.specs.declared.KindWords.{KindWords}
 use Rattle.successors.specs.declared.SafeWords.{SafeWords}
+use Rattle.successors.specs.declared.Irq.{Irq}
+use Rattle.successors.specs.declared.Irq.TheVariants.{Hard, Soft}
+use Rattle.successors.specs.declared.Mark.{Mark}
+use Rattle.successors.specs.declared.Mark.TheVariants.{SafeN, SafeR, UnsafeE, UnsafeS}
 
 -- The buffers are long enough for k classes.
 pub record Ready (desk sheet : List ℕ) (k : ℕ) : Type 0 where
@@ -28,6 +32,20 @@ usage_digit (safe N) = 0
 usage_digit (safe R) = 1
 usage_digit (unsafe E) = 2
 usage_digit (unsafe S) = 3
+
+-- The same of the code's levels and marks.
+abbrev pub level_number : Irq → ℕ
+level_number Hard = 0
+level_number Soft = 4
+
+abbrev pub mark_number : Mark → ℕ
+mark_number SafeN = 0
+mark_number SafeR = 1
+mark_number UnsafeE = 2
+mark_number UnsafeS = 3
+
+abbrev pub mark_digit : Irq → Mark → ℕ
+mark_digit level mark = mark_number mark + level_number level
 
 -- Whether an unsafe mark of the digit d meets a safe mark at the same level.
 abbrev pub irq_digit : (mark d hard soft : ℕ) → ℕ

@@ -5,7 +5,7 @@ ghost use Rattle.std.specs.Prelude.{◌≡◌, ℕ, ◌+◌, ◌*◌, ◌<◌, �
 ghost use Rattle.words.specs.Bits.{bit};
 ghost use Rattle.layout.specs.Layout.{desk_size, marks_at};
 ghost use Rattle.successors.specs.Column.{column, spread_of, Columns, Narrow, Joined};
-ghost use Rattle.successors.specs.Successors.{Ready, irq_digit, SafeColumns, WithIrq, ClassWords, stored, Successors};
+ghost use Rattle.successors.specs.Successors.{Ready, level_number, mark_number, mark_digit, irq_digit, SafeColumns, WithIrq, ClassWords, stored, Successors};
 
 use layout::{MARKS_AT, MAX_CLASSES};
 
@@ -15,6 +15,7 @@ pub const DEPENDENCY_KINDS: usize = 4;
 pub const ROWS: usize = DEPENDENCY_KINDS * MAX_CLASSES;
 
 // A word for each kind of dependency.
+// Kept: by an array numbers would stand for the kinds again, and the lines of `with_irq` would not say which kind has which marks.
 #[derive(Clone, Copy)]
 pub struct KindWords {
     pub er: u64,
@@ -39,19 +40,17 @@ const BLOCK: usize = 16;
 fn spread(byte: u8) -> u64
     ensures { result ≡ spread_of byte }
 {
-    (byte as u64 * 0x2000_4000_8001) & 0x1_0001_0001_0001
+    (u64::from(byte) * 0x2000_4000_8001) & 0x1_0001_0001_0001
 }
 
 // The columns of up to 16 bytes, all four in one word on the way.
-fn block(bytes: &[u8], at: usize, n: usize) -> KindWords
-    requires { (n ≤ 16) × (at + n ≤ length bytes.now) }
-    ensures { Columns bytes.now at n result }
+fn block(bytes: &[u8]) -> KindWords
+    requires { length bytes.now ≤ 16 }
+    ensures { Columns bytes.now 0 (length bytes.now) result }
 {
     let mut lanes: u64 = 0;
-    let mut t = n;
-    while t > 0 {
-        t -= 1;
-        lanes = lanes * 2 + spread(bytes[at + t]);
+    for byte in bytes.iter().rev() {
+        lanes = lanes * 2 + spread(*byte);
     }
     KindWords {
         er: lanes % 65536,
@@ -74,98 +73,108 @@ fn joined(high: KindWords, low: KindWords) -> KindWords
     }
 }
 
-// The words of the lock dependencies in the row of k bytes at a place of the sheet.
-fn lock_words(sheet: &[u8], at: usize, k: usize) -> KindWords
-    requires { (k ≤ 64) × (at + k ≤ length sheet.now) }
-    ensures { Columns sheet.now at k result }
+// The words of the lock dependencies in a row of the sheet.
+fn lock_words(row: &[u8]) -> KindWords
+    requires { length row.now ≤ 64 }
+    ensures { Columns row.now 0 (length row.now) result }
 {
-    let mut blocks = k / BLOCK;
-    let mut words = block(sheet, at + BLOCK * blocks, k % BLOCK);
-    while blocks > 0 {
-        blocks -= 1;
-        words = joined(words, block(sheet, at + BLOCK * blocks, BLOCK));
+    let blocks = row.len() / BLOCK;
+    let mut words = block(&row[BLOCK * blocks..]);
+    for i in (0..blocks).rev() {
+        words = joined(words, block(&row[BLOCK * i..BLOCK * (i + 1)]));
     }
     words
 }
 
 // ---- Interrupt dependencies: by words.
 
-// The digits of the usage marks in a mark byte: a level's first digit, and the place of the mark from there.
-pub const HARD_DIGITS: u32 = 0;
+// The levels of interrupts, by the first of a level's digits in a mark byte.
+#[derive(Clone, Copy)]
+pub enum Irq {
+    Hard = 0,
+    Soft = 4,
+}
 
-pub const SOFT_DIGITS: u32 = 4;
+// The usage marks of a level, by their digits from the level's first on.
+#[derive(Clone, Copy)]
+pub enum Mark {
+    SafeN,
+    SafeR,
+    UnsafeE,
+    UnsafeS,
+}
 
-const SAFE_R: u32 = 1;
-
-pub const UNSAFE_E: u32 = 2;
-
-pub const UNSAFE_S: u32 = 3;
+// The digit of a mark in a mark byte.
+fn digit_of(level: Irq, mark: Mark) -> u32
+    ensures { result ≡ mark_digit level mark }
+{
+    level as u32 + mark as u32
+}
 
 fn digit(byte: u8, d: u32) -> u64
     requires { d < 8 }
     ensures { result ≡ bit byte d }
 {
-    let shifted = byte >> d;
-    (shifted % 2) as u64
+    u64::from((byte >> d) % 2)
 }
 
-// The digits d of k bytes from a place on.
-pub fn column_of(bytes: &[u8], at: usize, k: usize, d: u32) -> u64
-    requires { (at + k ≤ length bytes.now) × (k ≤ 64) × (d < 8) }
-    ensures { result ≡ column bytes.now at d k }
+// The digits d of the bytes.
+pub fn column_of(bytes: &[u8], d: u32) -> u64
+    requires { (length bytes.now ≤ 64) × (d < 8) }
+    ensures { result ≡ column bytes.now 0 d (length bytes.now) }
 {
     let mut word: u64 = 0;
-    let mut c = k;
-    while c > 0 {
-        c -= 1;
-        word = word * 2 + digit(bytes[at + c], d);
+    for byte in bytes.iter().rev() {
+        word = word * 2 + digit(*byte, d);
     }
     word
 }
 
-// The classes below k that have the mark of the digit d.
-fn marked(desk: &[u8], k: usize, d: u32) -> u64
-    requires { (desk_size ≤ length desk.now) × (k ≤ 64) × (d < 8) }
-    ensures { result ≡ column desk.now marks_at d k }
+// The classes below k that have a mark.
+fn marked(desk: &[u8], k: usize, level: Irq, mark: Mark) -> u64
+    requires { (desk_size ≤ length desk.now) × (k ≤ 64) }
+    ensures { result ≡ column desk.now marks_at (mark_digit level mark) k }
 {
-    column_of(desk, MARKS_AT, k, d)
+    column_of(&desk[MARKS_AT..MARKS_AT + k], digit_of(level, mark))
 }
 
-// The safe marks of the level whose first digit is d.
-pub fn safe_words(desk: &[u8], k: usize, d: u32) -> SafeWords
-    requires { (desk_size ≤ length desk.now) × (k ≤ 64) × (d < 7) }
-    ensures { SafeColumns desk.now k d result }
+// The safe marks of a level.
+pub fn safe_words(desk: &[u8], k: usize, level: Irq) -> SafeWords
+    requires { (desk_size ≤ length desk.now) × (k ≤ 64) }
+    ensures { SafeColumns desk.now k (level_number level) result }
 {
     SafeWords {
-        n: marked(desk, k, d),
-        r: marked(desk, k, d + SAFE_R),
+        n: marked(desk, k, level, Mark::SafeN),
+        r: marked(desk, k, level, Mark::SafeR),
     }
 }
 
-// The word, where the mark byte has the digit d.
-pub fn picked(mark: u8, d: u32, word: u64) -> u64
-    requires { d < 8 }
-    ensures { (t : ℕ) → bit result t ≡ min (bit mark d) (bit word t) }
+// The word, where the mark byte has the mark.
+pub fn picked(byte: u8, level: Irq, mark: Mark, word: u64) -> u64
+    ensures { (t : ℕ) → bit result t ≡ min (bit byte (mark_digit level mark)) (bit word t) }
 {
-    if digit(mark, d) == 1 { word } else { 0 }
+    if digit(byte, digit_of(level, mark)) == 1 {
+        word
+    } else {
+        0
+    }
 }
 
-// The classes with a safe mark of a level at which the mark byte has an unsafe mark: d is its place from the level's first digit.
-fn irq_word(mark: u8, d: u32, hard: u64, soft: u64) -> u64
-    requires { d < 4 }
-    ensures { (t : ℕ) → bit result t ≡ irq_digit mark d (bit hard t) (bit soft t) }
+// The classes with a safe mark of a level at which the mark byte has the unsafe mark.
+fn irq_word(byte: u8, mark: Mark, hard: u64, soft: u64) -> u64
+    ensures { (t : ℕ) → bit result t ≡ irq_digit byte (mark_number mark) (bit hard t) (bit soft t) }
 {
-    picked(mark, d + HARD_DIGITS, hard) | picked(mark, d + SOFT_DIGITS, soft)
+    picked(byte, Irq::Hard, mark, hard) | picked(byte, Irq::Soft, mark, soft)
 }
 
-fn with_irq(mark: u8, hard: SafeWords, soft: SafeWords, locks: KindWords) -> KindWords
-    ensures { WithIrq mark hard soft locks result }
+fn with_irq(byte: u8, hard: SafeWords, soft: SafeWords, locks: KindWords) -> KindWords
+    ensures { WithIrq byte hard soft locks result }
 {
     KindWords {
-        er: locks.er | irq_word(mark, UNSAFE_E, hard.r, soft.r),
-        en: locks.en | irq_word(mark, UNSAFE_E, hard.n, soft.n),
-        sr: locks.sr | irq_word(mark, UNSAFE_S, hard.r, soft.r),
-        sn: locks.sn | irq_word(mark, UNSAFE_S, hard.n, soft.n),
+        er: locks.er | irq_word(byte, Mark::UnsafeE, hard.r, soft.r),
+        en: locks.en | irq_word(byte, Mark::UnsafeE, hard.n, soft.n),
+        sr: locks.sr | irq_word(byte, Mark::UnsafeS, hard.r, soft.r),
+        sn: locks.sn | irq_word(byte, Mark::UnsafeS, hard.n, soft.n),
     }
 }
 
@@ -186,7 +195,7 @@ fn class_words(
         desk[MARKS_AT + class],
         hard,
         soft,
-        lock_words(sheet, class * k, k),
+        lock_words(&sheet[class * k..(class + 1) * k]),
     )
 }
 
@@ -206,17 +215,16 @@ pub fn put_successors(desk: &[u8], sheet: &[u8], k: usize, rows: &mut [u64; ROWS
     requires { Ready desk.now sheet.now k }
     ensures { Successors desk.now sheet.now k rows.new }
 {
-    let hard = safe_words(desk, k, HARD_DIGITS);
-    let soft = safe_words(desk, k, SOFT_DIGITS);
+    let hard = safe_words(desk, k, Irq::Hard);
+    let soft = safe_words(desk, k, Irq::Soft);
     *rows = [0; ROWS];
-    let mut class = 0;
-    while class < k {
+    for class in 0..k {
         store(rows, class, class_words(desk, sheet, k, class, hard, soft));
-        class += 1;
     }
 }
 
 // The same by value.
+// Kept: docs/PROMISES.md names it as what says of the words what `Successors` says.
 pub fn successors(desk: &[u8], sheet: &[u8], k: usize) -> [u64; ROWS]
     requires { Ready desk.now sheet.now k }
     ensures { Successors desk.now sheet.now k result }

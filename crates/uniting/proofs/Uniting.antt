@@ -8,7 +8,6 @@ use native.Mathlib.Omega.{arith}
 use lib.Bits.{bit_or}
 use lib.ListN.{length, get_or, set, length-set}
 use lib.Seq.{get_or-set_same, get_or-set_other}
-use borrow.Author.Tests.{eq-eqb, ne_eqb}
 use Rattle.rules.specs.Join.{first_or}
 use Rattle.layout.specs.Layout.{number_size, pair_number}
 use Rattle.layout.specs.Encoding.{NumberBytes}
@@ -30,12 +29,6 @@ united_more {one} {two} {before} {now} {at} {j} u l m =
       ];
       else = λ i o. get_or-set_other now j i _ 0 (⊎_elim (λ a e. omega arith) (λ a e. omega arith) o) ∙ u.else i (⊎_elim (λ a. inl a) (λ a. inr (omega arith)) o);
     }
-
-pub first_given : (n m : ℕ) → (n ≡ 0 → ⊥) → n ≡ first_or n m
-first_given n m h = rw (ne_eqb n 0 h)
-
-pub second_given : (n m : ℕ) → n ≡ 0 → m ≡ first_or n m
-second_given n m h = rw (eq-eqb n 0 h)
 
 pub numbers_none : (one two before : List ℕ) → NumbersJoined one two 0 before before
 numbers_none one two before = record { keeps = record { long = refl; past = λ j l. refl }; numbers = λ j l. absurd (omega arith) }

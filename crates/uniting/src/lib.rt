@@ -15,10 +15,8 @@ pub fn unite(one: &[u8], two: &[u8], joined: &mut [u8], at: usize, end: usize)
     requires { (at ≤ end) × (end ≤ length one.now) × (end ≤ length two.now) × (end ≤ length joined.old) }
     ensures { United one.now two.now at end joined.old joined.new }
 {
-    let mut j = at;
-    while j < end {
+    for j in at..end {
         joined[j] = one[j] | two[j];
-        j += 1;
     }
 }
 
@@ -26,10 +24,7 @@ pub fn unite(one: &[u8], two: &[u8], joined: &mut [u8], at: usize, end: usize)
 fn first_or(one: u32, two: u32) -> u32
     ensures { result ≡ first_or one two }
 {
-    if one == 0 {
-        return two;
-    }
-    one
+    if one == 0 { two } else { one }
 }
 
 // The numbers of so many pairs.
@@ -37,12 +32,10 @@ pub fn join_numbers(one: &[u8], two: &[u8], joined: &mut [u8], pairs: usize)
     requires { (pairs ≤ sheet_size max_classes) × (number_size * pairs ≤ length one.now) × (number_size * pairs ≤ length two.now) × (number_size * pairs ≤ length joined.old) }
     ensures { NumbersJoined one.now two.now pairs joined.old joined.new }
 {
-    let mut j: usize = 0;
-    while j < pairs {
+    for j in 0..pairs {
         let at = NUMBER_SIZE * j;
         let first = number_at(one, at);
         let second = number_at(two, at);
         put_number(joined, at, first_or(first, second));
-        j += 1;
     }
 }

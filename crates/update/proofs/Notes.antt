@@ -1,11 +1,12 @@
 -- Bits added to the bytes of a buffer, and whether that changed it. Assumes nothing.
 use mathlib.Core.Path.{◌≡◌, refl, sym, ap, ◌∙◌}
-use mathlib.Core.Bool.{Bool, true, false, true≢false}
+use mathlib.Core.Bool.{Bool, true, false, not, ◌||◌, or-false, or-true, true≢false}
 use mathlib.Core.List.{List}
-use mathlib.Core.Logic.{◌⊎◌, inl, inr}
 use Prim.Native.Nat.{ℕ, ◌≤◌, ◌<◌}
 use native.Mathlib.Decide.{ℕ_discrete}
 use native.Mathlib.Omega.{arith}
+use lib.Dec.{eqb}
+use borrow.Author.Tests.{eq-eqb, ne_eqb}
 use lib.Bits.{bit_or, or_add_and, and_le_r}
 use lib.ListN.{length, get_or, set}
 use lib.Seq.{set-get_or, get_or-set_same, get_or-set_other}
@@ -43,24 +44,27 @@ module _ {before now : List ℕ} {changed : Bool} (N : Noting before now changed
   still : byte ≡ get_or now a 0 → set now a byte ≡ now
   still e = ap (set now a) e ∙ set-get_or now a 0
 
-  -- One byte is written: the note is set where it changes, and else kept.
-  pub noting_step : (changed' : Bool) → ((byte ≡ get_or now a 0 → ⊥) × (changed' ≡ true)) ⊎ ((byte ≡ get_or now a 0) × (changed' ≡ changed))
-      → Noting before (set now a byte) changed'
-  noting_step changed' (inl w) =
+  -- One byte is written, and with it the note where that changes it.
+  noted_more : (byte ≡ get_or now a 0 → ⊥) → Noting before (set now a byte) true
+  noted_more ne =
       let g = or_grows (get_or now a 0) b in
       let s = get_or-set_same now a byte 0 inside in
       let o = N.grows a in
       record {
-        same = λ e. absurd (true≢false (sym w.1 ∙ e));
-        more = λ e. record { at = a; grown = elim (ℕ_discrete byte (get_or now a 0)) [ yes q ↦ absurd (w.0 q) | no n ↦ omega arith ] };
+        same = λ e. absurd (true≢false e);
+        more = λ e. record { at = a; grown = elim (ℕ_discrete byte (get_or now a 0)) [ yes q ↦ absurd (ne q) | no n ↦ omega arith ] };
         grows = λ j. let x = N.grows j in let y = wider j in omega arith;
       }
-  noting_step changed' (inr w) =
-      record {
-        same = λ e. still w.0 ∙ N.same (sym w.1 ∙ e);
-        more = λ e. let m = N.more (sym w.1 ∙ e) in record { at = m.at; grown = let x = m.grown in let y = wider m.at in omega arith };
-        grows = λ j. let x = N.grows j in let y = wider j in omega arith;
-      }
+
+  noted_same : byte ≡ get_or now a 0 → Noting before (set now a byte) changed
+  noted_same q = rw (still q) N
+
+  pub noting_step : Noting before (set now a byte) (changed || not (eqb byte (get_or now a 0)))
+  noting_step =
+      elim (ℕ_discrete byte (get_or now a 0)) [
+        | yes q ↦ rw (eq-eqb byte (get_or now a 0) q, or-false changed) (noted_same q)
+        | no n ↦ rw (ne_eqb byte (get_or now a 0) n, or-true changed) (noted_more n)
+      ]
 
 pub noting_done : {before now : List ℕ} {changed : Bool} → Noting before now changed → Noted before now changed
 noting_done {before} {now} N =

@@ -8,6 +8,7 @@ ghost use Rattle.held.specs.Frames.{HeldIn};
 ghost use Rattle.update.specs.Update.{Noted, Drawn, Marked};
 
 use context::{CoreState, kind_bit, mark_bits};
+use held::held_bytes;
 use layout::{DEPTHS_AT, HELD_AT, HELD_MODES, MARKS_AT, MAX_DEPTH};
 use origins::origin;
 
@@ -30,18 +31,13 @@ pub fn draw(
         return false;
     }
     let mut changed = false;
-    let d = desk[DEPTHS_AT + frame] as usize;
-    let mut p: usize = 0;
-    while p < d {
-        let held = desk[HELD_AT + MAX_DEPTH * frame + p] as usize;
+    for held in held_bytes(desk, frame) {
+        let held = *held as usize;
         let at = (held % 64) * k + class;
         let seen = sheet[at];
         let kinds = seen | kind_bit(held / 64, mode);
-        if kinds != seen {
-            changed = true;
-        }
+        changed |= kinds != seen;
         sheet[at] = kinds;
-        p += 1;
     }
     changed
 }
@@ -53,18 +49,14 @@ pub fn mark(desk: &mut [u8], frame: usize, k: usize, context: CoreState) -> bool
 {
     let mut changed = false;
     let d = desk[DEPTHS_AT + frame] as usize;
-    let mut p: usize = 0;
-    while p < d {
+    for p in 0..d {
         let held = desk[HELD_AT + MAX_DEPTH * frame + p] as usize;
         let tried = origin(desk, MAX_DEPTH * frame + p) as usize;
         let at = MARKS_AT + held % 64;
         let seen = desk[at];
         let marks = seen | mark_bits(context, held / 64 + TRY * tried);
-        if marks != seen {
-            changed = true;
-        }
+        changed |= marks != seen;
         desk[at] = marks;
-        p += 1;
     }
     changed
 }

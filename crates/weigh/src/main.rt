@@ -3,48 +3,38 @@
 // The program is thin: what it writes of the bytes that it read is `balance_text::put_text`'s.
 #![tactic(auto)]
 
-ghost use Rattle.std.specs.Prelude.{◌≤◌, length};
+ghost use Rattle.std.specs.Prelude.{◌≤◌, length, IfOk};
 
 use balance::MOST_BYTES;
 use balance_text::TEXT_SIZE;
-use std::io::Read;
+use std::io::{self, Read};
 
 // Room for the longest piece and a byte more: a piece that fills it is too long, and nothing behind it need be read.
 const BUF_SIZE: usize = MOST_BYTES + 1;
 
-// Whether no read failed, and how many bytes they gave.
-#[derive(Drop)]
-struct Got {
-    whole: bool,
-    size: usize,
-}
-
-// Reads up to the end of the input, or until the buffer is full.
-fn read_piece<R: Read>(input: &mut R, buf: &mut [u8]) -> Got
-    ensures { result.size ≤ length buf.new }
+// Reads up to the end of the input, or until the buffer is full, and says how many bytes that gave.
+fn read_piece<R: Read>(input: &mut R, buf: &mut [u8]) -> io::Result<usize>
+    ensures { IfOk result (λ size. size ≤ length buf.new) }
 {
     let mut size = 0;
+    // Kept: a read gives as many bytes as it has, so no range counts this loop.
     while size < buf.len() {
-        let Ok(n) = input.read(&mut buf[size..]) else {
-            return Got { whole: false, size };
-        };
+        let n = input.read(&mut buf[size..])?;
         if n == 0 {
-            return Got { whole: true, size };
+            break;
         }
         size += n;
     }
-    Got { whole: true, size }
+    Ok(size)
 }
 
 fn main(rt: HostRuntime) {
     let mut buf = [0u8; BUF_SIZE];
     let mut out = [0u8; TEXT_SIZE];
-    let got = read_piece(&mut rt.stdin(), &mut buf);
-    if !got.whole {
+    let Ok(n) = read_piece(&mut rt.stdin(), &mut buf) else {
         let _ = rt.stderr().write_all(b"read failed\n");
         return;
-    }
-    let n = got.size;
+    };
     let size = balance_text::put_text(&mut out, &buf[..n]);
     if rt.stdout().write_all(&out[..size]).is_err() {
         let _ = rt.stderr().write_all(b"write failed\n");

@@ -1,11 +1,12 @@
 -- `balance::count_record` meets its contract. Assumes nothing.
-use mathlib.Core.Path.{sym, ◌∙◌}
+use mathlib.Core.Path.{refl, sym, ap, ◌∙◌}
 use native.Mathlib.Omega.{arith}
 use lib.IntN.{pos}
 use lib.ListN.{get_or}
 use Rattle.rules.specs.Record.{kind_of, class_of}
 use Rattle.rules.proofs.Formed.{well_formed}
-use Rattle.balance.proofs.Counting.{malformed_part, other_part, kind_part, none_counted, one_counted, part_small, still_small, added}
+use Rattle.balance.specs.Code.{part_of}
+use Rattle.balance.proofs.Counting.{malformed_part, other_part, kind_part, none_counted, one_counted, added}
 use Rattle.balance.proofs.count_record.Goals as goal
 
 pub returns-then-is_malformed : goal.returns-then-is_malformed
@@ -16,24 +17,13 @@ returns-then-is_malformed c =
 pub bounds-bytes-4 : goal.bounds-bytes-4
 bounds-bytes-4 c = omega (arith, (well_formed c.args.bytes.now (sym c.is_malformed.ensures ∙ c.if-is_malformed.false)).long)
 
-pub overflow_cast-class : goal.overflow_cast-class
-overflow_cast-class c = record { fits = omega (arith, c.shared_slice_known-2-1.given 4) }
-
 pub returns-then-class-ge-MAX_CLASSES : goal.returns-then-class-ge-MAX_CLASSES
 returns-then-class-ge-MAX_CLASSES c =
     let r = c.args.bytes.now in
     none_counted r c.args.balances.now c.requires.long (λ k l. other_part r k (λ e. absurd (omega (arith, e, l, c.if-class-ge-MAX_CLASSES.true))))
 
-pub bounds-bytes-3 : goal.bounds-bytes-3
-bounds-bytes-3 c = omega (arith, (well_formed c.args.bytes.now (sym c.is_malformed.ensures ∙ c.if-is_malformed.false)).long)
-
-pub sum-after-requires : goal.sum-after-requires
-sum-after-requires c =
-    let r = c.args.bytes.now in
-    let p = c.part_of-part in (
-      still_small (get_or c.args.balances.now (class_of r) (pos 0)) (c.requires.room (class_of r) c.if-class-ge-MAX_CLASSES.false) (omega arith),
-      still_small p.result (part_small (kind_of r) p.ensures) (omega arith),
-    )
+pub kind_of-requires : goal.kind_of-requires
+kind_of-requires c = well_formed c.args.bytes.now (sym c.is_malformed.ensures ∙ c.if-is_malformed.false)
 
 pub returns : goal.returns
 returns c =
@@ -42,4 +32,4 @@ returns c =
     let l = c.if-class-ge-MAX_CLASSES.false in
     let f = sym c.is_malformed.ensures ∙ c.if-is_malformed.false in
     let p = c.part_of-part in
-    one_counted r c.args.balances.now c.requires.long _ l (added b p.result _ (kind_of r) (c.requires.room (class_of r) l) p.ensures c.sum-after.ensures (kind_part r f))
+    one_counted r c.args.balances.now c.requires.long _ l (added b p.result _ (kind_of r) (c.requires.room (class_of r) l) (p.ensures ∙ ap part_of c.kind_of.ensures) refl (kind_part r f))

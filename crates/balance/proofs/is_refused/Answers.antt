@@ -8,6 +8,6 @@ pub returns-then-piece-gt-MOST_BYTES : goal.returns-then-piece-gt-MOST_BYTES
 unfolding is_refused
 returns-then-piece-gt-MOST_BYTES c = simp (lt-ltb most_bytes (length c.args.piece.now) c.if-piece-gt-MOST_BYTES.true)
 
-pub returns : goal.returns
+pub returns-else-piece-gt-MOST_BYTES : goal.returns-else-piece-gt-MOST_BYTES
 unfolding is_refused
-returns c = simp (le-ltb most_bytes (length c.args.piece.now) c.if-piece-gt-MOST_BYTES.false)
+returns-else-piece-gt-MOST_BYTES c = simp (le-ltb most_bytes (length c.args.piece.now) c.if-piece-gt-MOST_BYTES.false)

@@ -1,5 +1,5 @@
-use mathlib.Core.Path.{◌≡◌, refl, subst}
-use Prim.Native.Nat.{ℕ, ◌-◌}
+use mathlib.Core.Path.{◌≡◌, subst}
+use Prim.Native.Nat.{ℕ}
 use native.Mathlib.Omega.{arith}
 use lib.IntN.{pos}
 use lib.ListN.{get_or}
@@ -11,22 +11,7 @@ use Rattle.balance_text.proofs.Balances.{begun, line_more}
 use Rattle.balance_text.proofs.put_balances.Goals as goal
 
 pub loop-class-init : goal.loop-class-init
-loop-class-init c = (omega arith, refl, omega arith, begun (λ k. get_or c.args.balances.now k (pos 0)) c.args.out.now)
-
-pub offset_bounds-balances-class : goal.offset_bounds-balances-class
-offset_bounds-balances-class c = record { fits = omega arith }
-
-pub bounds-balances-class : goal.bounds-balances-class
-bounds-balances-class c = c.loop-class-test.true
-
-pub put_line-end-requires : goal.put_line-end-requires
-put_line-end-requires c = (omega arith, omega arith)
-
-pub overflow_add-class : goal.overflow_add-class
-overflow_add-class c = record { fits = omega arith }
-
-pub loop-class-smaller : goal.loop-class-smaller
-loop-class-smaller c = omega arith
+loop-class-init c = (omega arith, begun (λ k. get_or c.args.balances.now k (pos 0)) c.args.out.now)
 
 pub loop-class-preserved : goal.loop-class-preserved
 loop-class-preserved c =
@@ -34,18 +19,13 @@ loop-class-preserved c =
     let p = c.put_line-end in
     let b = c.args.balances.now in
     let small = c.requires.1.room l.class c.loop-class-test.true in (
-      omega arith,
-      omega (arith, p.auto.out, l.invariant.1),
-      omega (arith, p.ensures.short, l.invariant.2),
-      line_more (λ k. get_or b k (pos 0)) l.class _ (reads_back (get_or b l.class (pos 0)) (omega (arith, small))) l.invariant.3 p.ensures,
+      omega (arith, p.ensures.short, l.invariant.0),
+      line_more (λ k. get_or b k (pos 0)) l.class _ (reads_back (get_or b l.class (pos 0)) (omega (arith, small))) l.invariant.1 p.ensures,
     )
-
-pub shape_of-out : goal.shape_of-out
-shape_of-out c = c.loop-class.invariant.1
 
 pub returns : goal.returns
 returns c =
     let l = c.loop-class in
     let b = c.args.balances.now in
-    let e : l.class ≡ max_classes = omega (arith, l.invariant.0, c.loop-class-test.false) in
-    subst (λ (n : ℕ). Appended c.args.out.now 0 (lines_below n (λ k. get_or b k (pos 0))) l.out l.end) e l.invariant.3
+    let e : l.class ≡ max_classes = omega arith in
+    subst (λ (n : ℕ). Appended c.args.out.now 0 (lines_below n (λ k. get_or b k (pos 0))) l.out l.end) e l.invariant.1

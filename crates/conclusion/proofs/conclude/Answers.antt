@@ -1,7 +1,7 @@
 use Prim.Native.Nat.{◌+◌}
 use native.Mathlib.Omega.{arith}
 use Rattle.cores.proofs.Bytes.{state_less, held_in}
-use Rattle.conclusion.proofs.Conclusions.{found_ranged, conclude_clean, conclude_fault}
+use Rattle.conclusion.proofs.Conclusions.{found_some, found_ranged, conclude_clean, conclude_fault}
 use Rattle.conclusion.proofs.conclude.Goals as goal
 
 pub frame_of-frame-requires : goal.frame_of-frame-requires
@@ -22,20 +22,29 @@ pub put_successors-requires : goal.put_successors-requires
 put_successors-requires c =
     record { long = omega (arith, c.mark.ensures.0.keeps.long, c.requires.0.encodes.long); few = c.requires.0.few; room = c.requires.2.bytes.long }
 
-pub returns-then-bound-eq0 : goal.returns-then-bound-eq0
-returns-then-bound-eq0 c =
+pub returns-in_default : goal.returns-in_default
+returns-in_default c =
     let p = c.requires in
-    conclude_clean _ _ _ _ _ p.0.few p.1 _ _ (rw (c.frame_of-frame.ensures, c.state_of-context.ensures) at c.mark.ensures.0) c.put_successors.ensures c.cycle_bound-bound.ensures c.if-bound-eq0.true
+    conclude_clean _ _ _ _ _ p.0.few p.1 _ _ (rw (c.frame_of-frame.ensures, c.state_of-context.ensures) at c.mark.ensures.0) c.put_successors.ensures (rw c.in_default.is at c.cycle_bound.ensures.bounded)
+
+pub unreachable-requires : goal.unreachable-requires
+unreachable-requires c =
+    let p = c.requires in
+    let h = found_some c.args.desk.now c.args.sheet.now c.args.seen.now c.args.slip.now c.args.core p.0.few p.1 _ _
+    (rw (c.frame_of-frame.ensures, c.state_of-context.ensures) at c.mark.ensures.0) c.put_successors.ensures p.0 p.2 (rw c.in-Some.is at c.cycle_bound.ensures.bounded) (rw c.in-Some.is at c.cycle_bound.ensures.some)
+    (rw c.in_default-shortest_cycle.is at c.shortest_cycle.ensures) in
+    omega (arith, h)
 
 pub show-requires : goal.show-requires
 show-requires c =
-    let p = c.requires in (
+    let p = c.requires in
+    let f = rw c.in-Some-shortest_cycle.is at c.shortest_cycle.ensures in (
       p.0.few,
-      c.shortest_cycle.ensures.few,
+      f.few,
       found_ranged c.args.desk.now c.args.sheet.now c.args.seen.now c.args.slip.now c.args.core p.0.few p.1 _ _
-          (rw (c.frame_of-frame.ensures, c.state_of-context.ensures) at c.mark.ensures.0) c.put_successors.ensures p.0 p.2 c.cycle_bound-bound.ensures c.if-bound-eq0.false c.shortest_cycle.ensures,
+          (rw (c.frame_of-frame.ensures, c.state_of-context.ensures) at c.mark.ensures.0) c.put_successors.ensures p.0 p.2 (rw c.in-Some.is at c.cycle_bound.ensures.bounded) (rw c.in-Some.is at c.cycle_bound.ensures.some) f,
       p.3,
-      omega (arith, c.shortest_cycle.ensures.few, p.4),
+      omega (arith, f.few, p.4),
     )
 
 pub bounds-desk-1 : goal.bounds-desk-1
@@ -45,4 +54,4 @@ bounds-desk-1 c =
 pub returns : goal.returns
 returns c =
     let p = c.requires in
-    conclude_fault _ _ _ _ _ p.0.few p.1 _ _ (rw (c.frame_of-frame.ensures, c.state_of-context.ensures) at c.mark.ensures.0) c.put_successors.ensures _ c.cycle_bound-bound.ensures c.if-bound-eq0.false c.shortest_cycle.ensures c.show.ensures
+    conclude_fault _ _ _ _ _ p.0.few p.1 _ _ (rw (c.frame_of-frame.ensures, c.state_of-context.ensures) at c.mark.ensures.0) c.put_successors.ensures _ (rw c.in-Some.is at c.cycle_bound.ensures.bounded) (rw c.in-Some.is at c.cycle_bound.ensures.some) (rw c.in-Some-shortest_cycle.is at c.shortest_cycle.ensures) c.show.ensures

@@ -13,7 +13,7 @@ use Rattle.feed.proofs.feed_piece.Goals as goal
 pub returns-then-not-fits_feed : goal.returns-then-not-fits_feed
 returns-then-not-fits_feed c =
     let a = c.args in
-    call_unfit a.feed.now _ _ (found_unfit a.feed.now _ c.fits_feed.ensures (ap not c.if-not-fits_feed.true))
+    rw (c.unfit.ensures.0, c.unfit.ensures.1) (call_unfit a.feed.now _ _ (found_unfit a.feed.now _ c.fits_feed.ensures (ap not c.if-not-fits_feed.true)))
 
 pub load-requires : goal.load-requires
 load-requires c =
@@ -35,4 +35,5 @@ returns c =
     let t = c.take_piece-next in
     let b = buffers a.desk.now a.sheet.now a.seen.now a.history.now a.slip.now in
     let b' = buffers t.new.desk t.new.sheet t.new.seen t.new.history t.new.slip in
-    call_fit a.feed.now b _ _ b' (feed_of t.result) (found_fit c.args.feed.now _ c.fits_feed.ensures (ap not c.if-not-fits_feed.false)) (subst (λ (f : Feed). Fed f b a.piece.now (feed_of t.result) b') c.load.ensures.0 t.ensures.0) c.save.ensures
+    rw (c.from.ensures.0, c.from.ensures.1)
+    (call_fit a.feed.now b _ _ b' (feed_of t.result) (found_fit c.args.feed.now _ c.fits_feed.ensures (ap not c.if-not-fits_feed.false)) (subst (λ (f : Feed). Fed f b a.piece.now (feed_of t.result) b') c.load.ensures.0 t.ensures.0) c.save.ensures)

@@ -17,27 +17,6 @@ pub loop-at-init : goal.loop-at-init
 loop-at-init c =
     (omega arith, refl, refl, refl, refl, refl, c.requires.0, c.requires.1, fed_none (feed_of c.args.first) _ (rw (← c.requires.0) c.requires.1))
 
-pub shape_of-desk-then-now-ne-OK : goal.shape_of-desk-then-now-ne-OK
-shape_of-desk-then-now-ne-OK c = omega arith
-
-pub shape_of-sheet-then-now-ne-OK : goal.shape_of-sheet-then-now-ne-OK
-shape_of-sheet-then-now-ne-OK c = omega arith
-
-pub shape_of-seen-then-now-ne-OK : goal.shape_of-seen-then-now-ne-OK
-shape_of-seen-then-now-ne-OK c = omega arith
-
-pub shape_of-history-then-now-ne-OK : goal.shape_of-history-then-now-ne-OK
-shape_of-history-then-now-ne-OK c = omega arith
-
-pub shape_of-slip-then-now-ne-OK : goal.shape_of-slip-then-now-ne-OK
-shape_of-slip-then-now-ne-OK c = omega arith
-
-pub returns-then-now-ne-OK : goal.returns-then-now-ne-OK
-returns-then-now-ne-OK c =
-    let l = c.loop-at in
-    let a = c.args in
-    (subst (λ (xs : List ℕ). Fed (feed_of a.first) (buffers a.desk.now a.sheet.now a.seen.now a.history.now a.slip.now) xs (feed_of l.now) (buffers l.desk l.sheet l.seen l.history l.slip)) (take-append-drop l.at a.piece.now) (fed_append l.invariant.8 (stopped c.if-now-ne-OK.true)), omega (arith, unit_most l.now.opened (feed_of l.now).loose, l.invariant.7))
-
 pub unit_size-requires : goal.unit_size-requires
 unit_size-requires c =
     let l = c.loop-at in
@@ -74,27 +53,11 @@ loop-at-preserved c =
       omega arith,
       t.ensures.1,
       counted_few t.result t.ensures.1 (part_loose t.ensures.0),
-      fed_part c.args.piece.now c.next_part-part.result.now c.loop-at.at (c.unit_size.result - c.loop-at.now.count) c.next_part-part.ensures l.invariant.8 c.if-now-ne-OK.false t.ensures.0,
+      fed_part c.args.piece.now c.next_part-part.result.now c.loop-at.at (c.unit_size.result - c.loop-at.now.count) c.next_part-part.ensures l.invariant.8 c.if-now-eq-CLEAN.true t.ensures.0,
     )
 
-pub shape_of-desk : goal.shape_of-desk
-shape_of-desk c = omega arith
-
-pub shape_of-sheet : goal.shape_of-sheet
-shape_of-sheet c = omega arith
-
-pub shape_of-seen : goal.shape_of-seen
-shape_of-seen c = omega arith
-
-pub shape_of-history : goal.shape_of-history
-shape_of-history c = omega arith
-
-pub shape_of-slip : goal.shape_of-slip
-shape_of-slip c = omega arith
-
-pub returns : goal.returns
-returns c =
+pub returns-else-now-eq-CLEAN : goal.returns-else-now-eq-CLEAN
+returns-else-now-eq-CLEAN c =
     let l = c.loop-at in
     let a = c.args in
-    let e : take l.at a.piece.now ≡ a.piece.now = take_all l.at a.piece.now (omega arith) in
-    (subst (λ (xs : List ℕ). Fed (feed_of a.first) (buffers a.desk.now a.sheet.now a.seen.now a.history.now a.slip.now) xs (feed_of l.now) (buffers l.desk l.sheet l.seen l.history l.slip)) e l.invariant.8, omega (arith, unit_most l.now.opened (feed_of l.now).loose, l.invariant.7))
+    (subst (λ (xs : List ℕ). Fed (feed_of a.first) (buffers a.desk.now a.sheet.now a.seen.now a.history.now a.slip.now) xs (feed_of l.now) (buffers l.desk l.sheet l.seen l.history l.slip)) (take-append-drop l.at a.piece.now) (fed_append l.invariant.8 (stopped c.if-now-eq-CLEAN.false)), omega (arith, unit_most l.now.opened (feed_of l.now).loose, l.invariant.7))

@@ -3,9 +3,6 @@ use Rattle.validator.specs.Calls.{buffers}
 use Rattle.files.specs.Replayed.{Taken}
 use Rattle.files.proofs.feed_input.Given as goal
 
-abbrev pub invariant-loop-reads : goal.invariant-loop-reads
-invariant-loop-reads g l =
+abbrev pub invariant-loop : goal.invariant-loop
+invariant-loop g l =
     Taken l.initial.feed (buffers l.initial.desk l.initial.sheet l.initial.seen l.initial.history l.initial.slip) l.feed (buffers l.desk l.sheet l.seen l.history l.slip)
-
-abbrev pub decreases-loop-reads : goal.decreases-loop-reads
-decreases-loop-reads g l = l.reads

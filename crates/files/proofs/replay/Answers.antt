@@ -3,8 +3,8 @@ use Rattle.files.specs.Replayed.{unread, whole}
 use Rattle.files.proofs.Reading.{started_well}
 use Rattle.files.proofs.replay.Goals as goal
 
-pub returns-then-not-feed_input : goal.returns-then-not-feed_input
-returns-then-not-feed_input g c = unread
+pub returns-then-is_err : goal.returns-then-is_err
+returns-then-is_err g c = unread
 
 pub returns : goal.returns
 returns g c =

@@ -5,54 +5,27 @@ use Rattle.held.proofs.Frames.{OriginsMoving, origins_start, origins_step, origi
 use Rattle.held.proofs.move_origins.Goals as goal
 
 pub loop-p-init : goal.loop-p-init
-loop-p-init c = (origins_start _ _ _, omega arith)
-
-pub overflow_mul-frame : goal.overflow_mul-frame
-overflow_mul-frame c = omega arith
-
-pub overflow_add-frame : goal.overflow_add-frame
-overflow_add-frame c = omega arith
-
-pub overflow_add-frame-in-loop-p : goal.overflow_add-frame-in-loop-p
-overflow_add-frame-in-loop-p c = omega arith
+loop-p-init c = origins_start _ _ _
 
 pub origin-next-requires : goal.origin-next-requires
-origin-next-requires c = (omega (arith, c.loop-p.invariant.0.long), omega arith)
-
-pub overflow_mul-frame-in-loop-p : goal.overflow_mul-frame-in-loop-p
-overflow_mul-frame-in-loop-p c = omega arith
-
-pub overflow_add-frame-in-loop-p-2 : goal.overflow_add-frame-in-loop-p-2
-overflow_add-frame-in-loop-p-2 c = omega arith
+origin-next-requires c = (omega (arith, c.loop-p.invariant.long), omega arith)
 
 pub put_origin-requires : goal.put_origin-requires
 put_origin-requires c =
-    (omega (arith, c.loop-p.invariant.0.long), omega arith, rw c.origin-next.ensures (omega arith))
-
-pub overflow_add-p : goal.overflow_add-p
-overflow_add-p c = omega arith
-
-pub loop-p-smaller : goal.loop-p-smaller
-loop-p-smaller c = omega arith
+    (omega (arith, c.loop-p.invariant.long), omega arith, rw c.origin-next.ensures (omega arith))
 
 pub loop-p-preserved : goal.loop-p-preserved
 loop-p-preserved c =
     let l = c.loop-p in
     let p = c.requires in
     let put = rw c.origin-next.ensures at c.put_origin.ensures in
-    (origins_step l.invariant.0 p.1 (omega arith) put, omega arith)
-
-pub overflow_mul-frame-2 : goal.overflow_mul-frame-2
-overflow_mul-frame-2 c = omega arith
-
-pub overflow_add-frame-2 : goal.overflow_add-frame-2
-overflow_add-frame-2 c = omega arith
+    origins_step l.invariant p.1 (omega arith) put
 
 pub put_origin-requires-2 : goal.put_origin-requires-2
-put_origin-requires-2 c = (omega (arith, c.loop-p.invariant.0.long), omega arith, omega arith)
+put_origin-requires-2 c = (omega (arith, c.loop-p.invariant.long), omega arith, omega arith)
 
 pub shape_of-desk : goal.shape_of-desk
-shape_of-desk c = c.put_origin-2.ensures.long ∙ c.loop-p.invariant.0.long
+shape_of-desk c = c.put_origin-2.ensures.long ∙ c.loop-p.invariant.long
 
 pub returns : goal.returns
 returns c =
@@ -60,4 +33,4 @@ returns c =
     let a = c.args in
     let p = c.requires in
     let e : l.p ≡ a.last = omega arith in
-    origins_done (subst (λ (m : ℕ). OriginsMoving a.desk.now a.frame a.at m l.desk) e l.invariant.0) p.1 p.3 c.put_origin-2.ensures
+    origins_done (subst (λ (m : ℕ). OriginsMoving a.desk.now a.frame a.at m l.desk) e l.invariant) p.1 p.3 c.put_origin-2.ensures

@@ -1,14 +1,9 @@
 use mathlib.Core.Path.{sym, ◌∙◌}
-use Prim.Native.Nat.{◌*◌}
 use native.Mathlib.Numerals.{add-one}
 use native.Mathlib.Omega.{arith}
 use lib.ListN.{length-set}
-use Rattle.layout.specs.Layout.{kept_size}
 use Rattle.history.proofs.Striking.{entry_left, entry_struck}
 use Rattle.history.proofs.strike_entry.Goals as goal
-
-pub overflow_cast-history : goal.overflow_cast-history
-overflow_cast-history c = omega (arith, c.slice_known-1.given (kept_size * c.args.i))
 
 pub bounds-history-at-then-history-at-2 : goal.bounds-history-at-then-history-at-2
 bounds-history-at-then-history-at-2 c = simp length-set (omega arith)

@@ -1,12 +1,10 @@
--- `log::put_fault` meets its contract. Assumes nothing.
+-- `log_text::put_fault` meets its contract. Assumes nothing.
 use native.Mathlib.Omega.{arith}
 use Rattle.log_text.specs.Text.{fault_text}
 use Rattle.log_text.proofs.Digits.{places_of_word}
 use Rattle.log_text.proofs.Writing.{appended_both}
 use Rattle.log_text.proofs.put_fault.Goals as goal
 
--- no goal of this name now
--- no goal of this name now
 pub put_number-b-requires : goal.put_number-b-requires
 put_number-b-requires c = omega (arith, places_of_word c.args.number (omega arith))
 

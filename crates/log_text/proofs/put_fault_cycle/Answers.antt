@@ -1,4 +1,4 @@
--- `log::put_fault_cycle` meets its contract. Assumes nothing.
+-- `log_text::put_fault_cycle` meets its contract. Assumes nothing.
 use native.Mathlib.Omega.{arith}
 use Rattle.log_text.proofs.Lines.{fault_short}
 use Rattle.log_text.proofs.Writing.{appended_both}

@@ -12,7 +12,7 @@ pub seat_cores-requires : goal.seat_cores-requires
 seat_cores-requires c =
     let desk = c.args.desk.now in
     let long = c.requires in
-    let z = zeroed_front desk_size desk long desk_size _ refl c.fill.ensures in (
+    let z = zeroed_front desk_size desk long desk_size _ refl (c.fill.ensures.after (λ y e. e)) in (
       subst (λ (l : List ℕ). desk_size ≤ length l) (sym z) (rw (zeroed_length desk_size desk long) long),
       λ i l. ap (λ (l : List ℕ). get_or l (states_at + i) 0) z ∙ zeroed_below desk_size desk long (states_at + i) (omega arith),
     )
@@ -20,16 +20,16 @@ seat_cores-requires c =
 pub put_word-requires : goal.put_word-requires
 put_word-requires c =
     word_room c.args.classes c.args.declared c.args.desk.now c.requires _
-    (c.seat_cores.ensures ∙ zeroed_front desk_size c.args.desk.now c.requires desk_size _ refl c.fill.ensures)
+    (c.seat_cores.ensures ∙ zeroed_front desk_size c.args.desk.now c.requires desk_size _ refl (c.fill.ensures.after (λ y e. e)))
 
 pub shape_of-desk : goal.shape_of-desk
 shape_of-desk c =
     ap length
     (desk_opened c.args.classes c.args.declared c.args.desk.now c.requires _
-    (c.seat_cores.ensures ∙ zeroed_front desk_size c.args.desk.now c.requires desk_size _ refl c.fill.ensures) _ c.put_word.ensures)
+    (c.seat_cores.ensures ∙ zeroed_front desk_size c.args.desk.now c.requires desk_size _ refl (c.fill.ensures.after (λ y e. e))) _ c.put_word.ensures)
     ∙ desk_length c.args.classes c.args.declared c.args.desk.now c.requires
 
 pub returns : goal.returns
 returns c =
     desk_opened c.args.classes c.args.declared c.args.desk.now c.requires _
-    (c.seat_cores.ensures ∙ zeroed_front desk_size c.args.desk.now c.requires desk_size _ refl c.fill.ensures) _ c.put_word.ensures
+    (c.seat_cores.ensures ∙ zeroed_front desk_size c.args.desk.now c.requires desk_size _ refl (c.fill.ensures.after (λ y e. e))) _ c.put_word.ensures

@@ -1,18 +1,18 @@
 -- The code's tests are those of `opens`, in its order: a law for each exit.
-use mathlib.Core.Path.{◌≡◌, refl, sym, ap, ◌∙◌}
+use mathlib.Core.Path.{◌≡◌, refl, sym, ◌∙◌}
 use mathlib.Core.Bool.{true, false}
 use mathlib.Core.List.{List}
 use Prim.Native.Nat.{ℕ, ◌≤◌, ◌<◌}
-use native.Mathlib.Nat.{mul-le-mul, sub-zero}
-use native.Mathlib.Omega.{arith}
 use lib.ListN.{length}
 use borrow.Author.Tests.{lt-leb, le-leb}
 use Rattle.rules.specs.Limits.{max_classes}
 use Rattle.layout.specs.Layout.{desk_size, sheet_size, seen_size, history_size}
 use Rattle.layout.specs.Fit.{word_fits}
 use Rattle.opening.specs.Open.{Opened, opens, opened_desk, opened_sheet, opened_seen, opened_history}
-use Rattle.opening.proofs.Opens.{zeroed_front, desk_length}
+use Rattle.opening.proofs.Opens.{zeroed_front}
 use Rattle.opening.proofs.open.Goals as goal
+use Rattle.opening.proofs.open.Goals.{then-k-lt1-via-then-k-lt1, then-k-lt1-via-else-k-lt1+then-k-gt-MAX_CLASSES, then-k-lt1-via-else-k-lt1+else-k-gt-MAX_CLASSES+then-not-declares_below}
+use Rattle.opening.proofs.open.Goals.{then-desk-lt-DESK_SIZE-via-then-desk-lt-DESK_SIZE, then-desk-lt-DESK_SIZE-via-else-desk-lt-DESK_SIZE+then-sheet-size, then-desk-lt-DESK_SIZE-via-else-desk-lt-DESK_SIZE+else-sheet-size+then-seen-numbers, then-desk-lt-DESK_SIZE-via-else-desk-lt-DESK_SIZE+else-sheet-size+else-seen-numbers+then-history-lt-HISTORY_SIZE}
 
 module _ (K declared : ℕ) (desk sheet seen history : List ℕ) where
   abbrev Refused : Type 0
@@ -66,52 +66,35 @@ module _ (K declared : ℕ) (desk sheet seen history : List ℕ) where
                   record { answer = rw e; desk = rw e x; sheet = rw e y; seen = rw e z; history = rw e w }
 
 pub returns-then-k-lt1 : goal.returns-then-k-lt1
-returns-then-k-lt1 c = no_such_class _ _ _ _ _ _ c.if-k-lt1.true
-
-pub returns-then-k-gt-MAX_CLASSES : goal.returns-then-k-gt-MAX_CLASSES
-returns-then-k-gt-MAX_CLASSES c = many_classes _ _ _ _ _ _ c.if-k-lt1.false c.if-k-gt-MAX_CLASSES.true
-
-pub returns-then-not-declares_below : goal.returns-then-not-declares_below
-returns-then-not-declares_below c =
-    bad_word _ _ _ _ _ _ c.if-k-lt1.false c.if-k-gt-MAX_CLASSES.false (sym c.declares_below.ensures ∙ c.if-not-declares_below.true)
+returns-then-k-lt1 c =
+    elim c.then-k-lt1.branch [
+      | then-k-lt1-via-then-k-lt1 w ↦ no_such_class _ _ _ _ _ _ w.if-k-lt1.true
+      | then-k-lt1-via-else-k-lt1+then-k-gt-MAX_CLASSES w ↦ many_classes _ _ _ _ _ _ w.if-k-lt1.false w.if-k-gt-MAX_CLASSES.true
+      | then-k-lt1-via-else-k-lt1+else-k-gt-MAX_CLASSES+then-not-declares_below w ↦
+          bad_word _ _ _ _ _ _ w.if-k-lt1.false w.if-k-gt-MAX_CLASSES.false (sym w.declares_below.ensures ∙ w.if-not-declares_below.true)
+    ]
 
 pub returns-then-desk-lt-DESK_SIZE : goal.returns-then-desk-lt-DESK_SIZE
 returns-then-desk-lt-DESK_SIZE c =
-    short_desk _ _ _ _ _ _ c.if-k-lt1.false c.if-k-gt-MAX_CLASSES.false
-    (sym c.declares_below.ensures ∙ c.if-not-declares_below.false) c.if-desk-lt-DESK_SIZE.true
-
-pub overflow_mul-size : goal.overflow_mul-size
-overflow_mul-size c = omega (arith, mul-le-mul c.if-k-gt-MAX_CLASSES.false c.if-k-gt-MAX_CLASSES.false)
-
-pub returns-then-whole-size : goal.returns-then-whole-size
-returns-then-whole-size c =
-    short_sheet _ _ _ _ _ _ c.if-k-lt1.false c.if-k-gt-MAX_CLASSES.false
-    (sym c.declares_below.ensures ∙ c.if-not-declares_below.false) c.if-desk-lt-DESK_SIZE.false c.if-whole-size.true
-
-pub overflow_mul-numbers : goal.overflow_mul-numbers
-overflow_mul-numbers c = omega (arith, mul-le-mul c.if-k-gt-MAX_CLASSES.false c.if-k-gt-MAX_CLASSES.false)
-
-pub returns-then-seen-numbers : goal.returns-then-seen-numbers
-returns-then-seen-numbers c =
-    short_seen _ _ _ _ _ _ c.if-k-lt1.false c.if-k-gt-MAX_CLASSES.false
-    (sym c.declares_below.ensures ∙ c.if-not-declares_below.false) c.if-desk-lt-DESK_SIZE.false c.if-whole-size.false c.if-seen-numbers.true
-
-pub returns-then-history-lt-HISTORY_SIZE : goal.returns-then-history-lt-HISTORY_SIZE
-returns-then-history-lt-HISTORY_SIZE c =
-    short_history _ _ _ _ _ _ c.if-k-lt1.false c.if-k-gt-MAX_CLASSES.false
-    (sym c.declares_below.ensures ∙ c.if-not-declares_below.false) c.if-desk-lt-DESK_SIZE.false c.if-whole-size.false c.if-seen-numbers.false c.if-history-lt-HISTORY_SIZE.true
-
-pub shape_of-desk : goal.shape_of-desk
-shape_of-desk c =
-    let a = c.args in
-    ap length c.fresh_desk.ensures ∙ desk_length a.classes a.declared a.desk.now c.if-desk-lt-DESK_SIZE.false
+    let some = c.if-k-lt1.false in
+    let few = c.if-k-gt-MAX_CLASSES.false in
+    let word = sym c.declares_below.ensures ∙ c.if-not-declares_below.false in
+    elim c.then-desk-lt-DESK_SIZE.branch [
+      | then-desk-lt-DESK_SIZE-via-then-desk-lt-DESK_SIZE w ↦ short_desk _ _ _ _ _ _ some few word w.if-desk-lt-DESK_SIZE.true
+      | then-desk-lt-DESK_SIZE-via-else-desk-lt-DESK_SIZE+then-sheet-size w ↦
+          short_sheet _ _ _ _ _ _ some few word w.if-desk-lt-DESK_SIZE.false w.if-sheet-size.true
+      | then-desk-lt-DESK_SIZE-via-else-desk-lt-DESK_SIZE+else-sheet-size+then-seen-numbers w ↦
+          short_seen _ _ _ _ _ _ some few word w.if-desk-lt-DESK_SIZE.false w.if-sheet-size.false w.if-seen-numbers.true
+      | then-desk-lt-DESK_SIZE-via-else-desk-lt-DESK_SIZE+else-sheet-size+else-seen-numbers+then-history-lt-HISTORY_SIZE w ↦
+          short_history _ _ _ _ _ _ some few word w.if-desk-lt-DESK_SIZE.false w.if-sheet-size.false w.if-seen-numbers.false w.if-history-lt-HISTORY_SIZE.true
+    ]
 
 pub returns : goal.returns
 returns c =
     let a = c.args in
     opened _ _ _ _ _ _ c.if-k-lt1.false c.if-k-gt-MAX_CLASSES.false
-    (sym c.declares_below.ensures ∙ c.if-not-declares_below.false) c.if-desk-lt-DESK_SIZE.false c.if-whole-size.false c.if-seen-numbers.false
+    (sym c.declares_below.ensures ∙ c.if-not-declares_below.false) c.if-desk-lt-DESK_SIZE.false c.if-sheet-size.false c.if-seen-numbers.false
     _ _ _ _ c.if-history-lt-HISTORY_SIZE.false c.fresh_desk.ensures
-    (zeroed_front (sheet_size a.classes) a.sheet.now c.if-whole-size.false _ _ (sub-zero _) c.fill.ensures)
-    (zeroed_front (seen_size a.classes) a.seen.now c.if-seen-numbers.false _ _ (sub-zero _) c.fill-2.ensures)
-    (zeroed_front history_size a.history.now c.if-history-lt-HISTORY_SIZE.false _ _ refl c.fill-3.ensures)
+    (zeroed_front (sheet_size a.classes) a.sheet.now c.if-sheet-size.false _ _ refl (c.fill.ensures.after (λ y e. e)))
+    (zeroed_front (seen_size a.classes) a.seen.now c.if-seen-numbers.false _ _ refl (c.fill-2.ensures.after (λ y e. e)))
+    (zeroed_front history_size a.history.now c.if-history-lt-HISTORY_SIZE.false _ _ refl (c.fill-3.ensures.after (λ y e. e)))

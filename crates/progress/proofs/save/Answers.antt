@@ -1,40 +1,17 @@
-use mathlib.Core.Path.{◌≡◌, refl, ap, ◌∙◌}
-use mathlib.Core.List.{◌++◌}
-use Prim.Native.Nat.{ℕ, ◌-◌}
+-- `progress::save` meets its contract. Assumes nothing.
+use mathlib.Core.Path.{sym, ap, ◌∙◌}
+use Prim.Native.Nat.{ℕ}
 use native.Mathlib.Omega.{arith}
-use lib.ListN.{drop, length-set}
-use Rattle.rules.specs.Decision.{tabulate}
-use Rattle.progress.specs.Feed.{feed_size, byte_of}
+use lib.ListN.{replicate, length-drop, length-set}
+use lib.Seq.{length-take-le}
 use Rattle.progress.specs.Code.{feed_of}
-use Rattle.progress.proofs.Bytes.{tab_more}
+use Rattle.progress.proofs.Bytes.{length_loose, written}
 use Rattle.progress.proofs.save.Goals as goal
-
-pub loop-i-init : goal.loop-i-init
-loop-i-init c = (omega arith, refl, refl)
-
-pub byte_of-requires : goal.byte_of-requires
-byte_of-requires c = (omega arith, c.requires.1)
-
-pub bounds-feed-i : goal.bounds-feed-i
-bounds-feed-i c = omega arith
-
-pub overflow_add-i : goal.overflow_add-i
-overflow_add-i c = omega arith
-
-pub loop-i-smaller : goal.loop-i-smaller
-loop-i-smaller c = omega arith
-
-pub loop-i-preserved : goal.loop-i-preserved
-loop-i-preserved c =
-    let a = c.args in
-    let i = c.loop-i.invariant in
-    (omega arith, simp length-set i.1, rw (c.byte_of.ensures, i.2) (tab_more c.loop-i.i (byte_of (feed_of a.p)) a.feed.now (omega arith)))
-
-pub shape_of-feed : goal.shape_of-feed
-shape_of-feed c = omega arith
 
 pub returns : goal.returns
 returns c =
-    let e : c.loop-i.i ≡ feed_size = omega arith in
-    let a = c.args in
-    c.loop-i.invariant.2 ∙ ap (λ (n : ℕ). tabulate n (byte_of (feed_of a.p)) ++ drop n a.feed.now) e
+    let p = c.args.p in
+    let n = sym (length_loose p.loose p.count (omega arith) c.requires.1) in
+    let z = c.fill.ensures.after (λ y e. e) ∙ ap (λ (m : ℕ). replicate m 0) (length-take-le 11 _ (simp (length-drop, length-set) (omega (arith, c.requires.0)))) in
+    rw c.copy_from_slice.ensures.after
+    (written (feed_of p) c.args.feed.now _ _ _ p.count _ c.requires.0 n c.requires.1 (omega arith) c.from.ensures z (c.copy_from_slice-2.ensures.after ∙ c.to_le_bytes.ensures))

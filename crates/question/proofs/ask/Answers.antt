@@ -15,9 +15,9 @@ pub overflow_cast-k : goal.overflow_cast-k
 overflow_cast-k c =
     let f = facts _ _ _ (sym c.fits.ensures ∙ c.if-not-fits.false) in let l = f.few in omega arith
 
-pub returns-then-k-class : goal.returns-then-k-class
-returns-then-k-class c =
-    asked_no_class _ _ _ _ (sym c.fits.ensures ∙ c.if-not-fits.false) c.if-k-class.true
+pub returns-then-from-class : goal.returns-then-from-class
+returns-then-from-class c =
+    asked_no_class _ _ _ _ (sym c.fits.ensures ∙ c.if-not-fits.false) (rw c.from.ensures at c.if-from-class.true)
 
 pub overflow_cast-k-2 : goal.overflow_cast-k-2
 overflow_cast-k-2 c =
@@ -29,4 +29,4 @@ put_successors-requires c =
 
 pub returns : goal.returns
 returns c =
-    asked_answered _ _ _ _ _ _ _ (λ k l. omega (arith, c.shared_slice_known-1.given k)) (λ k l. omega (arith, c.shared_slice_known-3-1.given k)) (sym c.fits.ensures ∙ c.if-not-fits.false) c.if-k-class.false c.put_successors.ensures c.reach-word.ensures c.count-count.ensures.0
+    asked_answered _ _ _ _ _ _ _ (λ k l. omega (arith, c.type_inv.desk k)) (λ k l. omega (arith, c.type_inv.seen k)) (sym c.fits.ensures ∙ c.if-not-fits.false) (rw c.from.ensures at c.if-from-class.false) c.put_successors.ensures c.reach-word.ensures c.count-count.ensures.0

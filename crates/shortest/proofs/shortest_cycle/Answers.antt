@@ -1,23 +1,13 @@
 use mathlib.Core.Path.{refl}
-use native.Mathlib.Omega.{arith}
-use Rattle.shortest.proofs.Chains.{positive, none_found, some_found}
+use Rattle.shortest.proofs.Chains.{none_found, found_law}
 use Rattle.shortest.proofs.shortest_cycle.Goals as goal
 
-pub returns-then-b-eq0 : goal.returns-then-b-eq0
-returns-then-b-eq0 c = none_found c.first_start-b.ensures.0 c.if-b-eq0.true refl
-
-pub fill-requires : goal.fill-requires
-fill-requires c =
-    let p = c.requires in
-    let o = c.first_start-b.ensures in
-    let l = positive c.if-b-eq0.false in
-    (p.0.few, omega (arith, o.0.before l), omega (arith, o.0.within l, p.0.few), o.1)
-
-pub chain-requires : goal.chain-requires
-chain-requires c =
-    let o = c.first_start-b.ensures in
-    let l = positive c.if-b-eq0.false in
-    (c.requires.0, o.0.within l, o.0.before l)
+pub returns-in_err-b : goal.returns-in_err-b
+returns-in_err-b c =
+    let o = rw c.in_err-b.was at c.first_start.ensures in
+    rw c.from_residual.ensures (none_found o.0 refl refl)
 
 pub returns : goal.returns
-returns c = some_found c.first_start-b.ensures.0 c.if-b-eq0.false c.fill.ensures c.chain.ensures
+returns c =
+    let o = rw c.in_ok-b.was at c.first_start.ensures in
+    found_law c.in_ok-b.b o.0 o.2.0 c.fill.ensures.0 c.chain.ensures

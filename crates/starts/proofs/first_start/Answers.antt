@@ -1,23 +1,40 @@
-use mathlib.Core.Path.{◌≡◌}
-use Prim.Native.Nat.{◌-◌, ◌*◌}
+use mathlib.Core.Path.{◌≡◌, refl, ap}
+use Prim.Native.Nat.{ℕ, ◌+◌, ◌*◌}
 use native.Mathlib.Omega.{arith}
-use Rattle.starts.proofs.Starts.{begun_none, begun_more}
+use Rattle.starts.proofs.Starts.{letter_place, trying_none, tried_none, tried_some}
 use Rattle.starts.proofs.first_start.Goals as goal
+use Rattle.starts.proofs.first_start.Goals.{in-Some, in_default}
 
-pub loop-start-init : goal.loop-start-init
-loop-start-init c = (omega arith, c.requires.0, c.requires.2, begun_none c.requires.1)
+pub loop-class-init : goal.loop-class-init
+loop-class-init c = (c.requires.2, trying_none c.requires.1)
 
-pub overflow_mul-k : goal.overflow_mul-k
-overflow_mul-k c = omega (arith, c.loop-start.invariant.1)
+pub fill-requires : goal.fill-requires
+fill-requires c =
+    let o = c.loop-letter.invariant.1 in
+    let few = o.begun.few in
+    (c.requires.0, c.loop-class-test.true, omega (arith, o.most_is), c.loop-letter.invariant.0)
 
-pub fill-n-requires : goal.fill-n-requires
-fill-n-requires c = let i = c.loop-start.invariant in (i.1, omega arith, omega (arith, i.1, i.3.few), i.2)
-
-pub overflow_add-start : goal.overflow_add-start
-overflow_add-start c = omega (arith, c.loop-start.invariant.1)
-
-pub loop-start-preserved : goal.loop-start-preserved
-loop-start-preserved c = let i = c.loop-start.invariant in (omega arith, i.1, c.fill-n.ensures.size, begun_more i.3 c.fill-n.ensures c.better-best.ensures)
+pub loop-letter-preserved : goal.loop-letter-preserved
+loop-letter-preserved c =
+    let i = c.loop-letter.letter-index in
+    let e = ap (λ (n : ℕ). 2 * c.loop-class.class + n) (letter_place i _ c.loop-letter-test.true) in
+    let o = c.loop-letter.invariant.1 in
+    let p : 2 * c.loop-class.class + i + 1 ≡ 2 * c.loop-class.class + (i + 1) = omega arith in
+    let f = c.fill.ensures in (
+      c.fill.array_long,
+      elim c.match-fill.branch [
+        | in-Some w ↦
+            let g = rw w.in-Some.is at f in
+            rw (w.best-is, w.most-is, ← p) (tried_some _ e o g.0 g.1 c.loop-class-test.true)
+        | in_default w ↦
+            let g = rw w.in_default.is at f in
+            rw (w.best-is, w.most-is, ← p) (tried_none _ e o g.0 refl)
+      ],
+    )
 
 pub returns : goal.returns
-returns c = let i = c.loop-start.invariant in let e : c.loop-start.start ≡ 2 * c.args.k = omega (arith, i.0, c.loop-start-test.false) in (rw e at i.3, i.2)
+returns c =
+    let l = c.loop-class in
+    let e : l.class ≡ c.args.k = omega arith in
+    let o = l.invariant.1 in
+    (rw e at o.begun, l.invariant.0, o.some)

@@ -1,11 +1,12 @@
+-- The invariants: the best of the starts before this class, and before this letter of the class.
 use mathlib.Core.Path.{◌≡◌}
-use Prim.Native.Nat.{◌-◌, ◌*◌, ◌≤◌}
+use Prim.Native.Nat.{◌+◌, ◌*◌}
 use lib.ListN.{length}
-use Rattle.starts.specs.Starts.{Begun}
+use Rattle.starts.proofs.Starts.{Trying}
 use Rattle.starts.proofs.first_start.Given as goal
 
-abbrev pub invariant-loop-start : goal.invariant-loop-start
-invariant-loop-start l = (l.start ≤ 2 * l.k) × (l.k ≤ 64) × (length l.levels ≡ 128) × Begun l.rows l.k l.limit l.start l.best
+abbrev pub invariant-loop-class : goal.invariant-loop-class
+invariant-loop-class l = (length l.levels ≡ 128) × Trying l.rows l.k l.fn.limit (2 * l.class) l.best l.most
 
-abbrev pub decreases-loop-start : goal.decreases-loop-start
-decreases-loop-start l = 2 * l.k - l.start
+abbrev pub invariant-loop-letter : goal.invariant-loop-letter
+invariant-loop-letter l = (length l.levels ≡ 128) × Trying l.rows l.k l.fn.limit (2 * l.class + l.letter-index) l.best l.most

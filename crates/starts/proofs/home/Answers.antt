@@ -1,8 +1,8 @@
 use Rattle.starts.proofs.Levels.{home_r, home_n}
 use Rattle.starts.proofs.home.Goals as goal
 
-pub returns-then-letter-eq0 : goal.returns-then-letter-eq0
-returns-then-letter-eq0 c = home_r c.if-letter-eq0.true c.with.ensures c.with-then-letter-eq0.ensures
+pub returns-in-R : goal.returns-in-R
+returns-in-R c = rw c.in-R.is (home_r c.with-by_n.ensures c.with.ensures)
 
-pub returns : goal.returns
-returns c = home_n c.if-letter-eq0.false c.with-2.ensures
+pub returns-in-N : goal.returns-in-N
+returns-in-N c = rw c.in-N.is (home_n c.with-by_n.ensures)

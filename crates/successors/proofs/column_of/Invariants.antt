@@ -1,11 +1,10 @@
--- The invariant: the word is the column of the bytes from c on.
-use Prim.Native.Nat.{◌+◌, ◌-◌, ◌≤◌}
+-- The invariant: the word is the column of the bytes that came, from the last one on.
+use Prim.Native.Nat.{◌-◌, ◌≤◌}
 use mathlib.Core.Path.{◌≡◌}
+use lib.ListN.{length}
 use Rattle.successors.specs.Column.{column}
 use Rattle.successors.proofs.column_of.Given as goal
 
-abbrev pub invariant-loop-c : goal.invariant-loop-c
-invariant-loop-c l = (l.c ≤ l.k) × (l.word ≡ column l.bytes (l.at + l.c) l.d (l.k - l.c))
-
-abbrev pub decreases-loop-c : goal.decreases-loop-c
-decreases-loop-c l = l.c
+abbrev pub invariant-loop-byte : goal.invariant-loop-byte
+invariant-loop-byte l =
+    (length l.yielded ≤ length l.bytes) × (l.word ≡ column l.bytes (length l.bytes - length l.yielded) l.d (length l.yielded))

@@ -1,33 +1,32 @@
-use Prim.Native.Nat.{◌+◌, ◌-◌, ◌*◌, ◌/◌, ◌%◌}
+use Prim.Native.Nat.{◌+◌, ◌-◌, ◌*◌}
 use mathlib.Core.Path.{◌≡◌}
 use native.Mathlib.Omega.{arith}
-use Rattle.successors.proofs.Digits.{columns_narrow, columns_join}
+use lib.ListN.{length}
+use Rattle.successors.specs.Column.{Columns}
+use Rattle.successors.proofs.Digits.{columns_narrow, columns_join, columns_part}
 use Rattle.successors.proofs.lock_words.Goals as goal
 
-pub loop-blocks-init : goal.loop-blocks-init
-loop-blocks-init c =
-    let k = c.args.k in
-    let z : k - 16 * (k / 16) ≡ k % 16 = omega arith in
-    (omega arith, rw z c.block-words.ensures)
+pub loop-i-init : goal.loop-i-init
+loop-i-init c = (omega arith, columns_part _ _ _ _ (omega arith) c.block-words.ensures)
 
 pub joined-words-requires : goal.joined-words-requires
 joined-words-requires c =
-    let a = c.args in
-    columns_narrow a.sheet.now _ _ _ _ _ _ (omega arith) (omega arith) c.loop-blocks.invariant.1 c.block.ensures
+    columns_narrow c.args.row.now _ _ _ _ _ _ (omega arith) (omega arith) c.loop-i.invariant.1 (columns_part _ _ _ _ (omega arith) c.block.ensures)
 
-pub loop-blocks-preserved : goal.loop-blocks-preserved
-loop-blocks-preserved c =
-    let a = c.args in
-    let l = c.loop-blocks in (
+pub loop-i-preserved : goal.loop-i-preserved
+loop-i-preserved c =
+    let row = c.args.row.now in
+    let i = c.loop-i.i in
+    let n : 16 * (i - 1 + 1) - 16 * (i - 1) ≡ 16 = omega arith in
+    let z : 0 + 16 * i ≡ 16 * i = omega arith in
+    let y : 0 + 16 * (i - 1) ≡ 16 * (i - 1) = omega arith in
+    let b : Columns row (16 * (i - 1)) 16 c.block.result = rw n at (columns_part row (16 * (i - 1)) (16 * (i - 1 + 1) - 16 * (i - 1)) _ (omega arith) c.block.ensures) in (
       omega arith,
-      columns_join a.sheet.now a.at a.k l.blocks _ _ _ c.loop-blocks-test.true l.invariant.0
-          l.invariant.1 c.block.ensures c.joined-words.ensures,
+      rw y at (columns_join row 0 (length row) i _ _ _ c.loop-i-test.true c.loop-i.invariant.0 (rw z c.loop-i.invariant.1) (rw y b) c.joined-words.ensures),
     )
 
 pub returns : goal.returns
 returns c =
-    let a = c.args in
-    let l = c.loop-blocks in
-    let y : a.at + 16 * l.blocks ≡ a.at = omega arith in
-    let z : a.k - 16 * l.blocks ≡ a.k = omega arith in
-    rw (y, z) at l.invariant.1
+    let z : 16 * c.loop-i.i ≡ 0 = omega arith in
+    let n : length c.args.row.now - 0 ≡ length c.args.row.now = omega arith in
+    rw (z, n) at c.loop-i.invariant.1
