@@ -1,6 +1,6 @@
 -- What each event of a core comes to, from what the functions of `held`, `update` and `history` leave. Assumes nothing.
 use mathlib.Core.Path.{◌≡◌, refl, sym, ap, ◌∙◌, subst}
-use mathlib.Core.Bool.{Bool, true, false, cond, not, ◌&&◌, ◌||◌, or-true, and-false}
+use mathlib.Core.Bool.{Bool, true, false, cond, not, ◌&&◌, ◌||◌, and-false}
 use mathlib.Core.List.{List, [], ◌∷◌, ◌++◌, map}
 use mathlib.Core.Logic.{◌⊎◌, inl, inr}
 use mathlib.Core.Option.{none, some}
@@ -9,8 +9,8 @@ use native.Mathlib.Omega.{arith}
 use lib.Dec.{leb}
 use lib.ListN.{length, set, length-set, length-map}
 use lib.Seq.{get_or-set_other}
-use borrow.Author.Tests.{le-leb, lt-leb, lt-ltb, leb-false, eq-eqb, ne_eqb}
-use Rattle.rules.specs.Limits.{max_depth, max_accepted, max_classes, max_kept, held_modes, interrupt_kinds}
+use borrow.Author.Tests.{le-leb, lt-leb, lt-ltb, leb-true, leb-false, eq-eqb, ne_eqb}
+use Rattle.rules.specs.Limits.{max_depth, max_accepted, max_classes, max_kept, interrupt_kinds}
 use Rattle.rules.specs.Record.{acquire, release, interrupt, cross_event_by, event_by, event_of, core_of, kind_of, class_of, mode_of}
 use Rattle.rules.specs.WellFormed.{WellFormed}
 use Rattle.rules.specs.Context.{frame_of, no_state, next_state, leaves_handler}
@@ -33,6 +33,7 @@ use Rattle.numbering.specs.Numbering.{Numbered}
 use Rattle.history.specs.Histories.{HistoryRoom, KeptIn, Struck}
 use Rattle.acting.specs.Action.{no_room_for, Acted}
 use Rattle.acting.proofs.Refusals.{refusal_by}
+use Rattle.action.specs.Locks.{not_lock}
 use Rattle.acting.proofs.Common.{frame_past, count_past, uncrossed_count, uncrossed_past, count_both, frame, now_less, frame_inside, frame_is, by_number, current_frame, small, refuses_by, accepted_is, full_by, accepts_by, undrawn, unnumbered}
 
 -- An acquire that is not refused with 19 has room in the history, also once it is held.
@@ -50,16 +51,25 @@ kept_room {desk} {desk'} mode h k long =
           omega arith;
     }
 
--- The tests for that, in their order.
-pub room_for_try : (desk : List ℕ) (mode : ℕ) → held_modes ≤ mode → false ≡ no_room_for desk mode
-room_for_try desk mode h = rw (le-leb held_modes mode h, or-true (is_idle (member_of (progress_of desk))))
+-- The tests of a lock's class.
+module _ (desk : List ℕ) (c : ℕ) where
+  pub is_lock : not_lock desk c ≡ 0 → (c < classes_of desk) × (member_of (declared_of desk) c ≡ false)
+  is_lock h = by (leb (classes_of desk) c) refl (member_of (declared_of desk) c) refl h
+    where
+      by : (a : Bool) → leb (classes_of desk) c ≡ a → (d : Bool) → member_of (declared_of desk) c ≡ d → ◌≡◌ {A = ℕ} (cond a 4 (cond d 15 0)) 0
+          → (c < classes_of desk) × (member_of (declared_of desk) c ≡ false)
+      by true e d q z = absurd (omega arith)
+      by false e true q z = absurd (omega arith)
+      by false e false q z = (leb-false (classes_of desk) c e, q)
 
-pub room_when_idle : (desk : List ℕ) (mode : ℕ) → is_idle (member_of (progress_of desk)) ≡ true → false ≡ no_room_for desk mode
-room_when_idle desk mode h = rw h
-
-pub room_by_count : (desk : List ℕ) (mode : ℕ) (r : Bool) → mode < held_modes → is_idle (member_of (progress_of desk)) ≡ false → r ≡ leb max_kept (kept_of desk)
-    → r ≡ no_room_for desk mode
-room_by_count desk mode r l h e = e ∙ sym (rw (lt-leb held_modes mode l, h) refl)
+  not_lock_cases : (P : ℕ → Type 0) → (classes_of desk ≤ c → P 4) → (c < classes_of desk → member_of (declared_of desk) c ≡ true → P 15)
+      → (r : ℕ) → r ≡ not_lock desk c → (r ≡ 0 → ⊥) → P r
+  not_lock_cases P unknown wrong r e ne = by (leb (classes_of desk) c) refl (member_of (declared_of desk) c) refl e
+    where
+      by : (a : Bool) → leb (classes_of desk) c ≡ a → (d : Bool) → member_of (declared_of desk) c ≡ d → ◌≡◌ {A = ℕ} r (cond a 4 (cond d 15 0)) → P r
+      by true e d q z = rw z (unknown (leb-true (classes_of desk) c e))
+      by false e true q z = rw z (wrong (leb-false (classes_of desk) c e) q)
+      by false e false q z = absurd (ne z)
 
 module _ (desk sheet seen history bytes : List ℕ) (w : WellFormed bytes) (few : classes_of desk ≤ max_classes) where
   abbrev K : ℕ
@@ -168,6 +178,9 @@ module _ (desk sheet seen history bytes : List ℕ) (w : WellFormed bytes) (few 
                       D.keeps M.keeps x.past;
                 }
 
+    pub acquire_not_lock : (r : ℕ) → r ≡ not_lock desk (class_of bytes) → (r ≡ 0 → ⊥) → Acted desk sheet seen history bytes r desk sheet seen history
+    acquire_not_lock = not_lock_cases desk (class_of bytes) (λ r. Acted desk sheet seen history bytes r desk sheet seen history) acquire_no_class acquire_wrong_sort
+
   -- ---- Release.
 
   module _ (kind : kind_of bytes ≡ 1) where
@@ -235,6 +248,9 @@ module _ (desk sheet seen history bytes : List ℕ) (w : WellFormed bytes) (few 
                     (count_past past) (keeps_more (omega arith) past) (keeps_self (sheet_size K) sheet) (keeps_self (seen_size K) seen)
                     (keeps_self (kept_size * length s.cross.history) history);
               }
+
+    pub release_not_lock : (r : ℕ) → r ≡ not_lock desk (class_of bytes) → (r ≡ 0 → ⊥) → Acted desk sheet seen history bytes r desk sheet seen history
+    release_not_lock = not_lock_cases desk (class_of bytes) (λ r. Acted desk sheet seen history bytes r desk sheet seen history) release_no_class release_wrong_sort
 
   -- ---- Interrupt event.
 

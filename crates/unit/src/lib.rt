@@ -8,7 +8,7 @@ ghost use Rattle.validator.specs.Calls.{buffers};
 ghost use Rattle.unit.specs.Units.{more, UnitValidated};
 ghost use Rattle.unit.specs.Parts.{PartTaken};
 
-use answers::OK;
+use answers::{Verdict, answer_number};
 use layout::MAX_CLASSES;
 use numbers::word_at;
 use opening::open;
@@ -105,18 +105,20 @@ pub fn validate_unit(
     ensures { UnitValidated opened number (buffers desk.old sheet.old seen.old history.old slip.old) unit.now (feed_of result) (buffers desk.new sheet.new seen.new history.new slip.new) × (result.count ≡ 0) }
 {
     if opened {
-        let answer = step(desk, sheet, seen, history, slip, unit);
+        let answer = answer_number(step(desk, sheet, seen, history, slip, unit));
         return between_units(answer, true, one_more(number));
     }
-    let answer = open(
+    match open(
         header_classes(unit),
         header_word(unit),
         desk,
         sheet,
         seen,
         history,
-    );
-    between_units(answer, answer == OK, number)
+    ) {
+        Ok(()) => between_units(Verdict::Clean.number(), true, number),
+        Err(refusal) => between_units(refusal.number(), false, number),
+    }
 }
 
 // Takes a part of a piece, which goes at most to the end of the unit: a unit that it completes is validated.

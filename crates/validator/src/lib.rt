@@ -1,10 +1,11 @@
 // The step: one record over the lent buffers.
 #![tactic(auto)]
 
+ghost use Rattle.answers.specs.Numbers.{answer_number};
 ghost use Rattle.validator.specs.Step.{Stepped};
 
 use action::act;
-use answers::{CLOSED, MALFORMED, OK, UNFIT};
+use answers::{Refusal, Verdict};
 use conclusion::conclude;
 use cross_fit::entries_fit;
 use fit::fits;
@@ -20,31 +21,23 @@ pub fn step(
     history: &mut [u8],
     slip: &mut [u8],
     bytes: &[u8],
-) -> u8
-    ensures { Stepped desk.old sheet.old seen.old history.old slip.old bytes.now result desk.new sheet.new seen.new history.new slip.new }
+) -> Result<Verdict, Refusal>
+    ensures { Stepped desk.old sheet.old seen.old history.old slip.old bytes.now (answer_number result) desk.new sheet.new seen.new history.new slip.new }
 {
-    if !fits(desk, sheet, seen) {
-        return UNFIT;
-    }
-    if history.len() < HISTORY_SIZE {
-        return UNFIT;
-    }
-    if !entries_fit(desk, history) {
-        return UNFIT;
-    }
-    if slip.len() < ENTRIES_AT + ENTRY_SIZE * (desk[CLASSES_AT] as usize) {
-        return UNFIT;
+    if !fits(desk, sheet, seen)
+        || history.len() < HISTORY_SIZE
+        || !entries_fit(desk, history)
+        || slip.len() < ENTRIES_AT + ENTRY_SIZE * (desk[CLASSES_AT] as usize)
+    {
+        return Err(Refusal::Unfit);
     }
     if desk[CLOSED_AT] == 1 {
-        return CLOSED;
+        return Err(Refusal::Closed);
     }
     if is_malformed(bytes) {
-        return MALFORMED;
+        return Err(Refusal::Malformed);
     }
-    let refused = act(desk, sheet, seen, history, bytes);
-    if refused != OK {
-        return refused;
-    }
+    act(desk, sheet, seen, history, bytes)?;
     count_record(desk);
-    conclude(desk, sheet, seen, slip, bytes[CORE_AT] as usize)
+    Ok(conclude(desk, sheet, seen, slip, bytes[CORE_AT] as usize))
 }

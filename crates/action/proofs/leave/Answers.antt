@@ -4,29 +4,32 @@ use mathlib.Core.Logic.{inl, inr}
 use native.Mathlib.Omega.{arith}
 use Rattle.rules.specs.Record.{core_of}
 use Rattle.layout.proofs.Cross.{kept_is}
-use Rattle.cores.proofs.Bytes.{state_less, number_less}
+use Rattle.cores.proofs.Bytes.{number_less}
 use Rattle.action.proofs.Outcomes.{interrupt_still_held, interrupt_count_full, interrupt_accepts}
 use Rattle.action.proofs.leave.Goals as goal
 
-pub frame_of-frame-requires : goal.frame_of-frame-requires
-frame_of-frame-requires c = let p = c.requires in let st = c.args.desk.now in let by = c.args.bytes.now in (p.0.encodes.long, p.2.core, state_less st p.0 (core_of by) p.2.core)
-
-pub overflow_add-frame : goal.overflow_add-frame
-overflow_add-frame c = let p = c.requires in let st = c.args.desk.now in let by = c.args.bytes.now in let h = number_less st p.0 (core_of by) p.2.core in let e = c.frame_of-frame.ensures in omega arith
-
-pub bounds-desk-frame : goal.bounds-desk-frame
-bounds-desk-frame c = let p = c.requires in let st = c.args.desk.now in let by = c.args.bytes.now in let h = number_less st p.0 (core_of by) p.2.core in let e = c.frame_of-frame.ensures in let l = p.0.encodes.long in omega arith
-
 pub returns-then-desk-frame-ne0 : goal.returns-then-desk-frame-ne0
-returns-then-desk-frame-ne0 c = let p = c.requires in let st = c.args.desk.now in let by = c.args.bytes.now in let L = p.3 in λ sheet seen. interrupt_still_held _ sheet seen _ _ p.2 p.0.few L.first L.last (λ z. L.allowed (L.is ∙ z)) L.leaves (rw c.frame_of-frame.ensures at c.if-desk-frame-ne0.true)
+returns-then-desk-frame-ne0 c =
+    let p = c.requires in
+    let L = p.3 in
+    λ sheet seen. interrupt_still_held _ sheet seen _ _ p.2 p.0.few L.first L.last (λ z. L.allowed (L.is ∙ z)) L.leaves (rw c.frame_of-frame.ensures at c.if-desk-frame-ne0.true)
 
 pub returns-then-is_full : goal.returns-then-is_full
-returns-then-is_full c = let p = c.requires in let st = c.args.desk.now in let by = c.args.bytes.now in let L = p.3 in λ sheet seen. interrupt_count_full _ sheet seen _ _ p.2 p.0.few L.first L.last (λ z. L.allowed (L.is ∙ z)) (inr (rw c.frame_of-frame.ensures at c.if-desk-frame-ne0.false)) (sym c.is_full.ensures ∙ c.if-is_full.true)
+returns-then-is_full c =
+    let p = c.requires in
+    let L = p.3 in
+    λ sheet seen. interrupt_count_full _ sheet seen _ _ p.2 p.0.few L.first L.last (λ z. L.allowed (L.is ∙ z)) (inr (rw c.frame_of-frame.ensures at c.if-desk-frame-ne0.false)) (sym c.is_full.ensures ∙ c.if-is_full.true)
 
 pub strike-requires : goal.strike-requires
-strike-requires c = let p = c.requires in let st = c.args.desk.now in let by = c.args.bytes.now in let h = number_less st p.0 (core_of by) p.2.core in let k = kept_is p.1.encodes p.1.valid.kept in let l = p.1.valid.kept in
-    (p.0.encodes.long, omega arith, p.1.long, rw c.frame_of-frame.ensures h)
+strike-requires c =
+    let p = c.requires in
+    let k = kept_is p.1.encodes p.1.valid.kept in
+    let l = p.1.valid.kept in
+    (p.0.encodes.long, omega arith, p.1.long, rw c.frame_of-frame.ensures (number_less c.args.desk.now p.0 (core_of c.args.bytes.now) p.2.core))
 
 pub returns : goal.returns
-returns c = let p = c.requires in let st = c.args.desk.now in let by = c.args.bytes.now in let L = p.3 in let e = c.frame_of-frame.ensures in
+returns c =
+    let p = c.requires in
+    let L = p.3 in
+    let e = c.frame_of-frame.ensures in
     λ sheet seen. rw (c.from.ensures, L.is) (interrupt_accepts _ sheet seen _ _ p.2 p.0.few L.first L.last (λ z. L.allowed (L.is ∙ z)) (inr (rw e at c.if-desk-frame-ne0.false)) (sym c.is_full.ensures ∙ c.if-is_full.false) (inl (L.leaves, rw e at c.strike.ensures)))
