@@ -1,14 +1,14 @@
 -- The bits that the rules set, as the bytes have them.
 use Rattle.std.specs.Prelude.{◌&&◌, ℕ}
+use Rattle.rules.specs.Context.{task_both_on}
 use Rattle.rules.specs.HeldLocks.{first_by, second_by, same_first, same_second}
 use Rattle.rules.specs.Marks.{Marks, set_in, letter_fits}
 use Rattle.rules.specs.Graph.{Dependencies}
 use Rattle.layout.specs.Encoding.{mark_byte, kind_byte}
 use Rattle.context.specs.declared.CoreState.{CoreState}
-use Rattle.context.specs.declared.CoreState.TheVariants.{TaskBothOn}
 
 abbrev pub fresh : CoreState
-fresh = TaskBothOn
+fresh = task_both_on
 
 -- The marks that a state sets on a held lock of a mode, whatever its class.
 abbrev pub marks_by : ℕ → ℕ → Marks

@@ -1,8 +1,7 @@
 -- The numbers by which the rules know a state, a frame and an interrupt event.
-use Rattle.std.specs.Prelude.{◌≡◌, ℕ, ◌≤◌, Option, Some, None, Result, MatchResult}
+use Rattle.std.specs.Prelude.{◌≡◌, ℕ, ◌<◌, ◌≤◌, Option, Some, None, Result, MatchResult}
 use Rattle.rules.specs.Context.{no_state}
 use Rattle.context.specs.declared.CoreState.{CoreState}
-use Rattle.context.specs.declared.CoreState.TheVariants.{TaskBothOn, TaskSoftOff, TaskHardOff, TaskBothOff, SoftHardOn, SoftHardOff, HardOverBothOn, HardOverSoftOff, HardOverSoft}
 use Rattle.context.specs.declared.NoState.{NoState}
 use Rattle.context.specs.declared.Frame.{Frame}
 use Rattle.context.specs.declared.Frame.TheVariants.{Task, Soft, Hard}
@@ -10,15 +9,7 @@ use Rattle.context.specs.declared.Interrupt.{Interrupt}
 use Rattle.context.specs.declared.Interrupt.TheVariants.{HardOn, HardOff, SoftOn, SoftOff, EnterSoft, ExitSoft, EnterHard, ExitHard}
 
 abbrev pub state_number : CoreState → ℕ
-state_number TaskBothOn = 0
-state_number TaskSoftOff = 1
-state_number TaskHardOff = 2
-state_number TaskBothOff = 3
-state_number SoftHardOn = 4
-state_number SoftHardOff = 5
-state_number HardOverBothOn = 6
-state_number HardOverSoftOff = 7
-state_number HardOverSoft = 8
+state_number s = s
 
 abbrev pub next_number : Option CoreState → ℕ
 next_number (Some s) = state_number s
@@ -41,4 +32,4 @@ event_number ExitHard = 7
 
 -- The state with a number, or that none has it.
 abbrev pub StateBy : ℕ → Result CoreState NoState → Type 0
-StateBy n r = MatchResult r (λ s. state_number s ≡ n) (λ _. 9 ≤ n)
+StateBy n r = MatchResult r (λ s. (state_number s ≡ n) × (n < 9)) (λ _. 9 ≤ n)

@@ -1,11 +1,13 @@
 // Interrupt context: a core's state, the next-state table, and the bits that a state and a mode set.
 #![tactic(auto)]
 
-ghost use Rattle.std.specs.Prelude.{◌≡◌, ◌<◌};
+ghost use Rattle.std.specs.Prelude.{◌≡◌, ◌<◌, IfSome};
 ghost use Rattle.rules.specs.Limits.{held_modes, mode_count};
 ghost use Rattle.rules.specs.Context.{next_state, frame_of, leaves_handler};
 ghost use Rattle.context.specs.Bits.{mark_bits, kind_bits, fresh};
 ghost use Rattle.context.specs.States.{state_number, next_number, number_of_frame, event_number, StateBy};
+
+use std::marker::Model;
 
 // A core's frames.
 #[derive(Clone, Copy, PartialEq, Eq)]
@@ -15,38 +17,59 @@ pub enum Frame {
     Hard = 2,
 }
 
-// The state of a core: task by what is on or off, soft interrupt, hard interrupt by the state that it interrupted.
+// The state of a core, one of nine, by its number.
 #[derive(Clone, Copy, PartialEq, Eq)]
-pub enum CoreState {
-    TaskBothOn = 0,
-    TaskSoftOff = 1,
-    TaskHardOff = 2,
-    TaskBothOff = 3,
-    SoftHardOn = 4,
-    SoftHardOff = 5,
-    HardOverBothOn = 6,
-    HardOverSoftOff = 7,
-    HardOverSoft = 8,
+pub struct CoreState(u8);
+
+impl Model for CoreState {
+    ghost use Rattle.std.specs.Prelude.{ℕ, ◌<◌};
+
+    ghost Value = { ℕ };
+
+    ghost view = { λ s. s.0 };
+
+    ghost invariant = { λ s. s.0 < 9 };
+
+    ghost inverse = { λ n. record { 0 = n } };
 }
 
 impl CoreState {
+    pub const TASK_BOTH_ON: CoreState = CoreState(0);
+
+    pub const TASK_SOFT_OFF: CoreState = CoreState(1);
+
+    pub const TASK_HARD_OFF: CoreState = CoreState(2);
+
+    pub const TASK_BOTH_OFF: CoreState = CoreState(3);
+
+    pub const SOFT_HARD_ON: CoreState = CoreState(4);
+
+    pub const SOFT_HARD_OFF: CoreState = CoreState(5);
+
+    pub const HARD_OVER_BOTH_ON: CoreState = CoreState(6);
+
+    pub const HARD_OVER_SOFT_OFF: CoreState = CoreState(7);
+
+    pub const HARD_OVER_SOFT: CoreState = CoreState(8);
+
     // The state of a fresh core.
     pub fn fresh() -> Self
         ensures { result ≡ fresh }
     {
-        Self::TaskBothOn
+        Self::TASK_BOTH_ON
     }
 
     // The frame in which it holds locks.
     pub fn frame(self) -> Frame
         ensures { number_of_frame result ≡ frame_of (state_number self) }
     {
-        match self {
-            Self::TaskBothOn | Self::TaskSoftOff | Self::TaskHardOff | Self::TaskBothOff =>
-                Frame::Task,
-            Self::SoftHardOn | Self::SoftHardOff => Frame::Soft,
-            Self::HardOverBothOn | Self::HardOverSoftOff | Self::HardOverSoft => Frame::Hard,
+        if self.0 < Self::SOFT_HARD_ON.0 {
+            return Frame::Task;
         }
+        if self.0 < Self::HARD_OVER_BOTH_ON.0 {
+            return Frame::Soft;
+        }
+        Frame::Hard
     }
 }
 
@@ -58,7 +81,7 @@ impl From<CoreState> for u8 {
     ghost from_gives = { λ s byte. byte ≡ state_number s };
 
     fn from(state: CoreState) -> u8 {
-        state as u8
+        state.0
     }
 }
 
@@ -68,17 +91,10 @@ impl TryFrom<u8> for CoreState {
     ghost try_from_gives = { StateBy };
 
     fn try_from(byte: u8) -> Result<Self, NoState> {
-        match byte {
-            0 => Ok(Self::TaskBothOn),
-            1 => Ok(Self::TaskSoftOff),
-            2 => Ok(Self::TaskHardOff),
-            3 => Ok(Self::TaskBothOff),
-            4 => Ok(Self::SoftHardOn),
-            5 => Ok(Self::SoftHardOff),
-            6 => Ok(Self::HardOverBothOn),
-            7 => Ok(Self::HardOverSoftOff),
-            8 => Ok(Self::HardOverSoft),
-            _ => Err(NoState),
+        if byte <= Self::HARD_OVER_SOFT.0 {
+            Ok(Self(byte))
+        } else {
+            Err(NoState)
         }
     }
 }
@@ -106,29 +122,29 @@ impl Interrupt {
 }
 
 // The states by short names, for the table: task by what is off, soft interrupt, hard interrupt over task and over soft.
-const ON: Option<CoreState> = Some(CoreState::TaskBothOn);
+const ON: u8 = CoreState::TASK_BOTH_ON.0;
 
-const SO: Option<CoreState> = Some(CoreState::TaskSoftOff);
+const SO: u8 = CoreState::TASK_SOFT_OFF.0;
 
-const HO: Option<CoreState> = Some(CoreState::TaskHardOff);
+const HO: u8 = CoreState::TASK_HARD_OFF.0;
 
-const BO: Option<CoreState> = Some(CoreState::TaskBothOff);
+const BO: u8 = CoreState::TASK_BOTH_OFF.0;
 
-const SI: Option<CoreState> = Some(CoreState::SoftHardOn);
+const SI: u8 = CoreState::SOFT_HARD_ON.0;
 
-const SX: Option<CoreState> = Some(CoreState::SoftHardOff);
+const SX: u8 = CoreState::SOFT_HARD_OFF.0;
 
-const HT: Option<CoreState> = Some(CoreState::HardOverBothOn);
+const HT: u8 = CoreState::HARD_OVER_BOTH_ON.0;
 
-const HX: Option<CoreState> = Some(CoreState::HardOverSoftOff);
+const HX: u8 = CoreState::HARD_OVER_SOFT_OFF.0;
 
-const HS: Option<CoreState> = Some(CoreState::HardOverSoft);
+const HS: u8 = CoreState::HARD_OVER_SOFT.0;
 
-const X: Option<CoreState> = None;
+// No state: the event is refused.
+const X: u8 = 9;
 
 // A row for each state, a column for each interrupt event: hard on, hard off, soft on, soft off, enter soft, exit soft, enter hard, exit hard.
-// A static, since the compiler would build a constant table of options on the stack at each call.
-static NEXT: [[Option<CoreState>; 8]; 9] = [
+const NEXT: [[u8; 8]; 9] = [
     [ON, HO, ON, SO, SI, X, HT, X],
     [SO, BO, ON, SO, X, X, HX, X],
     [ON, HO, HO, BO, X, X, X, X],
@@ -158,16 +174,17 @@ const KIND_BITS: [[u8; 3]; 3] = [[2, 2, 1], [8, 8, 4], [8, 8, 4]];
 
 // The state after an interrupt event; none if the event is refused.
 pub fn next(state: CoreState, event: Interrupt) -> Option<CoreState>
-    ensures { next_number result ≡ next_state (state_number state) (event_number event) }
+    ensures number { next_number result ≡ next_state (state_number state) (event_number event) }
+    ensures is_state { IfSome result (λ s. state_number s < 9) }
 {
-    NEXT[state as usize][event as usize]
+    CoreState::try_from(NEXT[state.0 as usize][event as usize]).ok()
 }
 
 pub fn mark_bits(state: CoreState, mode: usize) -> u8
     requires { mode < mode_count }
     ensures { result ≡ mark_bits (state_number state) mode }
 {
-    MARK_BITS[state as usize][mode]
+    MARK_BITS[state.0 as usize][mode]
 }
 
 pub fn kind_bit(held: usize, acquired: usize) -> u8

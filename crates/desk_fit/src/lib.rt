@@ -22,10 +22,9 @@ fn soft_fits(depth: u8, state: CoreState) -> bool
     ensures { result ≡ (eqb depth 0 || may_hold_soft (state_number state)) }
 {
     depth == 0
-        || matches!(
-            state,
-            CoreState::SoftHardOn | CoreState::SoftHardOff | CoreState::HardOverSoft
-        )
+        || state == CoreState::SOFT_HARD_ON
+        || state == CoreState::SOFT_HARD_OFF
+        || state == CoreState::HARD_OVER_SOFT
 }
 
 // The same of the hard frame.

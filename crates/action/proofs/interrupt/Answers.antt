@@ -5,7 +5,7 @@ use mathlib.Core.Logic.{inl, inr}
 use Prim.Native.Nat.{ℕ, ◌+◌, ◌-◌}
 use native.Mathlib.Omega.{arith}
 use Rattle.rules.specs.Context.{next_state, leaves_handler}
-use Rattle.context.proofs.States.{state_number_less, event_number_less}
+use Rattle.context.proofs.States.{event_number_less}
 use Rattle.action.proofs.Outcomes.{interrupt_no_transition, interrupt_count_full, interrupt_accepts}
 use Rattle.action.proofs.interrupt.Goals as goal
 
@@ -20,14 +20,14 @@ pub returns-in_default : goal.returns-in_default
 returns-in_default c =
     let p = c.requires in
     let l = event_number_less c.args.event in
-    λ sheet seen. interrupt_no_transition _ sheet seen _ _ p.2 p.0.few (omega arith) (omega arith) (sym (by_kind _ _ _ _ _ p.3 c.in_default.ensures c.state_of.ensures))
+    λ sheet seen. interrupt_no_transition _ sheet seen _ _ p.2 p.0.few (omega arith) (omega arith) (sym (by_kind _ _ _ _ _ p.3 c.in_default.ensures.number c.state_of.ensures))
 
 pub returns-then-is_full : goal.returns-then-is_full
 returns-then-is_full c =
     let p = c.requires in
     let l = event_number_less c.args.event in
-    let s = state_number_less c.in-Some.to in
-    let t = by_kind _ _ _ _ _ p.3 c.in-Some.ensures c.state_of.ensures in
+    let s = c.in-Some.ensures.is_state in
+    let t = by_kind _ _ _ _ _ p.3 c.in-Some.ensures.number c.state_of.ensures in
     let h = leaves_by_kind _ _ _ p.3 (sym c.leaves_handler.ensures ∙ c.if-leaves_handler.false) in
     λ sheet seen. interrupt_count_full _ sheet seen _ _ p.2 p.0.few (omega arith) (omega arith) (λ z. omega (arith, t ∙ z)) (inl h) (sym c.is_full.ensures ∙ c.if-is_full.true)
 
@@ -35,7 +35,7 @@ pub returns : goal.returns
 returns c =
     let p = c.requires in
     let l = event_number_less c.args.event in
-    let s = state_number_less c.in-Some.to in
-    let t = by_kind _ _ _ _ _ p.3 c.in-Some.ensures c.state_of.ensures in
+    let s = c.in-Some.ensures.is_state in
+    let t = by_kind _ _ _ _ _ p.3 c.in-Some.ensures.number c.state_of.ensures in
     let h = leaves_by_kind _ _ _ p.3 (sym c.leaves_handler.ensures ∙ c.if-leaves_handler.false) in
     λ sheet seen. rw (c.from.ensures, t) (interrupt_accepts _ sheet seen _ _ p.2 p.0.few (omega arith) (omega arith) (λ z. omega (arith, t ∙ z)) (inl h) (sym c.is_full.ensures ∙ c.if-is_full.false) (inr (h, refl)))
