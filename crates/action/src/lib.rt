@@ -146,8 +146,6 @@ pub fn act(
         Kind::Acquire => acquire(desk, sheet, seen, history, bytes),
         Kind::Release => release(desk, bytes),
         Kind::Interrupt(event) => interrupt(desk, history, bytes, event),
-        Kind::CrossAcquire | Kind::Commit | Kind::CrossRelease => cross(
-            desk, sheet, seen, history, bytes,
-        ),
+        _ => cross(desk, sheet, seen, history, bytes),
     }
 }
