@@ -19,16 +19,6 @@ pub const CLASS_AT: usize = 4;
 
 pub const MODE_AT: usize = 5;
 
-pub const ACQUIRE: u8 = 0;
-
-pub const RELEASE: u8 = 1;
-
-pub const CROSS_ACQUIRE: u8 = 10;
-
-pub const COMMIT: u8 = 11;
-
-pub const CROSS_RELEASE: u8 = 12;
-
 // What a record says of its core.
 #[derive(Clone, Copy, PartialEq, Eq)]
 pub enum Kind {
