@@ -67,9 +67,6 @@ put_as {before} {after} {at} e P = subst (λ (v : ℕ). NumberPut before at v af
 pub pair_as : {before after : List ℕ} {at n m : ℕ} → n ≡ m → PairNumbered before at n after → PairNumbered before at m after
 pair_as {before} {after} {at} e P = subst (λ (v : ℕ). PairNumbered before at v after) e P
 
-pub pair_long : {before after : List ℕ} {at n : ℕ} → PairNumbered before at n after → length after ≡ length before
-pair_long {before} {at = at} P = elim (ℕ_discrete (low_first number_size before at) 0) [ yes z ↦ (P.numbered z).long | no z ↦ ap length (P.had z) ]
-
 pub same_seen : {K : ℕ} {buffer : List ℕ} (s s' : ℕ → ℕ → ℕ) → ((f t : ℕ) → s f t ≡ s' f t) → SeenBytes K s buffer → SeenBytes K s' buffer
 same_seen {K} {buffer} s s' e b = subst (λ (x : ℕ → ℕ → ℕ). SeenBytes K x buffer) (fun_ext (λ f. fun_ext (λ t. e f t))) b
 

@@ -72,6 +72,3 @@ noting_done {before} {now} N =
       same = N.same;
       other = λ e q. let m = N.more e in let g = m.grown in let s : get_or now m.at 0 ≡ get_or before m.at 0 = ap (λ (l : List ℕ). get_or l m.at 0) q in omega arith;
     }
-
-pub noted_none : (buffer : List ℕ) → Noted buffer buffer false
-noted_none buffer = noting_done (noting_start buffer)
