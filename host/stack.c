@@ -12,17 +12,17 @@
  * input.
  *
  * The worst input is known from crates/search/src/lib.rt. Whether there is a
- * cycle is found by visit, which calls itself from class to class; its path
- * passes a class at most twice, once arrived at by N and once by R. The
- * deepest input has a path of all 2 K arrivals, and no cycle: a ring of SN
- * with ER beside it, closed by SR. From class 0 it goes round by N, arrives at
- * class 0 by R, and goes round once more by R. The marks of each class are
- * looked up in a table before that walk, which is left out where they clash;
- * the cycle that is shown is found after it, without recursion. Both take
- * less, and so do crosslocks, whose dependencies are in the sheet before the
- * search. The other inputs are there to meet something deeper, should it
- * exist. A join searches in the same way: it gets the input divided between
- * two benches, so that the joined graph is the input's.
+ * cycle is found by arrived_by_n and arrived_by_r, which call each other from
+ * class to class; their path passes a class at most twice, once arrived at by N
+ * and once by R. The deepest input has a path of all 2 K arrivals, and no
+ * cycle: a ring of SN with ER beside it, closed by SR. From class 0 it goes
+ * round by N, arrives at class 0 by R, and goes round once more by R. The marks
+ * of each class are looked up in a table before that walk, which is left out
+ * where they clash; the cycle that is shown is found after it, without
+ * recursion. Both take less, and so do crosslocks, whose dependencies are in
+ * the sheet before the search. The other inputs are there to meet something
+ * deeper, should it exist. A join searches in the same way: it gets the input
+ * divided between two benches, so that the joined graph is the input's.
  *
  * Link with -z now: the dynamic linker's stack at a first call is not measured.
  * Exit status: 0 all right, 1 something wrong, 2 the system refuses.

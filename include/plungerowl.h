@@ -173,9 +173,9 @@ extern "C" {
  * counted as glibc has them; what the dynamic linker takes to find them at a
  * first call is not (link with -z now). A step is the deepest, also one in a
  * feed, and a join, whose search is the same: under 16 KB on every input. The
- * search goes from class to class by a function that calls itself, with a class
- * at most twice on the path and 64 bytes each time. The cycle in the slip is
- * found without recursion.
+ * search goes from class to class by two functions that call each other, with a
+ * class at most twice on the path and 64 bytes each time. The cycle in the slip
+ * is found without recursion.
  */
 #define PLUNGEROWL_STACK_OPEN 128
 #define PLUNGEROWL_STACK_STEP 13312

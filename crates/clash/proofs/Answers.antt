@@ -110,7 +110,7 @@ module _ {desk rows : List ℕ} {K : ℕ} {a b : Bool} (t : Clashing desk K a) (
   no_yes : (c : ℕ) → c < K → answer_of (mark_of desk c) ≡ true → ⊥
   no_yes c l e = false≢true (sym (t.none n c l) ∙ e)
 
-  walk_bound : b ≡ true → Bounded desk rows K K
+  pub walk_bound : b ≡ true → Bounded desk rows K K
   walk_bound q =
       record {
         few = omega arith;
@@ -119,7 +119,7 @@ module _ {desk rows : List ℕ} {K : ℕ} {a b : Bool} (t : Clashing desk K a) (
         some = λ _ is_closed cores g s w. let c = walk_cycle d q g w in (c.0, c.1, c.1.at_most);
       }
 
-  no_bound : b ≡ false → Bounded desk rows K 0
+  pub no_bound : b ≡ false → Bounded desk rows K 0
   no_bound q = record { few = omega arith; one = λ c l e. absurd (no_yes c l e); none = λ _ g w. sym (d.is g w) ∙ q; some = λ l. absurd (omega arith) }
 
 pub bounded : {desk rows : List ℕ} {K : ℕ} {a b : Bool} → Clashing desk K a → a ≡ false → Decided K rows b → Bounded desk rows K (bound_number (then_some b K))

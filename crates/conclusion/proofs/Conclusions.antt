@@ -36,6 +36,7 @@ use Rattle.clash.specs.Clash.{Bounded}
 use Rattle.successors.specs.Successors.{Successors}
 use Rattle.shortest.specs.Shortest.{found_entry, found_entries, Shortest}
 use Rattle.shortest.specs.declared.Found.{Found}
+use Rattle.shortest.proofs.Chains.{positive}
 use Rattle.report.specs.Shown.{Ranged, Shown}
 use Rattle.conclusion.specs.Conclude.{with_marks, Sheeted, is_clean, is_fault, Concluded}
 
@@ -110,10 +111,10 @@ module _ (desk sheet seen slip : List ℕ) (core : ℕ) (few : classes_of desk �
       f.some (graph s.is_closed s.cores s.marks h.locks s.encodes s.valid h.bytes) rows_of c.0 c.1 c.2
 
   -- Its classes are below K.
-  pub found_ranged : Cored desk → Sheeted K sheet → {n : ℕ} {found : Found} → Bounded marked rows K n → 0 < n → Shortest marked sheet rows K n found
+  pub found_ranged : Cored desk → Sheeted K sheet → {n : ℕ} {found : Found} → Bounded marked rows K n → (n ≡ 0 → ⊥) → Shortest marked sheet rows K n found
       → Ranged K found
   found_ranged c h {found = found} d z f =
-      let least = found_least c.is_closed c.cores c.marks h.locks c.encodes c.valid h.bytes d z f in
+      let least = found_least c.is_closed c.cores c.marks h.locks c.encodes c.valid h.bytes d (positive z) f in
       record {
         below = λ i l.
             subst (λ (e : Entry). e.class < K) (get_d_tabulate found.n (found_entry found) _ i l)

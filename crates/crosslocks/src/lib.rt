@@ -19,6 +19,7 @@ fn has(word: u64, class: u32) -> bool
     (word >> class) % 2 == 1
 }
 
+// Kept: two names over `has`, each one call of it. One function would take the set's place or an enum, and be no shorter.
 pub fn is_declared(desk: &[u8], class: u8) -> bool
     requires { (desk_size ≤ length desk.now) × (class < max_classes) }
     ensures { result ≡ member_of (declared_of desk.now) class }

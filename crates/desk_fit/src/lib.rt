@@ -40,8 +40,13 @@ fn core_fits(desk: &[u8], i: usize) -> bool
 {
     match CoreState::try_from(desk[STATES_AT + i]) {
         Ok(state) => {
-            soft_fits(desk[DEPTHS_AT + (FRAMES_PER_CORE * i + Frame::Soft as usize)], state)
-                && hard_fits(desk[DEPTHS_AT + (FRAMES_PER_CORE * i + Frame::Hard as usize)], state)
+            soft_fits(
+                desk[DEPTHS_AT + (FRAMES_PER_CORE * i + Frame::Soft as usize)],
+                state,
+            ) && hard_fits(
+                desk[DEPTHS_AT + (FRAMES_PER_CORE * i + Frame::Hard as usize)],
+                state,
+            )
         }
         Err(_) => false,
     }
@@ -90,9 +95,10 @@ fn frame_fits(classes: u8, desk: &[u8], n: usize) -> bool
     ensures { result ≡ frame_fits classes desk.now n }
 {
     if desk[DEPTHS_AT + n] == 0 {
-        return empty_frame_fits(desk, n);
+        empty_frame_fits(desk, n)
+    } else {
+        used_frame_fits(classes, desk, n)
     }
-    used_frame_fits(classes, desk, n)
 }
 
 pub fn frames_fit(classes: u8, desk: &[u8]) -> bool

@@ -62,7 +62,7 @@ pub fn replay<R: Read>(
     requires { feed_size ≤ length feed.old }
     ensures { Replayed (buffers desk.old sheet.old seen.old history.old slip.old) result (buffers desk.new sheet.new seen.new history.new slip.new) }
 {
-    feed::start(feed);
+    let _ = feed::start(feed);
     if feed_input(file, feed, desk, sheet, seen, history, slip, buf).is_err() {
         return Outcome::Unread;
     }

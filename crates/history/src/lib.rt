@@ -97,6 +97,7 @@ pub fn draw_commit(
 }
 
 // The pairs at which a commit draws get numbers.
+// Kept: two walks, of two lines each. One for both would take a closure that changes a buffer, with clauses longer than the walk.
 pub fn number_commit(
     desk: &[u8],
     history: &[u8],

@@ -5,11 +5,12 @@ ghost use Rattle.std.specs.Prelude.{◌≡◌, ◌++◌, ◌+◌, ◌≤◌, len
 ghost use Rattle.rules.specs.Limits.{max_classes};
 ghost use Rattle.layout.specs.Layout.{slip_size, count_of};
 ghost use Rattle.layout.specs.Slip.{entries_of};
+ghost use Rattle.answers.specs.Numbers.{answer_number};
 ghost use Rattle.benches.specs.Benches.{bench};
 ghost use Rattle.log_text.specs.Text.{cycle_text, line_size, cycle_size, Appended, Showable};
 ghost use Rattle.join_text.specs.JoinText.{fault_line, joined_text, is_clean, own_text, JoinTold};
 
-use answers::{FAULT, OK};
+use answers::{Refusal, Verdict};
 use joiner::join;
 use log_text::{put_cycle, put_refusal, put_text, put_word};
 use outcome::Outcome;
@@ -24,14 +25,14 @@ fn put_fault(out: &mut [u8], slip: &[u8]) -> usize
 }
 
 // What the joiner's answer says.
-fn put_joined(out: &mut [u8], answer: u8, slip: &[u8]) -> usize
-    requires { (line_size + cycle_size ≤ length out.old) × (answer ≡ 1 → count_of slip.now ≤ max_classes) × (slip_size max_classes ≤ length slip.now) }
-    ensures { Appended out.old 0 (joined_text answer slip.now) out.new result }
+fn put_joined(out: &mut [u8], answer: Result<Verdict, Refusal>, slip: &[u8]) -> usize
+    requires { (line_size + cycle_size ≤ length out.old) × (answer_number answer ≡ 1 → count_of slip.now ≤ max_classes) × (slip_size max_classes ≤ length slip.now) }
+    ensures { Appended out.old 0 (joined_text (answer_number answer) slip.now) out.new result }
 {
     match answer {
-        OK => put_word(out, 0, b"clean\n"),
-        FAULT => put_fault(out, slip),
-        _ => put_refusal(out, answer),
+        Ok(Verdict::Clean) => put_word(out, 0, b"clean\n"),
+        Ok(Verdict::Fault) => put_fault(out, slip),
+        Err(refusal) => put_refusal(out, refusal.number()),
     }
 }
 

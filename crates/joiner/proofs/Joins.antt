@@ -6,10 +6,10 @@ use mathlib.Core.Logic.{inr}
 use Prim.Native.Nat.{ℕ, ◌+◌, ◌*◌, ◌<◌, ◌≤◌}
 use native.Mathlib.Decide.{ℕ_discrete}
 use native.Mathlib.Omega.{arith}
-use lib.Dec.{leb, ltb, eqb}
+use lib.Dec.{leb, ltb}
 use lib.Bits.{bit_or}
 use lib.ListN.{length}
-use borrow.Author.Tests.{leb-true, eqb-true, lt-ltb}
+use borrow.Author.Tests.{leb-true, lt-ltb}
 use Rattle.rules.specs.Limits.{core_count, max_classes}
 use Rattle.rules.specs.HeldLocks.{fresh_core}
 use Rattle.rules.specs.Marks.{Marks}

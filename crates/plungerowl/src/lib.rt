@@ -1,6 +1,8 @@
 // The library's calls for a host in C: a slice is a pointer and then a length.
 #![tactic(auto)]
 
+ghost use Rattle.std.specs.Prelude.{◌≡◌};
+ghost use Rattle.answers.specs.Numbers.{refused_number};
 ghost use Rattle.balance.specs.Piece.{PieceBalanced};
 ghost use Rattle.feed.specs.Calls.{Started, FedPiece, FedEnd};
 ghost use Rattle.benches.specs.Benches.{bench};
@@ -10,12 +12,23 @@ ghost use Rattle.question.specs.Question.{Asked};
 ghost use Rattle.validator.specs.Calls.{buffers};
 ghost use Rattle.validator.specs.Step.{Stepped};
 
+use answers::{Refusal, Verdict, answer_number};
 use balance::balance_of;
 use joiner::join;
 use layout::MAX_CLASSES;
 use opening::open;
 use question::ask;
 use validator::step;
+
+// 0, or the number of the refusal.
+fn refused_number(answer: Result<(), Refusal>) -> u8
+    ensures { result ≡ refused_number answer }
+{
+    match answer {
+        Ok(()) => Verdict::Clean.number(),
+        Err(refusal) => refusal.number(),
+    }
+}
 
 // Opens desk, both sheets and history for a number of lock classes, of which the word declares some crosslocks.
 #[unsafe(no_mangle)]
@@ -29,7 +42,7 @@ pub extern "C" fn plungerowl_open(
 ) -> u8
     ensures { Opened classes declared desk.old sheet.old seen.old history.old result desk.new sheet.new seen.new history.new }
 {
-    open(classes, declared, desk, sheet, seen, history)
+    refused_number(open(classes, declared, desk, sheet, seen, history))
 }
 
 // Validates one record. With a fault the cycle stands in the slip.
@@ -44,7 +57,7 @@ pub extern "C" fn plungerowl_step(
 ) -> u8
     ensures { Stepped desk.old sheet.old seen.old history.old slip.old bytes.now result desk.new sheet.new seen.new history.new slip.new }
 {
-    step(desk, sheet, seen, history, slip, bytes)
+    answer_number(step(desk, sheet, seen, history, slip, bytes))
 }
 
 // Which classes end a strong path from a class: one bit for each in `word`, and how many in `count`.
@@ -59,10 +72,18 @@ pub extern "C" fn plungerowl_ask(
 ) -> u8
     ensures { Asked desk.now sheet.now seen.now class result word.new count.new }
 {
-    let found = ask(desk, sheet, seen, class);
-    *word = found.word;
-    *count = found.count;
-    found.answer
+    match ask(desk, sheet, seen, class) {
+        Ok(reached) => {
+            *word = reached.word;
+            *count = reached.count;
+            Verdict::Clean.number()
+        }
+        Err(refusal) => {
+            *word = 0;
+            *count = 0;
+            refusal.number()
+        }
+    }
 }
 
 // Joins two benches: two open desks of one number of classes, with their sheets, into a third. With a fault the cycle stands in the slip.
@@ -81,9 +102,9 @@ pub extern "C" fn plungerowl_join(
 ) -> u8
     ensures { Joined (bench desk1.now sheet1.now seen1.now) (bench desk2.now sheet2.now seen2.now) desk.old sheet.old seen.old slip.old result desk.new sheet.new seen.new slip.new }
 {
-    join(
+    answer_number(join(
         desk1, sheet1, seen1, desk2, sheet2, seen2, desk, sheet, seen, slip,
-    )
+    ))
 }
 
 // A fresh feed, for a log in pieces.
@@ -91,7 +112,7 @@ pub extern "C" fn plungerowl_join(
 pub extern "C" fn plungerowl_feed_start(feed: &mut [u8]) -> u8
     ensures { Started feed.old result feed.new }
 {
-    feed::start(feed)
+    refused_number(feed::start(feed))
 }
 
 // Feeds a piece of the log. With answer 0 `record` is the number of records validated so far, else that of the record that got the answer.
@@ -136,5 +157,5 @@ pub extern "C" fn plungerowl_feed_end(
 pub extern "C" fn plungerowl_balance(piece: &[u8], balances: &mut [i32; MAX_CLASSES]) -> u8
     ensures { PieceBalanced piece.now result balances.new }
 {
-    balance_of(piece, balances)
+    refused_number(balance_of(piece, balances))
 }

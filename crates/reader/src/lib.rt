@@ -1,4 +1,4 @@
-// A reader of a piece of a log: other crates call `next_part`.
+// A reader of a piece of a log: its method is thin, the work is in `part_at`, and other crates call `next_part`.
 #![tactic(auto)]
 
 ghost use Rattle.std.specs.Prelude.{◌≡◌, take, drop};
@@ -11,16 +11,23 @@ pub struct Reader<'a> {
 }
 
 impl<'a> Reader<'a> {
-    // The next `wanted` bytes at the reader's place, or as many as are left.
+    // The next `wanted` bytes at the reader's place.
     pub fn part(self, wanted: usize) -> &'a [u8]
         ensures { result.now ≡ take wanted (drop self.entry.at self.entry.piece.now) }
     {
-        let left = &self.piece[self.at.min(self.piece.len())..];
-        &left[..wanted.min(left.len())]
+        part_at(self.piece, self.at, wanted)
     }
 }
 
-// The same with plain parameters.
+// The next `wanted` bytes of the piece, or as many as are left.
+pub fn part_at(piece: &[u8], at: usize, wanted: usize) -> &[u8]
+    ensures { result.now ≡ take wanted (drop at piece.now) }
+{
+    let left = &piece[at.min(piece.len())..];
+    &left[..wanted.min(left.len())]
+}
+
+// The same by a reader: what other crates call.
 pub fn next_part(piece: &[u8], at: usize, wanted: usize) -> &[u8]
     ensures { result.now ≡ take wanted (drop at piece.now) }
 {

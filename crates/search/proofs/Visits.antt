@@ -73,10 +73,6 @@ module _ {rows : List ℕ} where
   pub ends_r : {x : ℕ} → Ends rows x N → Ends rows x R
   ends_r (ends h) = ends (λ j k i s. h j k (after_N k.first) s)
 
-  also_r : {x : ℕ} (a : Second) → Ends rows x a → Ends rows x R
-  also_r R h = h
-  also_r N h = ends_r h
-
   grown_more : {s t u : List ℕ} {x : ℕ} {a : Second} → Grown rows s t → Finished t x a u → Ends rows x a → Grown rows s u
   grown_more c f e =
       record {
@@ -157,12 +153,17 @@ module _ {rows : List ℕ} where
 
   -- ---- The visit's end.
 
-  pub finish : {x left : ℕ} {a : Second} {on here : Arrivals} {done : List ℕ} {u w z : Arrivals} → Visiting rows x a on here done left
-      → Grown rows done (words_of u) → ((y : ℕ) (b : Second) → Follows rows x a y b → In u y b) → Put x R u w → Put x a w z
-      → Visited rows x a on done false (words_of z)
-  finish {a = a} v c all f l =
+  pub finish_r : {x left : ℕ} {on here : Arrivals} {done : List ℕ} {u z : Arrivals} → Visiting rows x R on here done left → Grown rows done (words_of u)
+      → ((y : ℕ) (b : Second) → Follows rows x R y b → In u y b) → Put x R u z → Visited rows x R on done false (words_of z)
+  finish_r v c all f =
+      record { closed = λ z. absurd (false≢true z); settled = λ _. (grown_more c (finished f) (ends_here v c all), f.there) }
+
+  pub finish_n : {x left : ℕ} {on here : Arrivals} {done : List ℕ} {u w z : Arrivals} → Visiting rows x N on here done left
+      → Grown rows done (words_of u) → ((y : ℕ) (b : Second) → Follows rows x N y b → In u y b) → Put x R u w → Put x N w z
+      → Visited rows x N on done false (words_of z)
+  finish_n v c all f l =
       let e = ends_here v c all in
-      record { closed = λ z. absurd (false≢true z); settled = λ _. (grown_more (grown_more c (finished f) (also_r a e)) (finished l) e, l.there) }
+      record { closed = λ z. absurd (false≢true z); settled = λ _. (grown_more (grown_more c (finished f) (ends_r e)) (finished l) e, l.there) }
 
 -- ---- All classes.
 

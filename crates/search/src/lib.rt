@@ -3,7 +3,7 @@
 #![tactic(auto)]
 
 ghost use Rattle.std.specs.Prelude.{◌≡◌, ◌+◌, ◌-◌, ◌*◌, ◌<◌, ◌≤◌, IsTrue, ◌↔◌, MatchOption};
-ghost use Rattle.rules.specs.HeldLocks.{N};
+ghost use Rattle.rules.specs.HeldLocks.{R, N};
 ghost use Rattle.search.specs.Rows.{Ranged, Reached};
 ghost use Rattle.search.specs.Arrivals.{none, word_by, In, Put, Next, size};
 ghost use Rattle.search.specs.Letters.{first_letter, second_letter, Joined, Less, Successors, HasNone, Taken};
@@ -46,6 +46,7 @@ impl Arrivals {
     }
 
     // The set with class put in under the letter.
+    // Kept: a class is a number with its clause, as words::with and the loops to k have it; a type of class and letter would be made anew at each call.
     pub fn with(self, class: u32, letter: SecondLetter) -> Arrivals
         requires { class < 64 }
         ensures { Put class (second_letter letter) self result }
@@ -140,28 +141,60 @@ fn after(rows: &[u64; 256], class: u32, letter: SecondLetter) -> Arrivals
 
 // ---- The walk: is there a closed strong path?
 
-// Whether a strong path goes on from class, arrived at by the letter, to an arrival on the path to here. done: the arrivals whose strong paths
-// all end. What ends after N ends after R too.
-fn visit(
-    rows: &[u64; 256],
-    class: u32,
-    letter: SecondLetter,
-    on: Arrivals,
-    done: &mut Arrivals,
-) -> bool
-    requires { Given rows.now class (second_letter letter) on (words_of done.old) (128 - size on) }
-    ensures { Visited rows.now class (second_letter letter) on (words_of done.old) result (words_of done.new) }
+// Whether a strong path goes on from class, arrived at by R, to an arrival on the path to here. done: the arrivals whose strong paths all end.
+// Kept: that two functions call one another, one for each letter of the arrival, is the form that the project has for the walk (docs/DECISIONS.md, 34).
+#[cycle(walk)]
+fn arrived_by_r(rows: &[u64; 256], class: u32, on: Arrivals, done: &mut Arrivals) -> bool
+    requires { Given rows.now class R on (words_of done.old) (128 - size on) }
+    ensures { Visited rows.now class R on (words_of done.old) result (words_of done.new) }
 {
-    let here = on.with(class, letter);
-    if after(rows, class, letter).meets(here) {
+    let here = on.with(class, SecondLetter::R);
+    if after(rows, class, SecondLetter::R).meets(here) {
         return true;
     }
-    while let Some((next, by)) = after(rows, class, letter).without(*done).first() {
-        if visit(rows, next, by, here, done) {
-            return true;
+    while let Some((next, by)) = after(rows, class, SecondLetter::R).without(*done).first() {
+        match by {
+            SecondLetter::R => {
+                if arrived_by_r(rows, next, here, done) {
+                    return true;
+                }
+            }
+            SecondLetter::N => {
+                if arrived_by_n(rows, next, here, done) {
+                    return true;
+                }
+            }
         }
     }
-    *done = done.with(class, SecondLetter::R).with(class, letter);
+    *done = done.with(class, SecondLetter::R);
+    false
+}
+
+// The same from class, arrived at by N. What ends after N ends after R too.
+#[cycle(walk)]
+fn arrived_by_n(rows: &[u64; 256], class: u32, on: Arrivals, done: &mut Arrivals) -> bool
+    requires { Given rows.now class N on (words_of done.old) (128 - size on) }
+    ensures { Visited rows.now class N on (words_of done.old) result (words_of done.new) }
+{
+    let here = on.with(class, SecondLetter::N);
+    if after(rows, class, SecondLetter::N).meets(here) {
+        return true;
+    }
+    while let Some((next, by)) = after(rows, class, SecondLetter::N).without(*done).first() {
+        match by {
+            SecondLetter::R => {
+                if arrived_by_r(rows, next, here, done) {
+                    return true;
+                }
+            }
+            SecondLetter::N => {
+                if arrived_by_n(rows, next, here, done) {
+                    return true;
+                }
+            }
+        }
+    }
+    *done = done.with(class, SecondLetter::R).with(class, SecondLetter::N);
     false
 }
 
@@ -171,7 +204,7 @@ fn met_from(rows: &[u64; 256], class: u32, done: &mut Arrivals) -> bool
     ensures { Visited rows.now class N none (words_of done.old) result (words_of done.new) }
 {
     !done.contains(class, SecondLetter::N)
-        && visit(rows, class, SecondLetter::N, Arrivals::NONE, done)
+        && arrived_by_n(rows, class, Arrivals::NONE, done)
 }
 
 // Whether there is a closed strong path.

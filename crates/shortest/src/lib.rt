@@ -7,6 +7,7 @@ ghost use Rattle.rules.specs.Ranks.{kind_at};
 ghost use Rattle.search.specs.Letters.{second_letter};
 ghost use Rattle.successors.specs.Column.{Columns};
 ghost use Rattle.successors.specs.Successors.{Ready, SafeColumns};
+ghost use Rattle.starts.specs.Levels.{level_words};
 ghost use Rattle.shortest.specs.Shortest.{ranks_after, letter_number, choice_of, found_of, OfPlace, Picked, RankWord, RankWords, Chained, Shortest};
 
 use layout::{MARKS_AT, MAX_CLASSES};
@@ -17,6 +18,7 @@ use words::{both, lowest};
 
 // ---- The dependencies of a class by rank: three times the kind's place (ER 0, EN 1, SR 2, SN 3) and the source. Ranks are in the order of
 // the slip's bytes.
+// Kept: the order of the shown cycle is that of these numbers, by `rank`, `kind_at` and `source_at` of the rules.
 
 const RANKS: usize = 12;
 
@@ -176,9 +178,9 @@ pub struct Found {
 }
 
 // From the start on, at each class the first dependency that leads to the end in time: there is one, if desk and sheet are the graph that was searched.
-fn chain(desk: &[u8], sheet: &[u8], k: usize, b: Begin, levels: &[u64; LEVELS]) -> Found
+fn chain(desk: &[u8], sheet: &[u8], k: usize, b: Begin, levels: &[Arrivals; LEVELS]) -> Found
     requires { Ready desk.now sheet.now k × (b.n ≤ k) × (b.class < k) }
-    ensures { Chained desk.now sheet.now k b.n b.class (letter_number b.letter) levels.now result }
+    ensures { Chained desk.now sheet.now k b.n b.class (letter_number b.letter) (level_words levels.now) result }
 {
     let hard = safe_words(desk, k, Irq::Hard);
     let soft = safe_words(desk, k, Irq::Soft);
@@ -214,7 +216,7 @@ pub fn shortest_cycle(
     requires { Ready desk.now sheet.now k × (limit ≤ k) }
     ensures { Shortest desk.now sheet.now rows.now k limit (found_of result) }
 {
-    let mut levels = [0u64; LEVELS];
+    let mut levels = [Arrivals::NONE; LEVELS];
     let b = first_start(rows, k as u32, limit, &mut levels)?;
     let _ = fill(rows, k as u32, b.class, b.letter, b.n, &mut levels);
     Some(chain(desk, sheet, k, b, &levels))

@@ -1,5 +1,5 @@
 -- Laws of the sets of arrivals from which dependencies lead home. Assumes nothing.
-use mathlib.Core.Path.{◌≡◌, refl, sym, ◌∙◌, subst}
+use mathlib.Core.Path.{◌≡◌, refl, sym, ap, ◌∙◌, subst}
 use mathlib.Core.Bool.{Bool, true, false, false≢true}
 use mathlib.Core.Logic.{inl, inr, ⊎_elim}
 use mathlib.Core.List.{List, [], ◌∷◌}
@@ -25,7 +25,7 @@ use Rattle.search.specs.Walk.{Meets}
 use Rattle.search.specs.declared.Arrivals.{Arrivals}
 use Rattle.search.proofs.Sets.{no_arrival}
 use Rattle.routes.specs.Routes.{widest, Step, Home}
-use Rattle.starts.specs.Levels.{LeadsInto, LeadsBy, Widened, Behind, AtHome, Above, stored, level_at, Level, NoneUpTo, Filled}
+use Rattle.starts.specs.Levels.{LeadsInto, LeadsBy, Widened, Behind, AtHome, Above, stored, level_at, level_words, Level, NoneUpTo, Filled}
 use Rattle.routes.proofs.Routes.{after_E, stays}
 
 -- ---- One class.
@@ -253,6 +253,31 @@ kept_level levels m i s l =
 
 pub stored_long : (levels : List ℕ) (m : ℕ) (s : Arrivals) {after : List ℕ} → after ≡ stored levels m s → length levels ≡ 128 → length after ≡ 128
 stored_long levels m s e l = rw (e, length-set (set levels (2 * m) s.r) (2 * m + 1) s.n, length-set levels (2 * m) s.r) l
+
+-- ---- The levels' words.
+
+pub words_length : (ls : List Arrivals) → length (level_words ls) ≡ 2 * length ls
+unfolding level_words
+words_length [] = refl
+words_length (s ∷ ls) = let e = words_length ls in omega arith
+
+pub words_set : (ls : List Arrivals) (m : ℕ) (s : Arrivals) → level_words (set ls m s) ≡ stored (level_words ls) m s
+unfolding level_words
+words_set [] m s = refl
+words_set (x ∷ ls) zero s = refl
+words_set (x ∷ ls) (suc m) s =
+    let a : 2 * suc m ≡ suc (suc (2 * m)) = omega arith in
+    let b : suc (suc (2 * m)) + 1 ≡ suc (suc (2 * m + 1)) = omega arith in
+    rw (a, b) (ap (λ (ws : List ℕ). x.r ∷ x.n ∷ ws) (words_set ls m s))
+
+pub words_at : (ls : List Arrivals) (m : ℕ) → get_or ls m none ≡ level_at (level_words ls) m
+unfolding level_words
+words_at [] m = refl
+words_at (x ∷ ls) zero = refl
+words_at (x ∷ ls) (suc m) =
+    let a : 2 * suc m ≡ suc (suc (2 * m)) = omega arith in
+    let b : suc (suc (2 * m)) + 1 ≡ suc (suc (2 * m + 1)) = omega arith in
+    rw (a, b) (words_at ls m)
 
 pub filling_none : {rows : List ℕ} {K c : ℕ} {h : Second} {s : Arrivals} {levels : List ℕ} → AtHome c h s → Filling rows K c h 0 s levels
 filling_none a = record { level = level_zero a; level_at_lem = λ i l. absurd (omega arith); none = λ i l. let e : i ≡ 0 = omega arith in rw e none_zero }

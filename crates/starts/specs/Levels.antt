@@ -1,5 +1,5 @@
 -- The sets of arrivals from which a number of dependencies leads home.
-use Rattle.std.specs.Prelude.{Option, None, Some, ◌≡◌, Bool, true, false, ◌⊎◌, List, ℕ, zero, suc, ◌+◌, ◌*◌, ◌<◌, ◌≤◌, get_or, set, length}
+use Rattle.std.specs.Prelude.{Option, None, Some, [], ◌∷◌, ◌≡◌, Bool, true, false, ◌⊎◌, List, ℕ, zero, suc, ◌+◌, ◌*◌, ◌<◌, ◌≤◌, get_or, set, length}
 use Rattle.rules.specs.HeldLocks.{First, Second, R, N}
 use Rattle.rules.specs.Graph.{Kind, Graph}
 use Rattle.rules.specs.StrongPath.{strong_joint}
@@ -59,6 +59,11 @@ stored levels m s = set (set levels (2 * m) s.r) (2 * m + 1) s.n
 
 abbrev pub level_at : List ℕ → ℕ → Arrivals
 level_at levels m = record { r = get_or levels (2 * m) 0; n = get_or levels (2 * m + 1) 0 }
+
+-- The levels' sets as words, two of each.
+unfoldable pub level_words : List Arrivals → List ℕ
+level_words [] = []
+level_words (s ∷ ss) = s.r ∷ s.n ∷ level_words ss
 
 -- s has arrivals from which m dependencies lead home, in every graph that the words are; and all from which they do so over no class below c.
 pub record Level (rows : List ℕ) (K c : ℕ) (h : Second) (m : ℕ) (s : Arrivals) : Type 0 where

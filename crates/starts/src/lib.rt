@@ -3,7 +3,7 @@
 
 ghost use Rattle.std.specs.Prelude.{◌≡◌, ◌*◌, ◌<◌, ◌≤◌, length, IfSome};
 ghost use Rattle.search.specs.Letters.{second_letter};
-ghost use Rattle.starts.specs.Levels.{Widened, Behind, AtHome, stored, Filled, level_at, length_number};
+ghost use Rattle.starts.specs.Levels.{Widened, Behind, AtHome, level_words, Filled, level_at, length_number};
 ghost use Rattle.starts.specs.Starts.{Begun, begins};
 
 use layout::MAX_CLASSES;
@@ -51,26 +51,15 @@ fn home(class: u32, letter: SecondLetter) -> Arrivals
     }
 }
 
-// Two words for each number of dependencies below MAX_CLASSES.
-// Kept: `Filled` and `level_at` speak of the words.
-pub const LEVELS: usize = 2 * MAX_CLASSES;
+// A set for each number of dependencies below MAX_CLASSES.
+pub const LEVELS: usize = MAX_CLASSES;
 
-fn store(levels: &mut [u64; LEVELS], m: usize, s: Arrivals)
+// Kept: docs/PROMISES.md names it.
+pub fn level(levels: &[Arrivals; LEVELS], m: usize) -> Arrivals
     requires { m < 64 }
-    ensures { levels.new ≡ stored levels.old m s }
+    ensures { result ≡ level_at (level_words levels.now) m }
 {
-    levels[2 * m] = s.r;
-    levels[2 * m + 1] = s.n;
-}
-
-pub fn level(levels: &[u64; LEVELS], m: usize) -> Arrivals
-    requires { m < 64 }
-    ensures { result ≡ level_at levels.now m }
-{
-    Arrivals {
-        r: levels[2 * m],
-        n: levels[2 * m + 1],
-    }
+    levels[m]
 }
 
 // The length, up to limit, of a shortest cycle from class, its lowest, that begins as after the letter. Level m, for each m below it, gets the
@@ -81,14 +70,14 @@ pub fn fill(
     class: u32,
     letter: SecondLetter,
     limit: usize,
-    levels: &mut [u64; LEVELS],
+    levels: &mut [Arrivals; LEVELS],
 ) -> Option<usize>
-    requires { (k ≤ 64) × (class < k) × (limit ≤ 64) × (length levels.old ≡ 128) }
-    ensures { Filled rows.now k class (second_letter letter) limit (length_number result) levels.new × IfSome result (λ n. 0 < n) }
+    requires { (k ≤ 64) × (class < k) × (limit ≤ 64) }
+    ensures { Filled rows.now k class (second_letter letter) limit (length_number result) (level_words levels.new) × IfSome result (λ n. 0 < n) }
 {
     let mut back = home(class, letter);
     for m in 0..limit {
-        store(levels, m, back);
+        levels[m] = back;
         back = behind(rows, class, k, back);
         if back.contains(class, letter) {
             return Some(m + 1);
@@ -114,10 +103,10 @@ pub fn first_start(
     rows: &[u64; ROWS],
     k: u32,
     limit: usize,
-    levels: &mut [u64; LEVELS],
+    levels: &mut [Arrivals; LEVELS],
 ) -> Option<Begin>
-    requires { (k ≤ 64) × (limit ≤ k) × (length levels.old ≡ 128) }
-    ensures { Begun rows.now k limit (2 * k) (begins limit result) × (length levels.new ≡ 128) × IfSome result (λ b. (0 < b.n) × (b.class < k)) }
+    requires { (k ≤ 64) × (limit ≤ k) }
+    ensures { Begun rows.now k limit (2 * k) (begins limit result) × IfSome result (λ b. (0 < b.n) × (b.class < k)) }
 {
     let mut best = None;
     let mut most = limit;

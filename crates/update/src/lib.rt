@@ -49,6 +49,7 @@ pub fn mark(desk: &mut [u8], frame: usize, k: usize, context: CoreState) -> bool
 {
     let mut changed = false;
     let d = desk[DEPTHS_AT + frame] as usize;
+    // Kept: places, and not the held bytes as a slice, since the loop writes marks in the desk that holds them.
     for p in 0..d {
         let held = desk[HELD_AT + MAX_DEPTH * frame + p] as usize;
         let tried = origin(desk, MAX_DEPTH * frame + p) as usize;

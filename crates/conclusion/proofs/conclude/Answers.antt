@@ -1,4 +1,3 @@
-use Prim.Native.Nat.{◌+◌}
 use native.Mathlib.Omega.{arith}
 use Rattle.cores.proofs.Bytes.{state_less, held_in}
 use Rattle.conclusion.proofs.Conclusions.{found_some, found_ranged, conclude_clean, conclude_fault}
@@ -42,7 +41,7 @@ show-requires c =
       p.0.few,
       f.few,
       found_ranged c.args.desk.now c.args.sheet.now c.args.seen.now c.args.slip.now c.args.core p.0.few p.1 _ _
-          (rw (c.frame_of-frame.ensures, c.state_of-context.ensures) at c.mark.ensures.0) c.put_successors.ensures p.0 p.2 (rw c.in-Some.is at c.cycle_bound.ensures.bounded) (rw c.in-Some.is at c.cycle_bound.ensures.some) f,
+          (rw (c.frame_of-frame.ensures, c.state_of-context.ensures) at c.mark.ensures.0) c.put_successors.ensures p.0 p.2 (rw c.in-Some.is at c.cycle_bound.ensures.bounded) (λ z. let l = rw c.in-Some.is at c.cycle_bound.ensures.some in absurd (omega arith)) f,
       p.3,
       omega (arith, f.few, p.4),
     )

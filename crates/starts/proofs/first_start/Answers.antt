@@ -6,35 +6,33 @@ use Rattle.starts.proofs.first_start.Goals as goal
 use Rattle.starts.proofs.first_start.Goals.{in-Some, in_default}
 
 pub loop-class-init : goal.loop-class-init
-loop-class-init c = (c.requires.2, trying_none c.requires.1)
+loop-class-init c = trying_none c.requires.1
 
 pub fill-requires : goal.fill-requires
 fill-requires c =
-    let o = c.loop-letter.invariant.1 in
+    let o = c.loop-letter.invariant in
     let few = o.begun.few in
-    (c.requires.0, c.loop-class-test.true, omega (arith, o.most_is), c.loop-letter.invariant.0)
+    (c.requires.0, c.loop-class-test.true, omega (arith, o.most_is))
 
 pub loop-letter-preserved : goal.loop-letter-preserved
 loop-letter-preserved c =
     let i = c.loop-letter.letter-index in
     let e = ap (λ (n : ℕ). 2 * c.loop-class.class + n) (letter_place i _ c.loop-letter-test.true) in
-    let o = c.loop-letter.invariant.1 in
+    let o = c.loop-letter.invariant in
     let p : 2 * c.loop-class.class + i + 1 ≡ 2 * c.loop-class.class + (i + 1) = omega arith in
-    let f = c.fill.ensures in (
-      c.fill.array_long,
-      elim c.match-fill.branch [
-        | in-Some w ↦
-            let g = rw w.in-Some.is at f in
-            rw (w.best-is, w.most-is, ← p) (tried_some _ e o g.0 g.1 c.loop-class-test.true)
-        | in_default w ↦
-            let g = rw w.in_default.is at f in
-            rw (w.best-is, w.most-is, ← p) (tried_none _ e o g.0 refl)
-      ],
-    )
+    let f = c.fill.ensures in
+    elim c.match-fill.branch [
+      | in-Some w ↦
+          let g = rw w.in-Some.is at f in
+          rw (w.best-is, w.most-is, ← p) (tried_some _ e o g.0 g.1 c.loop-class-test.true)
+      | in_default w ↦
+          let g = rw w.in_default.is at f in
+          rw (w.best-is, w.most-is, ← p) (tried_none _ e o g.0 refl)
+    ]
 
 pub returns : goal.returns
 returns c =
     let l = c.loop-class in
     let e : l.class ≡ c.args.k = omega arith in
-    let o = l.invariant.1 in
-    (rw e at o.begun, l.invariant.0, o.some)
+    let o = l.invariant in
+    (rw e at o.begun, o.some)
