@@ -113,7 +113,12 @@ fn leave(desk: &mut [u8], history: &mut [u8], bytes: &[u8], to: CoreState) -> Re
     Ok(())
 }
 
-fn interrupt(desk: &mut [u8], history: &mut [u8], bytes: &[u8], event: Interrupt) -> Result<(), Refusal>
+fn interrupt(
+    desk: &mut [u8],
+    history: &mut [u8],
+    bytes: &[u8],
+    event: Interrupt,
+) -> Result<(), Refusal>
     requires { Cored desk.old × Crossed desk.old history.old × WellFormed bytes.now × (kind_of bytes.now ≡ 2 + event_number event) }
     ensures { (sheet seen : List ℕ) → Acted desk.old sheet seen history.old bytes.now (refused_number result) desk.new sheet seen history.new }
 {
@@ -146,8 +151,6 @@ pub fn act(
         Kind::Acquire => acquire(desk, sheet, seen, history, bytes),
         Kind::Release => release(desk, bytes),
         Kind::Interrupt(event) => interrupt(desk, history, bytes, event),
-        Kind::CrossAcquire | Kind::Commit | Kind::CrossRelease => cross(
-            desk, sheet, seen, history, bytes,
-        ),
+        _ => cross(desk, sheet, seen, history, bytes),
     }
 }

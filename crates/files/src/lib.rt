@@ -6,9 +6,9 @@ ghost use Rattle.progress.specs.Feed.{feed_size};
 ghost use Rattle.validator.specs.Calls.{buffers};
 ghost use Rattle.files.specs.Replayed.{Taken, Replayed};
 
-use answers::OK;
 use layout::{ENTRIES_AT, ENTRY_SIZE, MAX_CLASSES, NUMBER_SIZE};
 use outcome::Outcome;
+use progress::CLEAN;
 use std::io::{self, ErrorKind, Read, Write};
 
 // The buffers of the largest number of classes.
@@ -41,7 +41,7 @@ fn feed_input<R: Read>(
             return Ok(());
         }
         let said = feed::feed_piece(feed, desk, sheet, seen, history, slip, &buf[..n]);
-        if said.answer != OK {
+        if said.answer != CLEAN {
             return Ok(());
         }
     }

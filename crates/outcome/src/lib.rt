@@ -4,7 +4,12 @@
 ghost use Rattle.std.specs.Prelude.{◌≡◌};
 ghost use Rattle.outcome.specs.Outcomes.{outcome_of, is_answer};
 
-use answers::{FAULT, OK};
+use answers::Verdict;
+
+// The answers that are no refusal, by their numbers.
+const CLEAN: u8 = Verdict::Clean as u8;
+
+const FAULT: u8 = Verdict::Fault as u8;
 
 // What came of a log.
 #[derive(Clone, Copy)]
@@ -23,7 +28,7 @@ pub fn outcome_of(answer: u8, number: u64) -> Outcome
     ensures { result ≡ outcome_of answer number }
 {
     match answer {
-        OK => Outcome::Clean(number),
+        CLEAN => Outcome::Clean(number),
         FAULT => Outcome::Fault(number),
         _ => Outcome::Refused(answer, number),
     }

@@ -194,7 +194,9 @@ fn arrived_by_n(rows: &[u64; 256], class: u32, on: Arrivals, done: &mut Arrivals
             }
         }
     }
-    *done = done.with(class, SecondLetter::R).with(class, SecondLetter::N);
+    *done = done
+        .with(class, SecondLetter::R)
+        .with(class, SecondLetter::N);
     false
 }
 
@@ -203,8 +205,7 @@ fn met_from(rows: &[u64; 256], class: u32, done: &mut Arrivals) -> bool
     requires { (class < 64) × Settled rows.now (words_of done.old) }
     ensures { Visited rows.now class N none (words_of done.old) result (words_of done.new) }
 {
-    !done.contains(class, SecondLetter::N)
-        && arrived_by_n(rows, class, Arrivals::NONE, done)
+    !done.contains(class, SecondLetter::N) && arrived_by_n(rows, class, Arrivals::NONE, done)
 }
 
 // Whether there is a closed strong path.

@@ -4,8 +4,8 @@ use Rattle.files.proofs.feed_input.Goals as goal
 pub loop-init : goal.loop-init
 loop-init g c = none_taken _ _
 
-pub returns-then-said-ne-OK : goal.returns-then-said-ne-OK
-returns-then-said-ne-OK g c = one_taken c.loop.invariant c.feed_piece-said.ensures
+pub returns-then-said-ne-CLEAN : goal.returns-then-said-ne-CLEAN
+returns-then-said-ne-CLEAN g c = one_taken c.loop.invariant c.feed_piece-said.ensures
 
 pub loop-preserved : goal.loop-preserved
 loop-preserved g c = one_taken c.loop.invariant c.feed_piece-said.ensures
