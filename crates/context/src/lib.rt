@@ -18,6 +18,7 @@ pub enum Frame {
 }
 
 // The state of a core, one of nine, by its number.
+// Kept: a tuple struct with nine constants, and a table of numbers over them, are the forms that the project has for these (docs/DECISIONS.md, 34).
 #[derive(Clone, Copy, PartialEq, Eq)]
 pub struct CoreState(u8);
 

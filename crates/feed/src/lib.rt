@@ -31,6 +31,7 @@ fn take_piece(
 {
     let mut now = first;
     let mut at = 0;
+    // Kept: a step is what the unit still lacks, so no range counts this loop.
     while at < piece.len() && now.answer == CLEAN {
         let part = next_part(piece, at, unit_size(now) - now.count);
         at += part.len();

@@ -7,6 +7,7 @@ ghost use Rattle.outcome.specs.Outcomes.{outcome_of, is_answer};
 use answers::Verdict;
 
 // The answers that are no refusal, by their numbers.
+// Kept: the feed's answer is a byte (see `Progress`), and `outcome_of` promises what comes of any.
 const CLEAN: u8 = Verdict::Clean as u8;
 
 const FAULT: u8 = Verdict::Fault as u8;

@@ -1,3 +1,4 @@
+// Kept: the twins of plungerowl's calls are the C interface: a static library exports its own functions alone, and plungerowl's theorems are of a library.
 // The static library: each of plungerowl's calls under its own name, with the same clauses, for a host in C. A slice is a pointer and then a length.
 #![tactic(auto)]
 

@@ -4,6 +4,7 @@
 ghost use Rattle.std.specs.Prelude.{◌≡◌, take, drop};
 
 // A reader holds a lent piece of a log and its place in it.
+// Kept: a struct with a piece and a place, thin over `part_at`, is the form that the project has for it (docs/DECISIONS.md, 77).
 #[derive(Clone, Copy)]
 pub struct Reader<'a> {
     pub piece: &'a [u8],

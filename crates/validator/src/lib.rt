@@ -14,6 +14,8 @@ use numbering::count_record;
 use record::{CORE_AT, is_malformed};
 
 // Validates one record.
+// Kept: five lent buffers side by side, here and in the calls above and below: with a struct of `&mut` slices each function would have to promise, a field at a
+// time, that it holds the same reference.
 pub fn step(
     desk: &mut [u8],
     sheet: &mut [u8],
