@@ -55,12 +55,12 @@ module _ (z : ℤ) (f : SFits w32 z) where
 -- ---- All of them.
 
 module _ (balances : ℕ → ℤ) where
-  pub begun : (b : List ℕ) → Appended b 0 (lines_below 0 balances) b 0
+  pub begun : (b : List ℕ) (at : ℕ) → at ≤ length b → Appended b at (lines_below 0 balances) b at
   unfolding lines_below
-  begun b = record { end_is = omega arith; bytes = refl; inside = omega arith }
+  begun b at h = record { end_is = omega arith; bytes = refl; inside = h }
 
-  pub line_more : {b out after : List ℕ} {end end' : ℕ} (c : ℕ) (z : ℤ) → z ≡ balances c → Appended b 0 (lines_below c balances) out end
-      → LinePut out end c z after end' → Appended b 0 (lines_below (c + 1) balances) after end'
+  pub line_more : {b out after : List ℕ} {at end end' : ℕ} (c : ℕ) (z : ℤ) → z ≡ balances c → Appended b at (lines_below c balances) out end
+      → LinePut out end c z after end' → Appended b at (lines_below (c + 1) balances) after end'
   unfolding lines_below
   line_more c z e p q = rw add-one (appended_both p (as_text (ap (shown c) (sym e)) q.line))
 

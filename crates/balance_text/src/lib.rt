@@ -8,58 +8,70 @@ ghost use Rattle.balance.specs.Code.{Room};
 ghost use Rattle.balance_text.specs.Text.{signed_text, lines_below, piece_text, signed_room, line_room, text_room, LinePut};
 
 use layout::MAX_CLASSES;
-use log_text::{put_number, put_refusal, put_word};
+use log_text::Text;
 
 // Room for the longest text: a line for each class.
 pub const TEXT_SIZE: usize = 32 * MAX_CLASSES;
 
 // A number's digits, behind a minus where it is below zero.
-fn put_signed(out: &mut [u8], at: usize, z: i32) -> usize
-    requires { at + signed_room ≤ length out.old }
-    ensures { Appended out.old at (signed_text z) out.new result }
+fn put_signed(text: &mut Text<'_>, z: i32)
+    requires { text.old.end + signed_room ≤ length text.old.out.now }
+    ensures same { text.new.out.ghost_name ≡ text.old.out.ghost_name }
+    ensures put { Appended text.old.out.now text.old.end (signed_text z) text.new.out.now text.new.end }
 {
     let size = u64::from(z.unsigned_abs());
     if z < 0 {
-        let end = put_word(out, at, b"-");
-        return put_number(out, end, size);
+        text.put_word(b"-");
     }
-    put_number(out, at, size)
+    text.put_number(size);
 }
 
 // A class and its balance, as "9 -1"; nothing where it is 0.
-fn put_line(out: &mut [u8], at: usize, class: u64, balance: i32) -> usize
-    requires { (at + line_room ≤ length out.old) × (class < max_classes) }
-    ensures { LinePut out.old at class balance out.new result }
+fn put_line(text: &mut Text<'_>, class: u64, balance: i32)
+    requires { (text.old.end + line_room ≤ length text.old.out.now) × (class < max_classes) }
+    ensures same { text.new.out.ghost_name ≡ text.old.out.ghost_name }
+    ensures put { LinePut text.old.out.now text.old.end class balance text.new.out.now text.new.end }
 {
     if balance == 0 {
-        return at;
+        return;
     }
-    let a = put_number(out, at, class);
-    let b = put_word(out, a, b" ");
-    let c = put_signed(out, b, balance);
-    put_word(out, c, b"\n")
+    text.put_number(class);
+    text.put_word(b" ");
+    put_signed(text, balance);
+    text.put_word(b"\n");
 }
 
 // The lines of all classes, the lowest first.
-fn put_balances(out: &mut [u8], balances: &[i32; MAX_CLASSES]) -> usize
-    requires { (text_room ≤ length out.old) × Room balances.now }
-    ensures { Appended out.old 0 (lines_below max_classes (λ c. get_or balances.now c (pos 0))) out.new result }
+fn put_balances(text: &mut Text<'_>, balances: &[i32; MAX_CLASSES])
+    requires { (text.old.end + text_room ≤ length text.old.out.now) × Room balances.now }
+    ensures same { text.new.out.ghost_name ≡ text.old.out.ghost_name }
+    ensures put { Appended text.old.out.now text.old.end (lines_below max_classes (λ c. get_or balances.now c (pos 0))) text.new.out.now text.new.end }
 {
-    let mut end = 0;
     for (class, balance) in balances.iter().enumerate() {
-        end = put_line(out, end, class as u64, *balance);
+        put_line(text, class as u64, *balance);
     }
-    end
 }
 
-// The text of a piece: its balances, or that it is refused.
+// What a piece says: its balances, or that it is refused.
+fn put_piece(text: &mut Text<'_>, piece: &[u8])
+    requires { text.old.end + text_room ≤ length text.old.out.now }
+    ensures same { text.new.out.ghost_name ≡ text.old.out.ghost_name }
+    ensures put { Appended text.old.out.now text.old.end (piece_text piece.now) text.new.out.now text.new.end }
+{
+    let mut balances = [0i32; MAX_CLASSES];
+    if let Err(refusal) = balance::balance_of(piece, &mut balances) {
+        text.put_refusal(refusal.number());
+        return;
+    }
+    put_balances(text, &balances);
+}
+
+// The text of a piece.
 pub fn put_text(out: &mut [u8], piece: &[u8]) -> usize
     requires { text_room ≤ length out.old }
     ensures { Appended out.old 0 (piece_text piece.now) out.new result }
 {
-    let mut balances = [0i32; MAX_CLASSES];
-    if let Err(refusal) = balance::balance_of(piece, &mut balances) {
-        return put_refusal(out, refusal.number());
-    }
-    put_balances(out, &balances)
+    let mut text = Text { out, end: 0 };
+    put_piece(&mut text, piece);
+    text.end
 }

@@ -12,27 +12,29 @@ ghost use Rattle.join_text.specs.JoinText.{fault_line, joined_text, is_clean, ow
 
 use answers::{Refusal, Verdict};
 use joiner::join;
-use log_text::{put_cycle, put_refusal, put_text, put_word};
+use log_text::Text;
 use outcome::Outcome;
 
 // "fault", and the cycle of the slip.
-fn put_fault(out: &mut [u8], slip: &[u8]) -> usize
-    requires { (line_size + cycle_size ≤ length out.old) × (count_of slip.now ≤ max_classes) × (slip_size max_classes ≤ length slip.now) }
-    ensures { Appended out.old 0 (fault_line ++ cycle_text (entries_of slip.now)) out.new result }
+fn put_fault(text: &mut Text<'_>, slip: &[u8])
+    requires { (text.old.end + (line_size + cycle_size) ≤ length text.old.out.now) × (count_of slip.now ≤ max_classes) × (slip_size max_classes ≤ length slip.now) }
+    ensures same { text.new.out.ghost_name ≡ text.old.out.ghost_name }
+    ensures put { Appended text.old.out.now text.old.end (fault_line ++ cycle_text (entries_of slip.now)) text.new.out.now text.new.end }
 {
-    let end = put_word(out, 0, b"fault\n");
-    put_cycle(out, end, slip)
+    text.put_word(b"fault\n");
+    text.put_cycle(slip);
 }
 
 // What the joiner's answer says.
-fn put_joined(out: &mut [u8], answer: Result<Verdict, Refusal>, slip: &[u8]) -> usize
-    requires { (line_size + cycle_size ≤ length out.old) × (answer_number answer ≡ 1 → count_of slip.now ≤ max_classes) × (slip_size max_classes ≤ length slip.now) }
-    ensures { Appended out.old 0 (joined_text (answer_number answer) slip.now) out.new result }
+fn put_joined(text: &mut Text<'_>, answer: Result<Verdict, Refusal>, slip: &[u8])
+    requires { (text.old.end + (line_size + cycle_size) ≤ length text.old.out.now) × (answer_number answer ≡ 1 → count_of slip.now ≤ max_classes) × (slip_size max_classes ≤ length slip.now) }
+    ensures same { text.new.out.ghost_name ≡ text.old.out.ghost_name }
+    ensures put { Appended text.old.out.now text.old.end (joined_text (answer_number answer) slip.now) text.new.out.now text.new.end }
 {
     match answer {
-        Ok(Verdict::Clean) => put_word(out, 0, b"clean\n"),
-        Ok(Verdict::Fault) => put_fault(out, slip),
-        Err(refusal) => put_refusal(out, refusal.number()),
+        Ok(Verdict::Clean) => text.put_word(b"clean\n"),
+        Ok(Verdict::Fault) => put_fault(text, slip),
+        Err(refusal) => text.put_refusal(refusal.number()),
     }
 }
 
@@ -56,7 +58,9 @@ pub fn tell_join(
     let answer = join(
         desk1, sheet1, seen1, desk2, sheet2, seen2, desk, sheet, seen, slip,
     );
-    put_joined(out, answer, slip)
+    let mut text = Text { out, end: 0 };
+    put_joined(&mut text, answer, slip);
+    text.end
 }
 
 // Whether each record was accepted and clean, up to the end of the log.
@@ -67,13 +71,24 @@ pub fn is_clean(outcome: Outcome) -> bool
 }
 
 // What a log says by itself where it is not clean, behind its name.
+fn put_named(text: &mut Text<'_>, name: &[u8], outcome: Outcome, slip: &[u8])
+    requires { (text.old.end + (length name.now + (line_size + cycle_size)) ≤ length text.old.out.now) × (slip_size max_classes ≤ length slip.now) × Showable outcome slip.now }
+    ensures same { text.new.out.ghost_name ≡ text.old.out.ghost_name }
+    ensures put { Appended text.old.out.now text.old.end (own_text name.now outcome slip.now) text.new.out.now text.new.end }
+{
+    if is_clean(outcome) {
+        return;
+    }
+    text.put_word(name);
+    text.put_outcome(outcome, slip);
+}
+
+// The text of that.
 pub fn put_own(out: &mut [u8], name: &[u8], outcome: Outcome, slip: &[u8]) -> usize
     requires { (length name.now + (line_size + cycle_size) ≤ length out.old) × (slip_size max_classes ≤ length slip.now) × Showable outcome slip.now }
     ensures { Appended out.old 0 (own_text name.now outcome slip.now) out.new result }
 {
-    if is_clean(outcome) {
-        return 0;
-    }
-    let at = put_word(out, 0, name);
-    put_text(out, at, outcome, slip)
+    let mut text = Text { out, end: 0 };
+    put_named(&mut text, name, outcome, slip);
+    text.end
 }

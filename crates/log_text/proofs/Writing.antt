@@ -31,6 +31,10 @@ copied b at word now k e l h =
     let bytes : put_mid at k b now ≡ sets b at word = put_mid-paste at k b now word (length word) e (sym l) refl ∙ rw take-length (sym (sets-eq word b at h)) in
     record { end_is = refl; bytes = bytes; inside = rw (bytes, length-sets) h }
 
+-- The buffer keeps its length.
+pub kept : {before text after : List ℕ} {at end : ℕ} → Appended before at text after end → length after ≡ length before
+kept {before} {text} {at = at} p = ap length p.bytes ∙ length-sets before at text
+
 -- A number of one digit.
 pub one_placed : (b : List ℕ) (at n v : ℕ) → n < 10 → at + length (digits n) ≤ length b → v ≡ 48 + n → Appended b at (digits n) (set b at v) (at + 1)
 one_placed b at n v h room e =

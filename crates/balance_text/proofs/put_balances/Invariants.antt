@@ -1,5 +1,6 @@
 -- The invariant: the lines of the classes passed stand in the buffer. Assumes nothing.
-use Prim.Native.Nat.{◌*◌, ◌≤◌}
+use mathlib.Core.Path.{◌≡◌}
+use Prim.Native.Nat.{◌+◌, ◌*◌, ◌≤◌}
 use lib.IntN.{pos}
 use lib.ListN.{get_or}
 use Rattle.log_text.specs.Text.{Appended}
@@ -8,4 +9,4 @@ use Rattle.balance_text.proofs.put_balances.Given as goal
 
 abbrev pub invariant-loop-class : goal.invariant-loop-class
 invariant-loop-class l =
-    (l.end ≤ line_room * l.class) × Appended l.initial.out 0 (lines_below l.class (λ c. get_or l.balances c (pos 0))) l.out l.end
+    (l.text.end ≤ l.initial.text.end + line_room * l.class) × Appended l.initial.text.out.now l.initial.text.end (lines_below l.class (λ c. get_or l.balances c (pos 0))) l.text.out.now l.text.end × (l.text.out.ghost_name ≡ l.initial.text.out.ghost_name)

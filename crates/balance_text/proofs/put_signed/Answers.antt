@@ -2,19 +2,22 @@
 use mathlib.Core.Path.{◌∙◌}
 use native.Mathlib.Omega.{arith}
 use Rattle.log_text.proofs.Digits.{places_of_word}
+use Rattle.log_text.proofs.Writing.{kept}
 use Rattle.balance_text.proofs.Signs.{put_below, put_not_below}
 use Rattle.balance_text.proofs.put_signed.Goals as goal
+use Rattle.balance_text.proofs.put_signed.Goals.{then-z-lt0, else-z-lt0}
 
 pub put_number-requires : goal.put_number-requires
-put_number-requires c = omega (arith, places_of_word c.from-size.result (omega arith))
+put_number-requires c =
+    elim c.if-z-lt0.branch [
+      | then-z-lt0 w ↦ let p = w.put_word.ensures.put in rw w.text-is (omega (arith, p.end_is, kept p, places_of_word c.from-size.result (omega arith)))
+      | else-z-lt0 w ↦ rw w.text-is (omega (arith, places_of_word c.from-size.result (omega arith)))
+    ]
 
-pub returns-then-z-lt0 : goal.returns-then-z-lt0
-returns-then-z-lt0 c =
-    put_below c.args.z c.ranges.z (c.from-size.ensures ∙ c.unsigned_abs.ensures.value) c.if-z-lt0.true c.put_word-end.ensures c.put_number.ensures
-
-pub put_number-requires-2 : goal.put_number-requires-2
-put_number-requires-2 c = omega (arith, places_of_word c.from-size.result (omega arith))
-
-pub returns : goal.returns
-returns c =
-    put_not_below c.args.z c.ranges.z (c.from-size.ensures ∙ c.unsigned_abs.ensures.value) c.if-z-lt0.false c.put_number-2.ensures
+pub returns-clause-put : goal.returns-clause-put
+returns-clause-put c =
+    let q = c.from-size.ensures ∙ c.unsigned_abs.ensures.value in
+    elim c.if-z-lt0.branch [
+      | then-z-lt0 w ↦ put_below c.args.z c.ranges.z q w.if-z-lt0.true w.put_word.ensures.put (rw w.text-is at c.put_number.ensures.put)
+      | else-z-lt0 w ↦ put_not_below c.args.z c.ranges.z q w.if-z-lt0.false (rw w.text-is at c.put_number.ensures.put)
+    ]
