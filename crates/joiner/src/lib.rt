@@ -30,7 +30,7 @@ fn draw(one: Bench, two: Bench, desk: &mut [u8], sheet: &mut [u8], seen: &mut [u
 }
 
 // Joins two benches. The cores of the joined desk are fresh, so that core 0 has no lock to mark, and what is left of the conclusion is the search.
-// Kept: the benches come as slices; with two `Bench` parameters the proof didn't close, as of a slice in a struct it isn't known that it has bytes.
+// Kept: the benches come as slices; with two `Bench` parameters `conclude-requires` and `returns` stayed open: of a slice in a struct it isn't known that it has bytes.
 pub fn join(
     desk1: &[u8],
     sheet1: &[u8],

@@ -52,6 +52,7 @@ impl Text<'_> {
     }
 
     // The decimal digits of a number.
+    // Kept: there is no heap, and the text's bytes are promised one by one (`digits`).
     pub fn put_number(&mut self, n: u64)
         requires { self.old.end + length (digits n) ≤ length self.old.out.now }
         ensures same { self.new.out.ghost_name ≡ self.old.out.ghost_name }
@@ -111,6 +112,7 @@ impl Text<'_> {
     }
 
     // The kind of a dependency, between spaces.
+    // Kept: kind and source are the slip's bytes, and what any byte reads as is promised (`kind_of_byte`, `source_of_byte`).
     fn put_kind(&mut self, kind: u8)
         requires { self.old.end + 4 ≤ length self.old.out.now }
         ensures same { self.new.out.ghost_name ≡ self.old.out.ghost_name }
@@ -189,6 +191,7 @@ impl Text<'_> {
 }
 
 // The text of what came of a log.
+// Kept: the buffer and the place in it are docs/PROMISES.md's `put_text`; the work is `Text`'s.
 pub fn put_text(out: &mut [u8], at: usize, outcome: Outcome, slip: &[u8]) -> usize
     requires { (at + (line_size + cycle_size) ≤ length out.old) × (slip_size max_classes ≤ length slip.now) × Showable outcome slip.now }
     ensures { Appended out.old at (text_of outcome slip.now) out.new result }

@@ -20,7 +20,7 @@ fn kind_byte(rank: u8) -> u8
 }
 
 // The source of a rank: 0 lock dependency, 1 hard interrupt, 2 soft interrupt.
-// Kept: the slip's bytes are these numbers (docs/FORMATS.md, `source_number`).
+// Kept: the slip's bytes are these numbers, here and in `number_by` and `write_entry` (docs/FORMATS.md, `source_number`).
 fn source_byte(rank: u8) -> u8
     ensures { result ≡ source_number (source_at rank) }
 {

@@ -12,7 +12,7 @@ ghost use Rattle.shortest.specs.Shortest.{ranks_after, letter_number, choice_of,
 
 use layout::{MARKS_AT, MAX_CLASSES};
 use search::{Arrivals, SecondLetter};
-use starts::{Begin, LEVELS, fill, first_start, level};
+use starts::{Begin, LEVELS, fill_after, first_start, level};
 use successors::{Irq, KindWords, Mark, ROWS, SafeWords, column_of, picked, safe_words};
 use words::{both, lowest};
 
@@ -218,6 +218,6 @@ pub fn shortest_cycle(
 {
     let mut levels = [Arrivals::NONE; LEVELS];
     let b = first_start(rows, k as u32, limit, &mut levels)?;
-    let _ = fill(rows, k as u32, b.class, b.letter, b.n, &mut levels);
+    let _ = fill_after(rows, k as u32, b.class, b.letter, b.n, &mut levels);
     Some(chain(desk, sheet, k, b, &levels))
 }

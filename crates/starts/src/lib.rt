@@ -3,7 +3,7 @@
 
 ghost use Rattle.std.specs.Prelude.{◌≡◌, ◌*◌, ◌<◌, ◌≤◌, length, IfSome};
 ghost use Rattle.search.specs.Letters.{second_letter};
-ghost use Rattle.starts.specs.Levels.{Widened, Behind, AtHome, level_words, Filled, level_at, length_number};
+ghost use Rattle.starts.specs.Levels.{Widened, Behind, AtHome, level_words, Filled, level_at, length_number, letter_at};
 ghost use Rattle.starts.specs.Starts.{Begun, begins};
 
 use layout::MAX_CLASSES;
@@ -64,7 +64,7 @@ pub fn level(levels: &[Arrivals; LEVELS], m: usize) -> Arrivals
 
 // The length, up to limit, of a shortest cycle from class, its lowest, that begins as after the letter. Level m, for each m below it, gets the
 // arrivals from which m dependencies lead to its end.
-pub fn fill(
+pub fn fill_after(
     rows: &[u64; ROWS],
     k: u32,
     class: u32,
@@ -87,6 +87,32 @@ pub fn fill(
         }
     }
     None
+}
+
+// The letter that a number stands for: 0 for R, else N.
+fn letter_by(number: u32) -> SecondLetter
+    ensures { second_letter result ≡ letter_at number }
+{
+    match number {
+        0 => SecondLetter::R,
+        _ => SecondLetter::N,
+    }
+}
+
+// The same with the letter as a number.
+// Kept: docs/PROMISES.md names it, and it promises this of any number.
+pub fn fill(
+    rows: &[u64; ROWS],
+    k: u32,
+    class: u32,
+    letter: u32,
+    limit: usize,
+    levels: &mut [Arrivals; LEVELS],
+) -> Option<usize>
+    requires { (k ≤ 64) × (class < k) × (limit ≤ 64) }
+    ensures { Filled rows.now k class (letter_at letter) limit (length_number result) (level_words levels.new) × IfSome result (λ n. 0 < n) }
+{
+    fill_after(rows, k, class, letter_by(letter), limit, levels)
 }
 
 // ---- The start: the lowest class from which a cycle of the fewest dependencies starts.
@@ -112,7 +138,7 @@ pub fn first_start(
     let mut most = limit;
     for class in 0..k {
         for letter in [SecondLetter::R, SecondLetter::N] {
-            if let Some(n) = fill(rows, k, class, letter, most, levels) {
+            if let Some(n) = fill_after(rows, k, class, letter, most, levels) {
                 best = Some(Begin { n, class, letter });
                 most = n - 1;
             }

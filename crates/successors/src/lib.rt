@@ -44,6 +44,7 @@ fn spread(byte: u8) -> u64
 }
 
 // The columns of up to 16 bytes, all four in one word on the way.
+// Kept: the word is taken apart by its lanes, here and in `joined`, since the sheet is read sixteen bytes at a time, for speed (docs/DECISIONS.md, 36).
 fn block(bytes: &[u8]) -> KindWords
     requires { length bytes.now ≤ 16 }
     ensures { Columns bytes.now 0 (length bytes.now) result }

@@ -10,4 +10,4 @@ returns-in_err-b c =
 pub returns : goal.returns
 returns c =
     let o = rw c.in_ok-b.was at c.first_start.ensures in
-    found_law c.in_ok-b.b o.0 o.1.0 c.fill.ensures.0 c.chain.ensures
+    found_law c.in_ok-b.b o.0 o.1.0 c.fill_after.ensures.0 c.chain.ensures

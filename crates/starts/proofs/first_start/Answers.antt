@@ -8,8 +8,8 @@ use Rattle.starts.proofs.first_start.Goals.{in-Some, in_default}
 pub loop-class-init : goal.loop-class-init
 loop-class-init c = trying_none c.requires.1
 
-pub fill-requires : goal.fill-requires
-fill-requires c =
+pub fill_after-requires : goal.fill_after-requires
+fill_after-requires c =
     let o = c.loop-letter.invariant in
     let few = o.begun.few in
     (c.requires.0, c.loop-class-test.true, omega (arith, o.most_is))
@@ -20,8 +20,8 @@ loop-letter-preserved c =
     let e = ap (λ (n : ℕ). 2 * c.loop-class.class + n) (letter_place i _ c.loop-letter-test.true) in
     let o = c.loop-letter.invariant in
     let p : 2 * c.loop-class.class + i + 1 ≡ 2 * c.loop-class.class + (i + 1) = omega arith in
-    let f = c.fill.ensures in
-    elim c.match-fill.branch [
+    let f = c.fill_after.ensures in
+    elim c.match-fill_after.branch [
       | in-Some w ↦
           let g = rw w.in-Some.is at f in
           rw (w.best-is, w.most-is, ← p) (tried_some _ e o g.0 g.1 c.loop-class-test.true)

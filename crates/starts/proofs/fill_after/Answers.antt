@@ -3,7 +3,7 @@ use mathlib.Core.Bool.{false≢true}
 use native.Mathlib.Omega.{arith}
 use Rattle.starts.specs.Levels.{level_words}
 use Rattle.starts.proofs.Levels.{words_length, words_set, filling_none, filling_more, filled_some, filled_empty, filled_none, stored_long}
-use Rattle.starts.proofs.fill.Goals as goal
+use Rattle.starts.proofs.fill_after.Goals as goal
 
 pub loop-m-init : goal.loop-m-init
 loop-m-init c = (omega (arith, words_length c.args.levels.now), filling_none c.home-back.ensures)
