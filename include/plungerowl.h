@@ -184,7 +184,7 @@ extern "C" {
 #define PLUNGEROWL_STACK_FEED_START 16
 #define PLUNGEROWL_STACK_FEED 13312
 #define PLUNGEROWL_STACK_FEED_END 768
-#define PLUNGEROWL_STACK_BALANCE 32
+#define PLUNGEROWL_STACK_BALANCE 16
 
 /*
  * Answers. "frame" is the current frame of the core named by the record.
