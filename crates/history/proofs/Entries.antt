@@ -36,6 +36,9 @@ module _ (K : ℕ) (some_class : 0 < K) (most : K ≤ max_classes) where
         mode = λ i l. rw (b.entries.locks i l) (mode_in (v.entries i l));
       }
 
+pub entries_below : {n m K : ℕ} {history : List ℕ} → n ≤ m → EntriesIn m history K → EntriesIn n history K
+entries_below h e = record { long = e.long; class = λ i l. e.class i (omega arith); mode = λ i l. e.mode i (omega arith) }
+
 -- The number of a frame tells core and frame.
 pub same_frame : (core : ℕ) (frame : Frame) (c : ℕ) (f : Frame) → frame < frames_per_core → f ≤ hard
     → eqb (suc (frame_number c f)) (suc (frame_number core frame)) ≡ (eqb core c && eqb frame f)

@@ -75,7 +75,7 @@ fn has_stray_byte(kind: Kind, class: u8, mode: u8) -> bool
 {
     let of_lock = matches!(kind, Kind::Acquire | Kind::Release);
     let of_event = matches!(kind, Kind::Interrupt(_));
-    (of_event & (class != 0)) | (!of_lock & (mode != 0))
+    !of_lock & ((of_event & (class != 0)) | (mode != 0))
 }
 
 // The conditions of refusal 3.

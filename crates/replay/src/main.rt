@@ -8,18 +8,17 @@ ghost use Rattle.rules.specs.Limits.{max_classes};
 ghost use Rattle.layout.specs.Layout.{slip_size};
 ghost use Rattle.progress.specs.Feed.{feed_size};
 ghost use Rattle.log_text.specs.Text.{line_size, cycle_size};
-ghost use Rattle.outcome.specs.Outcomes.{is_answer};
 ghost use Rattle.validator.specs.Calls.{buffers};
 ghost use Rattle.replay.specs.Texts.{TextOfInput};
 
 use files::{BUF_SIZE, SEEN_SIZE, SHEET_SIZE, SLIP_SIZE};
 use layout::{DESK_SIZE, HISTORY_SIZE};
 use log_text::TEXT_SIZE;
-use outcome::{Outcome, is_answer};
+use outcome::is_answer;
 use progress::FEED_SIZE;
 use std::io::Read;
 
-// Validates the whole log, and makes the text of what came of it: that, and the text's size.
+// Validates the whole log, and makes the text of what came of it: whether it is an answer, and its size.
 fn text_of_input<R: Read>(
     input: &mut R,
     feed: &mut [u8],
@@ -30,13 +29,13 @@ fn text_of_input<R: Read>(
     slip: &mut [u8],
     buf: &mut [u8],
     out: &mut [u8],
-) -> (Outcome, usize)
+) -> (bool, usize)
     requires { (feed_size ≤ length feed.old) × (slip_size max_classes ≤ length slip.old) × (line_size + cycle_size ≤ length out.old) }
-    ensures { TextOfInput (buffers desk.old sheet.old seen.old history.old slip.old) out.old (is_answer result.0) out.new result.1 (buffers desk.new sheet.new seen.new history.new slip.new) }
+    ensures { TextOfInput (buffers desk.old sheet.old seen.old history.old slip.old) out.old result.0 out.new result.1 (buffers desk.new sheet.new seen.new history.new slip.new) }
 {
     let outcome = files::replay(input, feed, desk, sheet, seen, history, slip, buf);
     let size = log_text::put_text(out, 0, outcome, slip);
-    (outcome, size)
+    (is_answer(outcome), size)
 }
 
 fn main(rt: HostRuntime) {
@@ -48,7 +47,7 @@ fn main(rt: HostRuntime) {
     let mut slip = [0u8; SLIP_SIZE];
     let mut buf = [0u8; BUF_SIZE];
     let mut out = [0u8; TEXT_SIZE];
-    let (outcome, size) = text_of_input(
+    let (answer, size) = text_of_input(
         &mut rt.stdin(),
         &mut feed,
         &mut desk,
@@ -59,10 +58,5 @@ fn main(rt: HostRuntime) {
         &mut buf,
         &mut out,
     );
-    files::print(
-        &mut rt.stdout(),
-        &mut rt.stderr(),
-        is_answer(outcome),
-        &out[..size],
-    );
+    files::print(&mut rt.stdout(), &mut rt.stderr(), answer, &out[..size]);
 }

@@ -70,6 +70,9 @@ pub record Visiting (rows : List ℕ) (x : ℕ) (a : Second) (on here : Arrivals
   pub none_back : (y : ℕ) (b : Second) → Follows rows x a y b → In here y b → ⊥
 
 module _ {rows : List ℕ} where
+  pub grown_trans : {s t u : List ℕ} → Grown rows s t → Grown rows t u → Grown rows s u
+  grown_trans c d = record { settled = d.settled; kept = λ j b h. d.kept j b (c.kept j b h) }
+
   pub ends_r : {x : ℕ} → Ends rows x N → Ends rows x R
   ends_r (ends h) = ends (λ j k i s. h j k (after_N k.first) s)
 
