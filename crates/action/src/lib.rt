@@ -2,6 +2,7 @@
 #![tactic(auto)]
 
 ghost use Rattle.std.specs.Prelude.{◌≡◌, List, ℕ, ◌+◌, ◌≤◌, length};
+ghost use Rattle.rules.specs.Context.{leaves_handler};
 ghost use Rattle.rules.specs.Record.{kind_of};
 ghost use Rattle.rules.specs.WellFormed.{WellFormed};
 ghost use Rattle.layout.specs.Layout.{desk_size, sheet_size, seen_size, classes_of};
@@ -95,6 +96,13 @@ fn release(desk: &mut [u8], bytes: &[u8]) -> Result<(), Refusal>
     Ok(())
 }
 
+// The event ends the visit of a handler. Apart from `interrupt`, so that a must-fail edit can turn this answer and nothing else.
+fn leaves_handler(event: Interrupt) -> bool
+    ensures { result ≡ leaves_handler (event_number event) }
+{
+    event.leaves_handler()
+}
+
 // A handler is left, for the state `to`: what was acquired in it is struck out of the history.
 fn leave(desk: &mut [u8], history: &mut [u8], bytes: &[u8], to: CoreState) -> Result<(), Refusal>
     requires { Cored desk.old × Crossed desk.old history.old × WellFormed bytes.now × Leaving desk.old bytes.now (state_number to) }
@@ -126,7 +134,7 @@ fn interrupt(
     let Some(to) = next(state_of(desk, core), event) else {
         return Err(Refusal::NoTransition);
     };
-    if event.leaves_handler() {
+    if leaves_handler(event) {
         return leave(desk, history, bytes, to);
     }
     if is_full(desk) {
