@@ -1,5 +1,5 @@
 -- `log_text::Text::put_refusal` meets its contract. Assumes nothing.
-use mathlib.Core.Path.{ap, sym}
+use mathlib.Core.Path.{ap}
 use native.Mathlib.Omega.{arith}
 use Rattle.log_text.specs.Text.{digits, refused_line}
 use Rattle.log_text.proofs.Digits.{places_of_byte}
@@ -20,4 +20,4 @@ put_word-requires-2 c =
 pub returns-clause-put : goal.returns-clause-put
 unfolding refused_line
 returns-clause-put c =
-    appended_both (appended_both c.put_word.ensures.put (as_text (ap digits (sym c.from.ensures)) c.put_number.ensures.put)) c.put_word-2.ensures.put
+    appended_both (appended_both c.put_word.ensures.put (as_text (ap digits (omega (arith, c.from.ensures))) c.put_number.ensures.put)) c.put_word-2.ensures.put
